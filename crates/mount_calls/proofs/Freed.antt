@@ -21,6 +21,7 @@ use Rattle.mount_calls.specs.declared.clients.Clients.{Clients}
 use Rattle.mount_calls.specs.Living.{StaysHeld}
 use Rattle.mount_calls.specs.Renaming.{RenamesHeld}
 use Rattle.mount_calls.proofs.Lasting.{rename-held}
+use Rattle.mount_calls.proofs.LeftMarks.{moved-marks}
 use Rattle.mount_calls.proofs.Named.{moves-files, named-live, same-files}
 
 module _ (a b c : Layers) (p : Path) (held_same : SameObjects (upper_of b) (upper_of c)) (same : ShowsSame b c) where
@@ -65,6 +66,7 @@ pub moves-then : (clients : Clients) (a b c : Layers) (redirects metacopy : Bool
 moves-then clients a b c redirects metacopy p q directory released moves bare steps mounts held objects same = record {
   apart = moves.apart;
   bare = bare moves.apart;
+  marks = moved-marks a b c metacopy p q directory released moves objects;
   steps = λ s is option bytes client. renames-then b c mounts s client p q (steps moves.apart s is option bytes client);
   live = λ s is option bytes client d k some on live.
       held (after s client (call.Rename p q)).tree d k some (rename-held clients a b redirects metacopy p q moves.over (steps moves.apart) s is option bytes client d k some on live);

@@ -1,5 +1,6 @@
 pub mod Words
 pub mod Marks
+pub mod LeftMarks
 pub mod Shown
 pub mod Objects
 pub mod Counting

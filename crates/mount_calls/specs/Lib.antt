@@ -4,6 +4,7 @@ pub mod Files
 pub mod FreeDescriptors
 pub mod Held
 pub mod Keeping
+pub mod LeftMarks
 pub mod ComingUp
 pub mod Lacks
 pub mod Opening

@@ -17,6 +17,7 @@ use Rattle.object_table.specs.declared.dentry.Unlisted.TheVariants as unlisted
 use Rattle.object_table.specs.Opened.{SameHandles}
 use Rattle.object_table.specs.Renames.{Moves}
 use Rattle.mount_calls.specs.declared.clients.Clients.{Clients}
+use Rattle.mount_calls.specs.LeftMarks.{LeavesMoved}
 use Rattle.mount_calls.specs.Living.{KeepsHeldFrom, KeepsNamed}
 
 -- the same clients are attached with what they have open, and each open directory stands where it stood
@@ -38,11 +39,12 @@ RefusesRenames l redirects p q e =
     (s : State) → IsMountOf (upper_of l) (lowers_of l) s → s.options.redirects ≡ redirects →
     (c : ℕ) → refusal s c (call.Rename p q) ≡ Some e
 
--- What p shows moves to q, in which no name was shown: every state with these options goes on so by rename, and of the upper's files what
--- handles hold stays live, and what has a name then.
+-- What p shows moves to q, in which no name was shown, and leaves these marks: every state with these options goes on so by rename, and of
+-- the upper's files what handles hold stays live, and what has a name then.
 pub record RenamesHeld (clients : Clients) (old new : Layers) (redirects metacopy : Bool) (p q : Path) : Type 0 where
   pub apart : is_one (layer_of old.upper) p q ≡ false
   pub bare : ShowsNoName (layers_of old) q
+  pub marks : LeavesMoved old new p q
   pub steps : RenameSteps old new redirects metacopy p q
   pub live :
       (s : State) → IsMountOf (upper_of old) (lowers_of old) s → s.options.redirects ≡ redirects →

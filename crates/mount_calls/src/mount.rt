@@ -52,6 +52,7 @@ impl Mount {
     ghost use Rattle.mount_calls.specs.Opening.{list_fault};
     ghost use Rattle.mount_calls.specs.Living.{KeepsNamed, StaysLive};
     ghost use Rattle.mount_calls.specs.Keeping.{KeepsLayers};
+    ghost use Rattle.mount_calls.specs.LeftMarks.{MarksIfDone};
     ghost use Rattle.mount_calls.specs.Making.{MakesCall, MakesEach, TellsEach};
     ghost use Rattle.copy_up.specs.Showing.{StaysThin};
 
@@ -189,6 +190,7 @@ impl Mount {
     pub fn mkdir(&mut self, path: &Path, look: &Look, mode: u32) -> Result<Reply, AllocError>
         requires { IsLook self.old.layers path.now look.now }
         ensures makes { MakesEach (Call.Mkdir path.now mode) self.old self.new result }
+        ensures marks { MarksIfDone (Call.Mkdir path.now mode) self.old.layers self.new.layers result }
         ensures clients { self.new.clients ≡ self.old.clients }
     {
         let mode = match Mode::parse(mode) {
@@ -226,6 +228,8 @@ impl Mount {
     ) -> Result<Result<Object, Errno>, AllocError>
         requires { IsLook self.old.layers path.now look.now }
         ensures makes { MakesEach (Call.Unlink path.now) self.old self.new (outcome_result result) }
+        ensures marks { MarksIfDone (Call.Unlink path.now) self.old.layers self.new.layers
+            (outcome_result result) }
         ensures object { IfOk result (λ outcome. IfOk outcome (IsObject (upper_of self.old.layers) (lowers_of self.old.layers) path.now)) }
         ensures clients { self.new.clients ≡ self.old.clients }
     {
@@ -239,7 +243,8 @@ impl Mount {
     pub fn rmdir(&mut self, path: &Path, look: &Look) -> Result<Reply, AllocError>
         requires state { ∥ HasStateOf self.old ∥₁ }
         requires look { IsLook self.old.layers path.now look.now }
-        ensures { MakesEach (Call.Rmdir path.now) self.old self.new result }
+        ensures makes { MakesEach (Call.Rmdir path.now) self.old self.new result }
+        ensures marks { MarksIfDone (Call.Rmdir path.now) self.old.layers self.new.layers result }
     {
         self.clients.lawful();
         let attributes = self.attributes_seen(path, look)?;

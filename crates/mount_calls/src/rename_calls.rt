@@ -5,6 +5,7 @@ ghost use Rattle.mount_laws.specs.Removals.{rmdir_fault};
 ghost use Rattle.mount_laws.specs.Renaming.{is_one};
 ghost use Rattle.merged_lookup.specs.Merged.{layers_of};
 ghost use Rattle.object_table.specs.Renames.{IsSettled};
+ghost use Rattle.mount_calls.specs.LeftMarks.{MarksIfDone};
 ghost use Rattle.mount_calls.specs.Looking.{IsKeyAt, IsLook};
 ghost use Rattle.mount_calls.specs.Making.{MakesEach};
 ghost use Rattle.mount_calls.specs.Removing.{HasAttributes, IsOpenNowhere};
@@ -34,6 +35,8 @@ impl Mount {
         requires from { IsLook self.old.layers old.now from.now }
         requires onto { IsLook self.old.layers new.now onto.now }
         ensures makes { MakesEach (Call.Rename old.now new.now) self.old self.new
+            (outcome_result result) }
+        ensures marks { MarksIfDone (Call.Rename old.now new.now) self.old.layers self.new.layers
             (outcome_result result) }
         ensures moves { IfOk result (λ outcome. IfOk outcome (λ moved.
             is_one (layer_of self.old.layers.upper) old.now new.now ≡ not (is_some moved))) }

@@ -127,4 +127,4 @@ module _ {F G : Type 0} (shows : Rule) (m : Watched F G) (work w : List (Option 
           },
           counts,
           refl,
-        ))
+        ) (λ r is. cc))

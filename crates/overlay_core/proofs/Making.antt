@@ -15,7 +15,9 @@ use Rattle.notice_laws.specs.Notified.{Passes, Resumes}
 use Rattle.notice_laws.specs.Steps.{IsSilent, keeps_handles}
 use Rattle.mount_calls.specs.declared.mount.Mount.{Mount}
 use Rattle.mount_calls.specs.Attaching.{is_attached}
+use Rattle.mount_calls.specs.LeftMarks.{LeavesMarks}
 use Rattle.mount_calls.specs.Making.{MakesCall, TellsCall, TellsEach}
+use Rattle.mount_calls.proofs.LeftMarks.{marks-none}
 use Rattle.mount_calls.proofs.MakingCalls.{attached-same, makes-nothing, makes-read}
 use Rattle.overlay_core.specs.declared.watched.Watched.{Watched}
 use Rattle.overlay_core.specs.Performing.{Performs}
@@ -33,9 +35,10 @@ module _ {F G : Type 0} {shows : Rule} where
   -- one that leaves the mount the very same goes by what is told
   pub performs-watch : {c : ℕ} {k : Call} {old new : Watched F G} (result : Result Reply AllocError) →
       IfOk result (λ r. Goes shows old.mount old.notifier c (Called k r) new.mount new.notifier) →
-      OnErr result (Stays old.mount old.notifier new.mount new.notifier) → new.mount ≡ old.mount → Performs shows c k old new result
-  performs-watch {c} {k} {old} {new} result goes out same =
-      record { goes = goes; refused = left result; no_memory = out; kept = subst (λ (m : Mount). Keeps k old.mount m) (sym same) (keeps-same k old.mount) }
+      OnErr result (Stays old.mount old.notifier new.mount new.notifier) → new.mount ≡ old.mount →
+      LeavesMarks k old.mount.layers new.mount.layers → Performs shows c k old new result
+  performs-watch {c} {k} {old} {new} result goes out same marks =
+      record { goes = goes; refused = left result; marks = marks-none k old.mount.layers new.mount.layers marks result; no_memory = out; kept = subst (λ (m : Mount). Keeps k old.mount m) (sym same) (keeps-same k old.mount) }
     where
       left : (x : Result Reply AllocError) → IfOk x (λ r. (e : Errno) → r ≡ Refused e → new.mount.layers ≡ old.mount.layers)
       left (Ok r) = λ e is. ap (λ (m : Mount). m.layers) same
@@ -43,18 +46,19 @@ module _ {F G : Type 0} {shows : Rule} where
 
   -- one that was answered goes by what is told
   pub performs-told : {c : ℕ} {k : Call} {r : Reply} {old new : Watched F G} → MakesCall c k old.mount new.mount (Ok r) →
-      Goes shows old.mount old.notifier c (Called k r) new.mount new.notifier → Performs shows c k old new (Ok r)
-  performs-told m goes = record { goes = goes; refused = m.answers.refused; no_memory = tt; kept = kept-by m }
+      Goes shows old.mount old.notifier c (Called k r) new.mount new.notifier →
+      (r ≡ Done → LeavesMarks k old.mount.layers new.mount.layers) → Performs shows c k old new (Ok r)
+  performs-told m goes marks = record { goes = goes; refused = m.answers.refused; marks = marks; no_memory = tt; kept = kept-by m }
 
   -- so does one that was done
   pub performs-done : {c : ℕ} {k : Call} {old new : Watched F G} (r : Reply) → is_attached old.mount.clients c ≡ true →
       MakesCall c k old.mount new.mount (Ok r) → r ≡ Done →
       ((s : State) → (a : Agrees old.mount old.notifier s) →
       Passes (mount_upper old.mount) (mount_upper new.mount) (lowers_of old.mount.layers) s c k → Resumes shows (mount_upper new.mount) s c k new.notifier) →
-      Performs shows c k old new (Ok Done)
-  performs-done {c} {k} {old} {new} r there m is resumes =
+      LeavesMarks k old.mount.layers new.mount.layers → Performs shows c k old new (Ok Done)
+  performs-done {c} {k} {old} {new} r there m is resumes marks =
       subst (λ x. Performs shows c k old new (Ok x)) is
-      (performs-told m (goes-done shows c k r old.mount new.mount old.notifier (performed-by there m) new.notifier is resumes))
+      (performs-told m (goes-done shows c k r old.mount new.mount old.notifier (performed-by there m) new.notifier is resumes) (λ done. marks))
 
   module _ {c : ℕ} {k : Call} {old : Watched F G} {new : Mount} where
     -- one for which memory ran out leaves what is kept for watches
@@ -64,6 +68,7 @@ module _ {F G : Type 0} {shows : Rule} where
     performs-out m (Err f) wrong = record {
       goes = tt;
       refused = tt;
+      marks = tt;
       no_memory = stays old.mount new old.notifier old.notifier m.no_memory.states m.no_memory.live (λ s t. t);
       kept = kept-by m;
     }
@@ -72,19 +77,20 @@ module _ {F G : Type 0} {shows : Rule} where
     pub performs-refused : (r : Reply) → is_attached old.mount.clients c ≡ true → MakesCall c k old.mount new (Ok r) →
         ((s : State) → reply_of s c k ≡ Done) → r ≢ Done → Performs shows c k old (record old { mount = new }) (Ok r)
     performs-refused r there m answers isnt =
-        performs-told m (goes-refused shows c k r old.mount new old.notifier (performed-by there m) answers isnt)
+        performs-told m (goes-refused shows c k r old.mount new old.notifier (performed-by there m) answers isnt) (λ is. absurd (isnt is))
 
     -- and one that tells nothing
     pub performs-silent : is_attached old.mount.clients c ≡ true → keeps_handles k ≡ true → ((s : State) → IsSilent s c k) →
-        (result : Result Reply AllocError) → MakesCall c k old.mount new result → Performs shows c k old (record old { mount = new }) result
-    performs-silent there keeps silent (Ok r) m =
-        performs-told m (goes-silent shows c k r old.mount new old.notifier (performed-by there m) keeps (λ s st fine. silent s))
-    performs-silent there keeps silent (Err e) m = performs-out m (Err e) refl
+        (result : Result Reply AllocError) → MakesCall c k old.mount new result → LeavesMarks k old.mount.layers new.layers →
+        Performs shows c k old (record old { mount = new }) result
+    performs-silent there keeps silent (Ok r) m marks =
+        performs-told m (goes-silent shows c k r old.mount new old.notifier (performed-by there m) keeps (λ s st fine. silent s)) (λ is. marks)
+    performs-silent there keeps silent (Err e) m marks = performs-out m (Err e) refl
 
   -- and so does one that only asks
   pub performs-asked : {c : ℕ} {k : Call} {old : Watched F G} → is_attached old.mount.clients c ≡ true →
       keeps_handles k ≡ true → ((s : State) → IsSilent s c k) → (result : Result Reply AllocError) →
-      IfOk result (TellsCall c k old.mount) → Performs shows c k old old result
+      IfOk result (TellsCall c k old.mount) → LeavesMarks k old.mount.layers old.mount.layers → Performs shows c k old old result
   performs-asked {c} {k} {old} there keeps silent result tells = performs-silent there keeps silent result (made result tells)
     where
       made : (x : Result Reply AllocError) → IfOk x (TellsCall c k old.mount) → MakesCall c k old.mount old.mount x
@@ -94,7 +100,7 @@ module _ {F G : Type 0} {shows : Rule} where
   -- so it is where each client is told the same
   pub performs-each : {c : ℕ} {k : Call} {old : Watched F G} → is_attached old.mount.clients c ≡ true →
       keeps_handles k ≡ true → ((s : State) → IsSilent s c k) → (result : Result Reply AllocError) →
-      IfOk result (TellsEach k old.mount) → Performs shows c k old old result
+      IfOk result (TellsEach k old.mount) → LeavesMarks k old.mount.layers old.mount.layers → Performs shows c k old old result
   performs-each {c} {k} {old} there keeps silent result tells = performs-asked there keeps silent result (told result tells)
     where
       told : (x : Result Reply AllocError) → IfOk x (TellsEach k old.mount) → IfOk x (TellsCall c k old.mount)

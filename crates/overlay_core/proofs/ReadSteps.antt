@@ -4,6 +4,7 @@ use Rattle.std.proofs.lemmas.Bool.{false≢true}
 use Rattle.ov_base.specs.declared.call.Call.{Call}
 use Rattle.ov_base.specs.declared.call.Call.TheVariants as call
 use Rattle.ov_base.specs.declared.errno.Errno.{Errno}
+use Rattle.ov_base.specs.declared.reply.Reply.TheVariants as replies
 use Rattle.ov_base.specs.declared.reply.Reply.TheVariants.{Refused}
 use Rattle.plain_model.specs.Layers.{Layer, Path, shows}
 use Rattle.plain_model.specs.Machine.{State, writable}
@@ -195,6 +196,7 @@ module _ {F G : Type 0} (shows_by : Rule) (old new : Watched F G) (j k : Job) wh
     clients = made.clients;
     layers = made.layers;
     refused = made.refused;
+    marks = made.marks;
     lowers = made.lowers;
     thin = made.thin;
     objects = held;
@@ -206,6 +208,7 @@ module _ {F G : Type 0} (shows_by : Rule) (old new : Watched F G) (j k : Job) wh
     clients = made.clients;
     layers = made.layers;
     refused = made.refused;
+    marks = made.marks;
     lowers = made.lowers;
     thin = made.thin;
     objects = held;
@@ -238,6 +241,7 @@ reads-refused shows_by old j k e refused attached answered none = record {
   clients = record { attached = λ n. refl; next = refl };
   layers = same-layers j.call old.mount.layers;
   refused = λ x is. refl;
+  marks = λ is. let no : Done (Refused e) ≡ Done replies.Done = is in absurd (cc);
   lowers = refl;
   thin = λ thin. thin;
   objects = λ p. refl;

@@ -3,6 +3,7 @@ use Rattle.std.proofs.Common.{◌≡◌, ◌≢◌, ℕ, ◌+◌, Bool, List, Op
 use Rattle.std.specs.declared.alloc.AllocError.{AllocError}
 use Rattle.ov_base.specs.declared.call.Call.{Call}
 use Rattle.ov_base.specs.declared.reply.Reply.{Reply}
+use Rattle.ov_base.specs.declared.reply.Reply.TheVariants as replies
 use Rattle.ov_base.specs.declared.reply.Reply.TheVariants.{Refused}
 use Rattle.plain_model.specs.Machine.{State}
 use Rattle.plain_model.specs.Refusals.{refusal}
@@ -51,13 +52,14 @@ module _ {F G : Type 0} (shows : Rule) where
   -- a step that changes the open jobs alone
   pub made-aside : (m : Watched F G) (e w : List (Option OpenJob)) (j k : Job) (turn : Turn) (next : Next)
       (t : Option Beginning) → AreTemps (lowers_of m.mount.layers) w → TurnsWatched m m e w j k shows turn →
-      StepsBy m m e w j k turn next t → Makes m m e w j k shows turn next t
-  made-aside m e w j k turn next t temps turns steps = record {
+      StepsBy m m e w j k turn next t → ((r : Reply) → turn ≡ Done r → ⊥) → Makes m m e w j k shows turn next t
+  made-aside m e w j k turn next t temps turns steps more = record {
     turns = turns;
     steps = steps;
     clients = attached-same m.mount.clients m.mount.clients refl;
     layers = same-layers j.call m.mount.layers;
     refused = λ e is. refl;
+    marks = λ is. absurd (more replies.Done is);
     lowers = refl;
     thin = λ thin. thin;
     temps = temps;
@@ -75,6 +77,7 @@ module _ {F G : Type 0} (shows : Rule) where
       clients = attached-same old.mount.clients new.mount.clients (ap (λ (m : Mount). m.clients) p.only);
       layers = p.layers;
       refused = λ e is. absurd (more (Refused e) is);
+      marks = λ is. absurd (more replies.Done is);
       lowers = p.lowers;
       thin = p.thin;
       temps = temps;
@@ -121,6 +124,7 @@ module _ {F G : Type 0} (shows : Rule) where
       clients = p.kept.clients;
       layers = p.kept.layers;
       refused = λ e is. let same : r ≡ Refused e = cc in p.refused e same;
+      marks = λ is. let same : r ≡ replies.Done = cc in p.marks same;
       lowers = p.kept.lowers;
       thin = p.kept.thin;
       temps = subst (λ ls. AreTemps (map layer_of ls.items) work) (sym p.kept.lowers) temps;
@@ -135,6 +139,7 @@ module _ {F G : Type 0} (shows : Rule) where
       clients = p.kept.clients;
       layers = p.kept.layers;
       refused = λ e is. cc;
+      marks = λ is. let no : NoMemory ≡ Done replies.Done = is in absurd (cc);
       lowers = p.kept.lowers;
       thin = p.kept.thin;
       temps = subst (λ ls. AreTemps (map layer_of ls.items) work) (sym p.kept.lowers) temps;

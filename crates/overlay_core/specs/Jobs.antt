@@ -2,6 +2,7 @@
 use Rattle.std.specs.Prelude.{◌≡◌, ◌≢◌, ℕ, ◌+◌, true, false, Option, Some, None}
 use Rattle.ov_base.specs.declared.errno.Errno.{Errno}
 use Rattle.ov_base.specs.declared.reply.Reply.{Reply}
+use Rattle.ov_base.specs.declared.reply.Reply.TheVariants as replies
 use Rattle.ov_base.specs.declared.reply.Reply.TheVariants.{Refused}
 use Rattle.plain_model.specs.Machine.{State}
 use Rattle.plain_model.specs.Refusals.{refusal}
@@ -16,6 +17,7 @@ use Rattle.mount_calls.specs.Attaching.{KeepsAttached}
 use Rattle.mount_calls.specs.ComingUp.{BringsUp}
 use Rattle.mount_calls.specs.Keeping.{KeepsLayers, takes_no_memory}
 use Rattle.mount_calls.specs.Lacks.{may_lack}
+use Rattle.mount_calls.specs.LeftMarks.{LeavesMarks}
 use Rattle.overlay_core.specs.Steps.{StepsBy, held_by, next_by, without}
 use Rattle.overlay_core.specs.Views.{CoreAgrees, CoreGoes, CoreKeeps, CoreStays, core_clients, core_finished, core_layers, core_mount, core_read_only, core_work}
 use Rattle.watch_table.specs.declared.hook.Callback.{Ghosts as Callback}
@@ -66,4 +68,5 @@ pub record Advances {F G : Type 0} {asks : Callback F} {rule : Rule G}
   pub layers : KeepsLayers job.call (core_layers old) (core_layers new)
   pub brings : BringsUp job.call (core_layers old) (core_layers new)
   pub refused : (errno : Errno) → turn ≡ Done (Refused errno) → core_layers new ≡ core_layers old
+  pub marks : turn ≡ Done replies.Done → LeavesMarks job.call (core_layers old) (core_layers new)
   pub kept : CoreKeeps old new

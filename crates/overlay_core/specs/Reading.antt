@@ -1,6 +1,7 @@
 -- What the one step of a job does on a mount without an upper.
 use Rattle.std.specs.Prelude.{◌≡◌, ◌≢◌, true, Option, None}
 use Rattle.ov_base.specs.declared.errno.Errno.{Errno}
+use Rattle.ov_base.specs.declared.reply.Reply.TheVariants as replies
 use Rattle.ov_base.specs.declared.reply.Reply.TheVariants.{Refused}
 use Rattle.plain_model.specs.Machine.{State}
 use Rattle.plain_model.specs.Refusals.{refusal}
@@ -11,6 +12,7 @@ use Rattle.work_dir.specs.Beginnings.{Beginning}
 use Rattle.work_dir.specs.declared.next.Next.TheVariants.{Finish}
 use Rattle.mount_calls.specs.Attaching.{KeepsAttached}
 use Rattle.mount_calls.specs.Keeping.{KeepsLayers}
+use Rattle.mount_calls.specs.LeftMarks.{LeavesMarks}
 use Rattle.copy_up.specs.Showing.{StaysThin}
 use Rattle.overlay_core.specs.declared.job.Job.{Job}
 use Rattle.overlay_core.specs.declared.job.Standing.TheVariants as standing
@@ -40,6 +42,7 @@ module _ {F G : Type 0} (old new : Watched F G) (j k : Job) where
     pub clients : KeepsAttached old.mount.clients new.mount.clients
     pub layers : KeepsLayers j.call old.mount.layers new.mount.layers
     pub refused : (e : Errno) → turn ≡ Done (Refused e) → new.mount.layers ≡ old.mount.layers
+    pub marks : turn ≡ Done replies.Done → LeavesMarks j.call old.mount.layers new.mount.layers
     pub lowers : new.mount.layers.lowers ≡ old.mount.layers.lowers
     pub thin : StaysThin old.mount.layers new.mount.layers
     pub objects : SameObjects (layer_of old.mount.layers.upper) (layer_of new.mount.layers.upper)

@@ -3,6 +3,7 @@ use Rattle.std.specs.Prelude.{◌≡◌, ◌≢◌, ℕ, ◌+◌, ◌<◌, cond,
 use Rattle.std.specs.declared.alloc.AllocError.{AllocError}
 use Rattle.ov_base.specs.declared.errno.Errno.{Errno}
 use Rattle.ov_base.specs.declared.reply.Reply.{Reply}
+use Rattle.ov_base.specs.declared.reply.Reply.TheVariants as replies
 use Rattle.ov_base.specs.declared.reply.Reply.TheVariants.{Refused}
 use Rattle.plain_model.specs.Layers.{Layer}
 use Rattle.plain_model.specs.Runs.{Called}
@@ -22,6 +23,7 @@ use Rattle.ov_base.specs.declared.source.Source.{Source}
 use Rattle.work_dir.specs.declared.table.OpenJob.{OpenJob}
 use Rattle.mount_calls.specs.Attaching.{KeepsAttached}
 use Rattle.mount_calls.specs.Keeping.{KeepsLayers}
+use Rattle.mount_calls.specs.LeftMarks.{LeavesMarks}
 use Rattle.mount_calls.specs.Lacks.{bytes_at, lack_of, lack_size, path_of_call, CanBeHad}
 use Rattle.mount_calls.specs.declared.mount.Mount.{Mount}
 use Rattle.overlay_core.specs.declared.job.Job.{Job}
@@ -117,13 +119,15 @@ module _ {F G : Type 0} (old new : Watched F G) (e w : List (Option OpenJob)) (j
       Stays old.mount old.notifier new.mount new.notifier × (k.standing ≡ standing.GivenUp)
 
   -- A step, with what it leaves alone: who is attached, the lower layers, and what the call leaves of
-  -- the upper; and each temp is a beginning of its file.
+  -- the upper; and each temp is a beginning of its file. Where the call is done, the upper has the
+  -- marks and whiteouts that it leaves.
   pub record Makes (shows : Rule) (turn : Turn) (next : Next) (temp : Option Beginning) : Type 0 where
     pub turns : TurnsWatched shows turn
     pub steps : StepsBy turn next temp
     pub clients : KeepsAttached old.mount.clients new.mount.clients
     pub layers : KeepsLayers j.call old.mount.layers new.mount.layers
     pub refused : (e : Errno) → turn ≡ Done (Refused e) → new.mount.layers ≡ old.mount.layers
+    pub marks : turn ≡ Done replies.Done → LeavesMarks j.call old.mount.layers new.mount.layers
     pub lowers : new.mount.layers.lowers ≡ old.mount.layers.lowers
     pub thin : StaysThin old.mount.layers new.mount.layers
     pub temps : AreTemps (lowers_of new.mount.layers) w

@@ -2,6 +2,7 @@
 ghost use Rattle.std.specs.Prelude.{◌≡◌, [], true, IfOk, OnErr};
 ghost use Rattle.plain_model.specs.Runs.{Called};
 ghost use Rattle.mount_calls.specs.Attaching.{is_attached};
+ghost use Rattle.mount_calls.specs.LeftMarks.{MarksIfDone};
 ghost use Rattle.mount_calls.specs.Looking.{IsLook};
 ghost use Rattle.overlay_core.specs.Watching.{Goes, HasState, Keeps, Stays};
 
@@ -30,6 +31,7 @@ impl<F: Callback, R: Rule> Watched<F, R> {
         ensures err { OnErr result (Stays self.old.mount self.old.notifier self.new.mount self.new.notifier) }
         ensures kept { Keeps (Call.Rename old.now new.now) self.old.mount self.new.mount }
         ensures refused { IfOk result (λ reply. (errno : Errno) → reply ≡ Reply.Refused errno → self.new.mount.layers ≡ self.old.mount.layers) }
+        ensures marks { MarksIfDone (Call.Rename old.now new.now) self.old.mount.layers self.new.mount.layers result }
     {
         match self.mount.rename_moving(old, new, from, onto)? {
             Ok(_) => Ok(Reply::Done),
@@ -57,6 +59,7 @@ impl<F: Callback, R: Rule> Watched<F, R> {
         ensures err { OnErr result (Stays self.old.mount self.old.notifier self.new.mount self.new.notifier) }
         ensures kept { Keeps call.now self.old.mount self.new.mount }
         ensures refused { IfOk result (λ reply. (errno : Errno) → reply ≡ Reply.Refused errno → self.new.mount.layers ≡ self.old.mount.layers) }
+        ensures marks { MarksIfDone call.now self.old.mount.layers self.new.mount.layers result }
     {
         if new.split_last().is_none() {
             return self.rename_onto_root(client, old, new, from, onto);

@@ -118,6 +118,7 @@ returns-in-Done-clause-chain g c =
       layers = all.layers;
       brings = all.brings;
       refused = by.refused;
+      marks = by.marks;
       kept = all.kept;
     }
 
@@ -140,6 +141,7 @@ returns-in-NoMemory-clause-chain g c =
       layers = all.layers;
       brings = all.brings;
       refused = by.refused;
+      marks = by.marks;
       kept = all.kept;
     }
 
@@ -162,6 +164,7 @@ returns-in-More-clause-chain g c =
       layers = all.layers;
       brings = all.brings;
       refused = by.refused;
+      marks = by.marks;
       kept = all.kept;
     }
 

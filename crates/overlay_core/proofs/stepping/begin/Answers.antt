@@ -12,13 +12,13 @@ returns-in-Ok-clause-makes g c = λ t.
       record { number = c.in-Ok.number; known = c.begin.ensures.number; free = kept.0; kept = kept.1 },
       c.begin.ensures.counts,
       refl,
-    )
+    ) (λ r is. cc)
 
 pub returns-in-Err-clause-makes : goal.returns-in-Err-clause-makes
 returns-in-Err-clause-makes g c = λ t.
     made-aside g.R.Rule.shows c.args.watched.now c.args.work.now c.keep_begun.new.work c.args.job.now
     c.end.new.self NoMemory (Begin c.args.source) t c.keep_begun.ensures.temps
-    (λ s a. a, c.end.ensures.standing) ((λ is. cc), c.in-Err.ensures.same, c.end.ensures.number)
+    (λ s a. a, c.end.ensures.standing) ((λ is. cc), c.in-Err.ensures.same, c.end.ensures.number) (λ r is. cc)
 
 pub keep_begun-requires-clause-can : goal.keep_begun-requires-clause-can
 keep_begun-requires-clause-can g c = (c.requires.due None).1

@@ -105,16 +105,16 @@ returns-in-Err-clause-guarded g c =
 pub returns-in-NoMemory-clause-guarded : goal.returns-in-NoMemory-clause-guarded
 returns-in-NoMemory-clause-guarded g c =
     let e = c.in-NoMemory.ensures in
-    inr (c.advance.new.job, record { same = e.job; turns = e.turn; steps = e.steps; step = e.step; at_once = e.at_once; read_only = e.read_only; memory = e.memory; finished = e.finished; clients = e.clients; layers = e.layers; brings = e.brings; refused = e.refused; kept = e.kept })
+    inr (c.advance.new.job, record { same = e.job; turns = e.turn; steps = e.steps; step = e.step; at_once = e.at_once; read_only = e.read_only; memory = e.memory; finished = e.finished; clients = e.clients; layers = e.layers; brings = e.brings; refused = e.refused; marks = e.marks; kept = e.kept })
 
 pub returns-in-More-clause-guarded : goal.returns-in-More-clause-guarded
 returns-in-More-clause-guarded g c =
     let e = c.in-More.ensures in
-    record { same = e.job; turns = e.turn; steps = e.steps; step = e.step; at_once = e.at_once; read_only = e.read_only; memory = e.memory; finished = e.finished; clients = e.clients; layers = e.layers; brings = e.brings; refused = e.refused; kept = e.kept }
+    record { same = e.job; turns = e.turn; steps = e.steps; step = e.step; at_once = e.at_once; read_only = e.read_only; memory = e.memory; finished = e.finished; clients = e.clients; layers = e.layers; brings = e.brings; refused = e.refused; marks = e.marks; kept = e.kept }
 
 pub returns-in-Done-clause-guarded : goal.returns-in-Done-clause-guarded
 returns-in-Done-clause-guarded g c =
     let e = c.in-Done.ensures in
     let reply = c.in-Done.reply in
     let deed = ap (λ (r : Claim). r.entry.deed) c.append.ensures.receipt ∙ ap (λ (n : Entry). n.deed) c.filled-entry.ensures ∙ ap (λ (k : Call). Called k reply) (c.into_call-in-Done.ensures ∙ e.job.1) in
-    (reply, deed, (c.advance.new.job, record { same = e.job; turns = e.turn; steps = e.steps; step = e.step; at_once = e.at_once; read_only = e.read_only; memory = e.memory; finished = e.finished; clients = e.clients; layers = e.layers; brings = e.brings; refused = e.refused; kept = e.kept }))
+    (reply, deed, (c.advance.new.job, record { same = e.job; turns = e.turn; steps = e.steps; step = e.step; at_once = e.at_once; read_only = e.read_only; memory = e.memory; finished = e.finished; clients = e.clients; layers = e.layers; brings = e.brings; refused = e.refused; marks = e.marks; kept = e.kept }))

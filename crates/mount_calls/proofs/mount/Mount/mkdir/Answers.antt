@@ -5,7 +5,9 @@ use Rattle.mount_laws.proofs.Looks.{law_of_mkdir}
 use Rattle.mount_calls.proofs.Changing.{mkdir-done}
 use Rattle.mount_calls.proofs.Frames.{around-others, around-parents}
 use Rattle.mount_calls.proofs.Keys.{look-seen}
+use Rattle.make_remove.specs.Making.{new_attributes}
 use Rattle.mount_calls.proofs.Lasting.{mkdir-live, mkdir-leaves, parents-live}
+use Rattle.mount_calls.proofs.LeftMarks.{refused-marks, wanted-marks}
 use Rattle.mount_calls.proofs.MakingCalls.{makes-done, makes-unmade, makes-unshown}
 use Rattle.mount_calls.proofs.Named.{keeps-named}
 use Rattle.mount_calls.proofs.Parsed.{mode-fault}
@@ -55,3 +57,22 @@ returns-in_err-mkdir-clause-makes c = λ client.
     let kept = c.in_err-mkdir.ensures.no_memory in
     makes-unshown client (call.Mkdir p c.args.mode) m new c.from_residual.result c.from_residual.ensures.0 kept.mount
     (parents-live m.layers new p kept.beneath) (around-parents m.layers new p kept.beneath) kept.beneath.lowers c.mkdir.ensures.sound.thin
+
+pub returns-in-Err-clause-marks : goal.returns-in-Err-clause-marks
+returns-in-Err-clause-marks c =
+    refused-marks (call.Mkdir c.args.path.now c.args.mode) c.args.self.now.layers c.args.self.now.layers c.in-Err.errno
+
+pub returns-in-Ok-2-clause-marks : goal.returns-in-Ok-2-clause-marks
+returns-in-Ok-2-clause-marks c =
+    let same = rw c.in-Ok.is at c.parse.ensures.same in
+    let made = rw (c.in-Ok-2.is, same) at c.in_ok-mkdir.ensures.made in
+    λ is. (made.key, new_attributes c.args.mode, made.held_there)
+
+pub returns-in-Err-2-clause-marks : goal.returns-in-Err-2-clause-marks
+returns-in-Err-2-clause-marks c =
+    refused-marks (call.Mkdir c.args.path.now c.args.mode) c.args.self.now.layers c.mkdir.new.layers c.in-Err-2.errno
+
+pub returns-in_err-mkdir-clause-marks : goal.returns-in_err-mkdir-clause-marks
+returns-in_err-mkdir-clause-marks c =
+    wanted-marks (call.Mkdir c.args.path.now c.args.mode) c.args.self.now.layers c.mkdir.new.layers
+    c.from_residual.result c.from_residual.ensures.0

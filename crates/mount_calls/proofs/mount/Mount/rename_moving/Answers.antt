@@ -1,9 +1,11 @@
-use Rattle.std.proofs.Common.{Err, IfSome, refl, sym, subst}
+use Rattle.std.proofs.Common.{Err, IfSome, refl, sym, subst, ◌∙◌}
+use Rattle.std.proofs.lemmas.Bool.{false≢true}
 use Rattle.ov_base.specs.declared.call.Call.TheVariants as call
 use Rattle.merged_lookup.specs.Merged.{layers_of}
 use Rattle.mount_calls.specs.Removing.{HasAttributes}
 use Rattle.mount_calls.specs.States.{IsStateOf}
 use Rattle.mount_calls.specs.Status.{outcome_result}
+use Rattle.mount_calls.proofs.LeftMarks.{refused-marks, wanted-marks}
 use Rattle.mount_calls.proofs.MakingCalls.{attached-places, attached-renamed, makes-nothing, makes-out, makes-out-same, makes-refused, marks-done}
 use Rattle.mount_calls.proofs.Renaming.{bare-below, outside, rename-done, rename-refused, rename-same, rename-same-named, rename-wanted, replaced-copied, same-state, same-then, thin-on, to-path}
 use Rattle.mount_calls.proofs.Stating.{the_lowers, the_upper}
@@ -114,3 +116,28 @@ returns-in-Err-clause-makes c = λ client.
     makes-out client (call.Rename p q) m (record m { layers = new; clients = clients }) (Err c.in-Err.fault) refl
     (record { states = rename-wanted m new clients same kept.mount c.rename_and_free.ensures.lowers kept.beneath; live = kept.beneath })
     (attached-places m.clients clients same) c.rename_and_free.ensures.paths c.rename_and_free.ensures.lowers thin
+
+pub returns-in_err-replaced-clause-marks : goal.returns-in_err-replaced-clause-marks
+returns-in_err-replaced-clause-marks c =
+    wanted-marks (call.Rename c.args.old.now c.args.new.now) c.args.self.now.layers c.args.self.now.layers
+    (outcome_result c.from_residual.result) (outcome-err c.from_residual.result c.from_residual.ensures.0)
+
+pub returns-in_err-prepare_rename-clause-marks : goal.returns-in_err-prepare_rename-clause-marks
+returns-in_err-prepare_rename-clause-marks c =
+    wanted-marks (call.Rename c.args.old.now c.args.new.now) c.args.self.now.layers c.args.self.now.layers
+    (outcome_result c.from_residual-in_err-prepare_rename.result)
+    (outcome-err c.from_residual-in_err-prepare_rename.result c.from_residual-in_err-prepare_rename.ensures.0)
+
+pub returns-in-Ok-Ok-Some-clause-marks : goal.returns-in-Ok-Ok-Some-clause-marks
+returns-in-Ok-Ok-Some-clause-marks c =
+    let moved = rw (c.in-Ok-Ok-Some.field-0-is, c.in-Ok-Ok-Some.field-0-0-is) at c.in-Ok-Ok-Some.ensures.does in
+    λ is apart. moved.marks
+
+pub returns-in-Ok-Ok-None-clause-marks : goal.returns-in-Ok-Ok-None-clause-marks
+returns-in-Ok-Ok-None-clause-marks c =
+    let does = rw (c.in-Ok-Ok-None.field-0-is, c.in-Ok-Ok-None.field-0-0-is) at c.in-Ok-Ok-None.ensures.does in
+    λ is apart. absurd (false≢true (sym apart ∙ does.0))
+
+pub returns-in-Ok-Err-clause-marks : goal.returns-in-Ok-Err-clause-marks
+returns-in-Ok-Err-clause-marks c =
+    refused-marks (call.Rename c.args.old.now c.args.new.now) c.args.self.now.layers c.rename_and_free.new.layers c.in-Ok-Err.errno

@@ -5,17 +5,18 @@ use mathlib.Core.HLevel.{⊥_prop}
 use Rattle.merged_lookup.specs.Merged.{lowers_of}
 use Rattle.mount_calls.proofs.Changing.{none-below, rmdir-open, rmdir-unopened}
 use Rattle.mount_calls.proofs.Lasting.{rmdir-leaves}
+use Rattle.mount_calls.proofs.LeftMarks.{refused-marks, wanted-marks}
 use Rattle.mount_calls.proofs.MakingCalls.{attached-removed, makes-done, makes-nothing, makes-unmade, makes-unshown, marks-done}
 use Rattle.mount_calls.proofs.Named.{removes-named}
 use Rattle.mount_calls.proofs.mount.Mount.rmdir.Goals as goal
 use Rattle.mount_calls.proofs.mount.Mount.rmdir.Goals.{in-Some, in_default}
 
-pub returns-in_err-attributes : goal.returns-in_err-attributes
-returns-in_err-attributes c = λ client.
+pub returns-in_err-attributes-clause-makes : goal.returns-in_err-attributes-clause-makes
+returns-in_err-attributes-clause-makes c = λ client.
     makes-nothing client (call.Rmdir c.args.path.now) c.args.self.now c.from_residual.result c.from_residual.ensures.0
 
-pub returns-in-Err : goal.returns-in-Err
-returns-in-Err c = λ client.
+pub returns-in-Err-clause-makes : goal.returns-in-Err-clause-makes
+returns-in-Err-clause-makes c = λ client.
     makes-unmade client (call.Rmdir c.args.path.now) c.args.self.now c.rmdir_and_free.new.layers c.in-Err.errno (λ s. refl)
     (λ s st. (rw c.in-Err.is at c.in_ok-rmdir_and_free.ensures.refuses) s st.layers client)
     (rw c.in-Err.is at c.in_ok-rmdir_and_free.ensures.unchanged)
@@ -23,8 +24,8 @@ returns-in-Err c = λ client.
 pub remove-requires-clause-below : goal.remove-requires-clause-below
 remove-requires-clause-below c = λ k n r is. ∥∥₁_elim c.requires.state ⊥_prop (λ x. none-below c.args.self.now x.0 x.1 c.rmdir_and_free.new.layers c.args.path.now (rw c.in-Ok.is at c.in_ok-rmdir_and_free.ensures.bare) c.lawful.ensures.held k n r is)
 
-pub returns-after-attributes-3 : goal.returns-after-attributes-3
-returns-after-attributes-3 c = λ client.
+pub returns-after-attributes-3-clause-makes : goal.returns-after-attributes-3-clause-makes
+returns-after-attributes-3-clause-makes c = λ client.
     let m = c.args.self.now in
     let p = c.args.path.now in
     let new = c.rmdir_and_free.new.layers in
@@ -50,9 +51,30 @@ returns-after-attributes-3 c = λ client.
           around takes.lowers thin)
     ]
 
-pub returns-in_err-rmdir_and_free : goal.returns-in_err-rmdir_and_free
-returns-in_err-rmdir_and_free c = λ client.
+pub returns-in_err-rmdir_and_free-clause-makes : goal.returns-in_err-rmdir_and_free-clause-makes
+returns-in_err-rmdir_and_free-clause-makes c = λ client.
     let kept = c.in_err-rmdir_and_free.ensures.no_memory in
     makes-unshown client (call.Rmdir c.args.path.now) c.args.self.now c.rmdir_and_free.new.layers
     c.from_residual-in_err-rmdir_and_free.result c.from_residual-in_err-rmdir_and_free.ensures.0 kept.mount kept.beneath
     c.rmdir_and_free.ensures.around kept.shown.lowers c.rmdir_and_free.ensures.sound.thin
+
+pub returns-in_err-attributes-clause-marks : goal.returns-in_err-attributes-clause-marks
+returns-in_err-attributes-clause-marks c =
+    wanted-marks (call.Rmdir c.args.path.now) c.args.self.now.layers c.args.self.now.layers c.from_residual.result c.from_residual.ensures.0
+
+pub returns-in-Err-clause-marks : goal.returns-in-Err-clause-marks
+returns-in-Err-clause-marks c =
+    refused-marks (call.Rmdir c.args.path.now) c.args.self.now.layers c.rmdir_and_free.new.layers c.in-Err.errno
+
+pub returns-after-attributes-3-clause-marks : goal.returns-after-attributes-3-clause-marks
+returns-after-attributes-3-clause-marks c =
+    let takes = rw c.in-Ok.is at c.in_ok-rmdir_and_free.ensures.takes in
+    elim c.match-attributes-3.branch [
+      | in-Some w ↦ rw w.self-is (λ is. takes.left)
+      | in_default w ↦ rw w.self-is (λ is. takes.left)
+    ]
+
+pub returns-in_err-rmdir_and_free-clause-marks : goal.returns-in_err-rmdir_and_free-clause-marks
+returns-in_err-rmdir_and_free-clause-marks c =
+    wanted-marks (call.Rmdir c.args.path.now) c.args.self.now.layers c.rmdir_and_free.new.layers
+    c.from_residual-in_err-rmdir_and_free.result c.from_residual-in_err-rmdir_and_free.ensures.0

@@ -1,5 +1,6 @@
 use Rattle.ov_base.specs.declared.call.Call.TheVariants as call
 use Rattle.mount_calls.specs.Status.{outcome_result}
+use Rattle.mount_calls.proofs.LeftMarks.{removed-marks, wanted-marks}
 use Rattle.mount_calls.proofs.MakingCalls.{makes-unshown}
 use Rattle.mount_calls.proofs.Unlinking.{outcome-err, unlink-made}
 use Rattle.mount_calls.proofs.mount.Mount.unlink_telling.Goals as goal
@@ -16,3 +17,12 @@ returns-in_err-outcome-clause-makes c = λ client.
     makes-unshown client (call.Unlink c.args.path.now) c.args.self.now c.unlink_and_free.new.layers
     (outcome_result c.from_residual.result) (outcome-err c.from_residual.result c.from_residual.ensures.0) kept.mount kept.beneath
     c.unlink_and_free.ensures.around kept.shown.lowers c.unlink_and_free.ensures.sound.thin
+
+pub returns-clause-marks : goal.returns-clause-marks
+returns-clause-marks c =
+    removed-marks c.args.self.now.layers c.unlink_and_free.new.layers c.args.path.now c.in_ok-outcome.outcome c.in_ok-outcome.ensures.takes
+
+pub returns-in_err-outcome-clause-marks : goal.returns-in_err-outcome-clause-marks
+returns-in_err-outcome-clause-marks c =
+    wanted-marks (call.Unlink c.args.path.now) c.args.self.now.layers c.unlink_and_free.new.layers
+    (outcome_result c.from_residual.result) (outcome-err c.from_residual.result c.from_residual.ensures.0)

@@ -11,6 +11,7 @@ returns g c =
       goes = goes-shut g.R.Rule.shows c.args.self.now.mount c.shut.new.self.mount c.args.self.now.notifier c.shut.new.self.notifier c.args.client
           c.args.descriptor c.shut.result c.requires.there said.shuts;
       refused = said.refused;
+      marks = λ is. tt;
       no_memory = tt;
       kept = record { clients = said.clients; layers = said.paths; lowers = said.paths.lowers; thin = said.thin };
     }

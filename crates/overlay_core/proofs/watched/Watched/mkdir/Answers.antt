@@ -22,3 +22,4 @@ returns g c =
     performs-done c.in_ok-reply.reply c.requires.there (c.in_ok-reply.ensures.makes c.args.client) c.in-Done.is
     (λ s a passes. law_of_made g.R.Rule.shows (mount_upper old) (mount_upper c.mkdir.new.self) (lowers_of old.layers) s c.args.client p (Mkdir p c.args.mode) _ refl refl passes
     c.args.self.now.notifier to a.tracks c.lawful.ensures.known c.made.ensures)
+    (c.in_ok-reply.ensures.marks c.in-Done.is)

@@ -1,3 +1,4 @@
+use Rattle.mount_calls.proofs.LeftMarks.{marks-none}
 use Rattle.mount_calls.proofs.Seen.{looks-of}
 use Rattle.overlay_core.proofs.Making.{performs-as}
 use Rattle.overlay_core.proofs.watched.Watched.perform.Goals as goal
@@ -5,37 +6,73 @@ use Rattle.overlay_core.proofs.watched.Watched.perform.Goals as goal
 pub returns-in-Chmod : goal.returns-in-Chmod
 returns-in-Chmod g c =
     let said = c.alter.ensures in
-    performs-as c.in-Chmod.is (record { goes = said.goes; refused = said.refused; no_memory = said.err; kept = said.kept })
+    performs-as c.in-Chmod.is (record {
+      goes = said.goes;
+      refused = said.refused;
+      marks = marks-none _ _ _ tt c.alter.result;
+      no_memory = said.err;
+      kept = said.kept;
+    })
 
 pub returns-in-Chown : goal.returns-in-Chown
 returns-in-Chown g c =
     let said = c.alter-in-Chown.ensures in
-    performs-as c.in-Chown.is (record { goes = said.goes; refused = said.refused; no_memory = said.err; kept = said.kept })
+    performs-as c.in-Chown.is (record {
+      goes = said.goes;
+      refused = said.refused;
+      marks = marks-none _ _ _ tt c.alter-in-Chown.result;
+      no_memory = said.err;
+      kept = said.kept;
+    })
 
 pub returns-in-SetAttribute : goal.returns-in-SetAttribute
 returns-in-SetAttribute g c =
     let said = c.alter-in-SetAttribute.ensures in
-    performs-as c.in-SetAttribute.is (record { goes = said.goes; refused = said.refused; no_memory = said.err; kept = said.kept })
+    performs-as c.in-SetAttribute.is (record {
+      goes = said.goes;
+      refused = said.refused;
+      marks = marks-none _ _ _ tt c.alter-in-SetAttribute.result;
+      no_memory = said.err;
+      kept = said.kept;
+    })
 
 pub returns-in-DeleteAttribute : goal.returns-in-DeleteAttribute
 returns-in-DeleteAttribute g c =
     let said = c.alter-in-DeleteAttribute.ensures in
-    performs-as c.in-DeleteAttribute.is (record { goes = said.goes; refused = said.refused; no_memory = said.err; kept = said.kept })
+    performs-as c.in-DeleteAttribute.is (record {
+      goes = said.goes;
+      refused = said.refused;
+      marks = marks-none _ _ _ tt c.alter-in-DeleteAttribute.result;
+      no_memory = said.err;
+      kept = said.kept;
+    })
 
 pub returns-in-Hardlink : goal.returns-in-Hardlink
 returns-in-Hardlink g c =
     let said = c.link.ensures in
-    record { goes = said.goes; refused = said.refused; no_memory = said.err; kept = said.kept }
+    record {
+      goes = said.goes;
+      refused = said.refused;
+      marks = marks-none _ _ _ (rw c.in-Hardlink.is tt) c.link.result;
+      no_memory = said.err;
+      kept = said.kept;
+    }
 
 pub returns-in-Rename : goal.returns-in-Rename
 returns-in-Rename g c =
     let said = c.rename.ensures in
-    record { goes = said.goes; refused = said.refused; no_memory = said.err; kept = said.kept }
+    record { goes = said.goes; refused = said.refused; marks = said.marks; no_memory = said.err; kept = said.kept }
 
 pub returns-in-Open : goal.returns-in-Open
 returns-in-Open g c =
     let said = c.«open».ensures in
-    performs-as c.in-Open.is (record { goes = said.goes; refused = said.refused; no_memory = said.err; kept = said.kept })
+    performs-as c.in-Open.is (record {
+      goes = said.goes;
+      refused = said.refused;
+      marks = marks-none _ _ _ tt c.«open».result;
+      no_memory = said.err;
+      kept = said.kept;
+    })
 
 pub returns-in-Mkdir : goal.returns-in-Mkdir
 returns-in-Mkdir g c = performs-as c.in-Mkdir.is c.mkdir.ensures

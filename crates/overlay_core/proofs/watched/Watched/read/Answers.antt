@@ -36,12 +36,12 @@ returns g c =
       | in-Read+then-not-is_empty w ↦
           rw w.self-is (performs-told made (goes-read shows client k reply old new from done d count refl w.in-Read.bytes w.in-Read.is
           (some-bytes w.as_slice.result.now w.in-Read.bytes w.as_slice.ensures w.is_empty.result w.is_empty.ensures w.if-not-is_empty.true)
-          w.used.new.self w.lawful.ensures.known w.used.ensures))
+          w.used.new.self w.lawful.ensures.known w.used.ensures) (λ is. tt))
       | in-Read+else-not-is_empty w ↦
           rw w.self-is (performs-told made (goes-unread shows client k reply old new from done d count refl (λ bytes answer.
           none-bytes w.as_slice.result.now bytes (w.as_slice.ensures ∙ same-bytes w.in-Read.bytes bytes (sym w.in-Read.is ∙ answer))
-          w.is_empty.result w.is_empty.ensures w.if-not-is_empty.false)))
+          w.is_empty.result w.is_empty.ensures w.if-not-is_empty.false)) (λ is. tt))
       | in_default w ↦
           rw w.self-is (performs-told made (goes-unread shows client k reply old new from done d count refl
-          (λ bytes answer. absurd (w.in_default.not-Read bytes answer))))
+          (λ bytes answer. absurd (w.in_default.not-Read bytes answer))) (λ is. tt))
     ]

@@ -3,8 +3,10 @@ use Rattle.std.proofs.lemmas.Grind.{common_steps}
 use Rattle.ov_base.specs.declared.call.Call.TheVariants.{Rename}
 use Rattle.ov_base.specs.declared.reply.Reply.TheVariants.{Done, Refused}
 use Rattle.notice_laws.specs.Notified.{Notified}
+use Rattle.mount_calls.specs.LeftMarks.{LeavesMarks, MarksIfDone}
 use Rattle.mount_calls.specs.Looking.{IsKeyAt}
 use Rattle.mount_calls.specs.Status.{outcome_reply}
+use Rattle.mount_calls.proofs.LeftMarks.{refused-marks}
 use Rattle.overlay_core.proofs.MovesHeld.{given-up, held-for}
 use Rattle.overlay_core.proofs.Performing.{goes-as, performed-by, state-of, keeps-same, kept-by}
 use Rattle.overlay_core.proofs.RenamesTold.{as-called, back-agrees, clients-counted, goes-given-up, goes-moved, goes-same, key-told, moved-told, moving-bare, moving-free, moving-place, split-empty, stays-given-up}
@@ -157,3 +159,22 @@ returns-in-Err-rename_moving-clause-kept g c = subst (λ k. Keeps k c.args.self.
 
 pub returns-in-Ok-Err-clause-refused : goal.returns-in-Ok-Err-clause-refused
 returns-in-Ok-Err-clause-refused g c = λ e is. (c.in-Ok-Err.ensures.makes c.args.client).answers.refused c.in-Ok-Err.errno (ap outcome_reply c.in-Ok-Err.field-0-is)
+
+pub returns-then-is_none-clause-marks : goal.returns-then-is_none-clause-marks
+returns-then-is_none-clause-marks g c =
+    subst (λ k. MarksIfDone k c.args.self.now.mount.layers c.rename_onto_root.new.self.mount.layers c.rename_onto_root.result) (sym c.requires.call)
+    c.rename_onto_root.ensures.marks
+
+pub returns-in-Ok-Ok-Some-clause-marks : goal.returns-in-Ok-Ok-Some-clause-marks
+returns-in-Ok-Ok-Some-clause-marks g c = λ is.
+    subst (λ k. LeavesMarks k c.args.self.now.mount.layers c.rename_moving.new.self.layers) (sym c.requires.call)
+    (c.in-Ok-Ok-Some.ensures.marks (ap outcome_reply c.in-Ok-Ok-Some.field-0-is))
+
+pub returns-in-Ok-Ok-None-clause-marks : goal.returns-in-Ok-Ok-None-clause-marks
+returns-in-Ok-Ok-None-clause-marks g c = λ is.
+    subst (λ k. LeavesMarks k c.args.self.now.mount.layers c.rename_moving.new.self.layers) (sym c.requires.call)
+    (c.in-Ok-Ok-None.ensures.marks (ap outcome_reply c.in-Ok-Ok-None.field-0-is))
+
+pub returns-in-Ok-Err-clause-marks : goal.returns-in-Ok-Err-clause-marks
+returns-in-Ok-Err-clause-marks g c =
+    refused-marks c.args.call.now c.args.self.now.mount.layers c.rename_moving.new.self.layers c.in-Ok-Err.errno

@@ -6,6 +6,7 @@ use Rattle.overlay_core.proofs.Performing.{goes-never, kept-by, on-err, outcome-
 use Rattle.overlay_core.proofs.RenamesTold.{never-root}
 use Rattle.overlay_core.proofs.Watching.{stays}
 use Rattle.mount_calls.specs.Status.{outcome_reply}
+use Rattle.mount_calls.proofs.LeftMarks.{refused-marks, wanted-marks}
 use Rattle.overlay_core.proofs.watched.Watched.rename_onto_root.Goals as goal
 
 pub rename_moving-requires-clause-state : goal.rename_moving-requires-clause-state
@@ -52,3 +53,15 @@ returns-in-Err-clause-kept g c = kept-by (c.rename_moving.ensures.makes c.args.c
 
 pub returns-in-Err-clause-refused : goal.returns-in-Err-clause-refused
 returns-in-Err-clause-refused g c = λ e is. (c.in_ok-rename_moving.ensures.makes c.args.client).answers.refused c.in-Err.errno (ap outcome_reply c.in-Err.is)
+
+pub returns-in_err-rename_moving-clause-marks : goal.returns-in_err-rename_moving-clause-marks
+returns-in_err-rename_moving-clause-marks g c =
+    wanted-marks (Rename c.args.old.now c.args.new.now) c.args.self.now.mount.layers c.rename_moving.new.self.layers
+    c.from_residual.result c.from_residual.ensures.0
+
+pub returns-in-Ok-clause-marks : goal.returns-in-Ok-clause-marks
+returns-in-Ok-clause-marks g c = λ is. c.in_ok-rename_moving.ensures.marks (ap outcome_reply c.in-Ok.is)
+
+pub returns-in-Err-clause-marks : goal.returns-in-Err-clause-marks
+returns-in-Err-clause-marks g c =
+    refused-marks (Rename c.args.old.now c.args.new.now) c.args.self.now.mount.layers c.rename_moving.new.self.layers c.in-Err.errno

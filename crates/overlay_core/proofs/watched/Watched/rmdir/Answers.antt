@@ -13,11 +13,11 @@ rmdir-requires-clause-state g c = state-of c.args.self.now.mount c.args.self.now
 
 pub returns-in_err-reply : goal.returns-in_err-reply
 returns-in_err-reply g c =
-    performs-out (c.in_err-reply.ensures c.args.client) c.from_residual.result c.from_residual.ensures.0
+    performs-out (c.in_err-reply.ensures.makes c.args.client) c.from_residual.result c.from_residual.ensures.0
 
 pub returns-in_default : goal.returns-in_default
 returns-in_default g c =
-    performs-refused c.in_ok-reply.reply c.requires.there (c.in_ok-reply.ensures c.args.client) (λ s. refl) c.in_default.not-Done
+    performs-refused c.in_ok-reply.reply c.requires.there (c.in_ok-reply.ensures.makes c.args.client) (λ s. refl) c.in_default.not-Done
 
 pub removed-requires : goal.removed-requires
 removed-requires g c =
@@ -26,13 +26,14 @@ removed-requires g c =
     let old = c.args.self.now.mount in
     let new = c.rmdir.new.self in
     let from = c.args.self.now.notifier in
-    done-bare client (Rmdir path) c.in_ok-reply.reply old new from path (performed-by c.requires.there (c.in_ok-reply.ensures client)) c.in-Done.is
+    done-bare client (Rmdir path) c.in_ok-reply.reply old new from path (performed-by c.requires.there (c.in_ok-reply.ensures.makes client)) c.in-Done.is
     c.requires.state (λ s tracks passes. removed-bare (mount_upper old) s from tracks (mount_upper new) (lowers_of old.layers) client path passes)
 
 pub returns : goal.returns
 returns g c =
     let old = c.args.self.now.mount in
     let to = c.removed.new.self in
-    performs-done c.in_ok-reply.reply c.requires.there (c.in_ok-reply.ensures c.args.client) c.in-Done.is
+    performs-done c.in_ok-reply.reply c.requires.there (c.in_ok-reply.ensures.makes c.args.client) c.in-Done.is
     (λ s a passes. law_of_removed g.R.Rule.shows (mount_upper old) (mount_upper c.rmdir.new.self) (lowers_of old.layers) s c.args.client c.args.path.now passes
     c.args.self.now.notifier to a.tracks c.lawful.ensures.known c.removed.ensures)
+    (c.in_ok-reply.ensures.marks c.in-Done.is)

@@ -22,3 +22,4 @@ returns g c =
     performs-done c.in_ok-reply.reply c.requires.there (c.in_ok-reply.ensures.makes c.args.client) c.in-Done.is
     (λ s a passes. law_of_made g.R.Rule.shows (mount_upper old) (mount_upper c.symlink.new.self) (lowers_of old.layers) s c.args.client p (Symlink c.args.target.now p) _ refl refl passes
     c.args.self.now.notifier to a.tracks c.lawful.ensures.known c.made.ensures)
+    tt

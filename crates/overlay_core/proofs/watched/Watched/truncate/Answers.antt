@@ -33,8 +33,8 @@ returns g c =
     elim c.match-reply.branch [
       | in-Done w ↦
           rw w.self-is (performs-told made (goes-truncated g.R.Rule.shows client k reply old new from done d c.args.size refl
-          w.in-Done.is w.used.new.self w.lawful.ensures.known w.used.ensures))
+          w.in-Done.is w.used.new.self w.lawful.ensures.known w.used.ensures) (λ is. tt))
       | in_default w ↦
           rw w.self-is (performs-told made (goes-refused g.R.Rule.shows client k reply old new from done d refl
-          (λ s at. w.in_default.not-Done at)))
+          (λ s at. w.in_default.not-Done at)) (λ is. tt))
     ]

@@ -1,4 +1,4 @@
-use Rattle.std.proofs.Common.{Ok, subst, sym, refl}
+use Rattle.std.proofs.Common.{Ok, ap, subst, sym, refl}
 use Rattle.ov_base.specs.declared.call.Call.TheVariants.{Unlink}
 use Rattle.ov_base.specs.declared.reply.Reply.TheVariants.{Done, Refused}
 use Rattle.merged_lookup.specs.Merged.{lowers_of}
@@ -37,6 +37,7 @@ returns-in-Ok g c =
     (subst (λ o. MakesCall client (Unlink path) old new (Ok (outcome_reply o))) c.in-Ok.is (said.makes client)) refl
     (λ s a passes. law_of_unlinked g.R.Rule.shows (mount_upper old) (mount_upper new) (lowers_of old.layers) s client path passes
     c.in-Ok.object (rw c.in-Ok.is at said.object) c.args.self.now.notifier c.unlinked.new.self a.tracks c.lawful.ensures.known c.unlinked.ensures)
+    (said.marks (ap outcome_reply c.in-Ok.is))
 
 pub returns-in-Err : goal.returns-in-Err
 returns-in-Err g c =

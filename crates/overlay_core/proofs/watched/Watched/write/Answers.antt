@@ -36,11 +36,11 @@ returns g c =
       | in-Written+then-not-is_empty w ↦
           rw w.self-is (performs-told made (goes-written shows client k reply old new from done d bytes refl w.in-Written.field-0 w.in-Written.is
           (some-bytes w.as_slice.result.now bytes w.as_slice.ensures w.is_empty.result w.is_empty.ensures w.if-not-is_empty.true)
-          w.used.new.self w.lawful.ensures.known w.used.ensures))
+          w.used.new.self w.lawful.ensures.known w.used.ensures) (λ is. tt))
       | in-Written+else-not-is_empty w ↦
           rw w.self-is (performs-told made (goes-unwritten shows client k reply old new from done d
-          (ap (Write d) (none-bytes w.as_slice.result.now bytes w.as_slice.ensures w.is_empty.result w.is_empty.ensures w.if-not-is_empty.false))))
+          (ap (Write d) (none-bytes w.as_slice.result.now bytes w.as_slice.ensures w.is_empty.result w.is_empty.ensures w.if-not-is_empty.false))) (λ is. tt))
       | in_default w ↦
           rw w.self-is (performs-told made (goes-refused shows client k reply old new from done d refl
-          (λ s at. w.in_default.not-Written _ at)))
+          (λ s at. w.in_default.not-Written _ at)) (λ is. tt))
     ]
