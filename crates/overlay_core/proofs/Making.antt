@@ -26,6 +26,11 @@ use Rattle.overlay_core.proofs.Performing.{goes-done, goes-refused, keeps-same, 
 use Rattle.overlay_core.proofs.Uses.{goes-silent}
 use Rattle.overlay_core.proofs.Watching.{stays, mount_upper}
 
+-- a call of which nothing is owed leaves that, whatever came of it
+pub marks-unit : (result : Result Reply AllocError) → IfOk result (λ r. r ≡ Done → Unit {0})
+marks-unit (Ok r) = λ is. tt
+marks-unit (Err e) = tt
+
 module _ {F G : Type 0} {shows : Rule} where
   -- a call is made as what it is
   pub performs-as : {c : ℕ} {k j : Call} {old new : Watched F G} {result : Result Reply AllocError} → k ≡ j →

@@ -320,13 +320,10 @@ impl<F: Callback, R: Rule> Core<F, R> {
             LeavesMarks job.old.call (core_layers self.old) (core_layers self.new) }
         ensures kept { CoreKeeps self.old self.new }
     {
-        let turn = if self.read_only {
-            self.waiting.clear();
-            answer(&mut self.watched, job)
-        } else {
-            step(&mut self.watched, &mut self.work, &mut self.waiting, job)
-        };
-        match turn {
+        if self.read_only {
+            return self.answer(job);
+        }
+        match step(&mut self.watched, &mut self.work, &mut self.waiting, job) {
             Turn::Done(reply) => {
                 self.finished += 1;
                 Turn::Done(reply)
@@ -359,13 +356,11 @@ impl<F: Callback, R: Rule> Core<F, R> {
         ensures work { core_work self.new ≡ without (core_work self.old) job.old }
         ensures kept { CoreKeeps self.old self.new }
     {
+        if self.read_only {
+            return self.answer(job);
+        }
         self.waiting.clear();
-        let turn = if self.read_only {
-            answer(&mut self.watched, job)
-        } else {
-            make(&mut self.watched, &mut self.work, job)
-        };
-        match turn {
+        match make(&mut self.watched, &mut self.work, job) {
             Turn::Done(reply) => {
                 self.finished += 1;
                 Turn::Done(reply)
@@ -373,6 +368,41 @@ impl<F: Callback, R: Rule> Core<F, R> {
             Turn::NoMemory => Turn::NoMemory,
             Turn::More => unreachable!(),
         }
+    }
+
+    // The one step of a job where nothing may be written.
+    fn answer(&mut self, job: &mut Job) -> Turn
+        requires read_only { core_read_only self.old ≡ true }
+        requires open { job.old.standing ≡ Standing.Open }
+        requires attached { has_client self.old job.old.client ≡ true }
+        requires bound { core_finished self.old + 1 < 2 ^ 63 }
+        ensures job { (job.new.client ≡ job.old.client) × (job.new.call ≡ job.old.call) }
+        ensures turn { TurnsTo self.old job.old self.new job.new result }
+        ensures steps { job.new.steps ≡ job.old.steps + 1 }
+        ensures step { (s : State) → CoreAgrees self.old s → CoreSteps self.old job.old
+            self.new job.new result (next_by (core_mount self.old) job.old
+            (held_by (core_work self.old) job.old) (refusal s job.old.client job.old.call)) }
+        ensures over { result ≢ Turn.More }
+        ensures memory { takes_no_memory job.old.call ≡ true → result ≢ Turn.NoMemory }
+        ensures finished { core_finished self.new ≡ finished_after result (core_finished self.old) }
+        ensures clients { KeepsAttached (core_clients self.old) (core_clients self.new) }
+        ensures layers { KeepsLayers job.old.call (core_layers self.old) (core_layers self.new) }
+        ensures brings { BringsUp job.old.call (core_layers self.old) (core_layers self.new) }
+        ensures refused { (errno : Errno) → result ≡ Turn.Done (Reply.Refused errno) →
+            core_layers self.new ≡ core_layers self.old }
+        ensures marks { result ≡ Turn.Done Reply.Done →
+            LeavesMarks job.old.call (core_layers self.old) (core_layers self.new) }
+        ensures work { core_work self.new ≡ without (core_work self.old) job.old }
+        ensures kept { CoreKeeps self.old self.new }
+    {
+        self.waiting.clear();
+        let turn = answer(&mut self.watched, job);
+        match &turn {
+            Turn::Done(_) => self.finished += 1,
+            Turn::NoMemory => {}
+            Turn::More => unreachable!(),
+        }
+        turn
     }
 
     /// Gives up a job, with its temp, and hands its call back; nothing that is shown changes.

@@ -150,3 +150,12 @@ returns-in-NoMemory-clause-brings g c =
 
 pub returns-in-NoMemory-clause-clients : goal.returns-in-NoMemory-clause-clients
 returns-in-NoMemory-clause-clients g c = c.in-NoMemory.ensures.makes.2.clients
+
+pub returns-in-Done-clause-marks : goal.returns-in-Done-clause-marks
+returns-in-Done-clause-marks g c = c.in-Done.ensures.makes.2.marks
+
+pub returns-in-More-clause-marks : goal.returns-in-More-clause-marks
+returns-in-More-clause-marks g c = c.in-More.ensures.makes.2.marks
+
+pub returns-in-NoMemory-clause-marks : goal.returns-in-NoMemory-clause-marks
+returns-in-NoMemory-clause-marks g c = c.in-NoMemory.ensures.makes.2.marks

@@ -94,3 +94,9 @@ pub returns-in-NoMemory-clause-brings : goal.returns-in-NoMemory-clause-brings
 returns-in-NoMemory-clause-brings g c =
     brings-made g.R.Rule.shows c.args.self.now.watched c.make.new.watched _ _ _ _ _ _ _ c.args.self.now.agrees
     c.in-NoMemory.ensures.makes
+
+pub returns-in-Done-clause-marks : goal.returns-in-Done-clause-marks
+returns-in-Done-clause-marks g c = c.in-Done.ensures.makes.marks
+
+pub returns-in-NoMemory-clause-marks : goal.returns-in-NoMemory-clause-marks
+returns-in-NoMemory-clause-marks g c = c.in-NoMemory.ensures.makes.marks

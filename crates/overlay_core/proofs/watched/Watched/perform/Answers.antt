@@ -1,6 +1,7 @@
-use Rattle.mount_calls.proofs.LeftMarks.{marks-none}
+use Rattle.std.proofs.Common.{subst, sym}
+use Rattle.mount_calls.specs.LeftMarks.{MarksIfDone}
 use Rattle.mount_calls.proofs.Seen.{looks-of}
-use Rattle.overlay_core.proofs.Making.{performs-as}
+use Rattle.overlay_core.proofs.Making.{marks-unit, performs-as}
 use Rattle.overlay_core.proofs.watched.Watched.perform.Goals as goal
 
 pub returns-in-Chmod : goal.returns-in-Chmod
@@ -9,7 +10,7 @@ returns-in-Chmod g c =
     performs-as c.in-Chmod.is (record {
       goes = said.goes;
       refused = said.refused;
-      marks = marks-none _ _ _ tt c.alter.result;
+      marks = marks-unit c.alter.result;
       no_memory = said.err;
       kept = said.kept;
     })
@@ -20,7 +21,7 @@ returns-in-Chown g c =
     performs-as c.in-Chown.is (record {
       goes = said.goes;
       refused = said.refused;
-      marks = marks-none _ _ _ tt c.alter-in-Chown.result;
+      marks = marks-unit c.alter-in-Chown.result;
       no_memory = said.err;
       kept = said.kept;
     })
@@ -31,7 +32,7 @@ returns-in-SetAttribute g c =
     performs-as c.in-SetAttribute.is (record {
       goes = said.goes;
       refused = said.refused;
-      marks = marks-none _ _ _ tt c.alter-in-SetAttribute.result;
+      marks = marks-unit c.alter-in-SetAttribute.result;
       no_memory = said.err;
       kept = said.kept;
     })
@@ -42,7 +43,7 @@ returns-in-DeleteAttribute g c =
     performs-as c.in-DeleteAttribute.is (record {
       goes = said.goes;
       refused = said.refused;
-      marks = marks-none _ _ _ tt c.alter-in-DeleteAttribute.result;
+      marks = marks-unit c.alter-in-DeleteAttribute.result;
       no_memory = said.err;
       kept = said.kept;
     })
@@ -53,7 +54,8 @@ returns-in-Hardlink g c =
     record {
       goes = said.goes;
       refused = said.refused;
-      marks = marks-none _ _ _ (rw c.in-Hardlink.is tt) c.link.result;
+      marks = subst (λ k. MarksIfDone k c.args.self.now.mount.layers c.link.new.self.mount.layers c.link.result) (sym c.in-Hardlink.is)
+          (marks-unit c.link.result);
       no_memory = said.err;
       kept = said.kept;
     }
@@ -69,7 +71,7 @@ returns-in-Open g c =
     performs-as c.in-Open.is (record {
       goes = said.goes;
       refused = said.refused;
-      marks = marks-none _ _ _ tt c.«open».result;
+      marks = marks-unit c.«open».result;
       no_memory = said.err;
       kept = said.kept;
     })

@@ -1,0 +1,61 @@
+use Rattle.std.proofs.Common.{false, ◌+◌, subst, sym}
+use Rattle.plain_model.specs.Runs.{Called}
+use Rattle.overlay_core.specs.Mounting.{machine_options}
+use Rattle.overlay_core.specs.Watching.{GoesAs}
+use Rattle.overlay_core.proofs.Agreeing.{given-more, given-same, has-begun, limits-on, some-finished, some-more, temps-on}
+use Rattle.overlay_core.proofs.ReadOnly.{blank-on, state-goes, state-stays}
+use Rattle.overlay_core.proofs.Waited.{none-waits}
+use Rattle.overlay_core.proofs.mounted.Core.answer.Goals as goal
+
+pub invariant_of-self : goal.invariant_of-self
+invariant_of-self g c =
+    let self = c.args.self.now in
+    let old = self.watched in
+    let new = c.answer-turn.new.watched in
+    let job = c.args.job.now in
+    let reads = rw c.in-Done.is at c.answer-turn.ensures.reads in
+    record {
+      agrees = state-goes g.R.Rule.shows old.mount new.mount old.notifier new.notifier job.client (Called job.call c.in-Done.field-0) self.agrees reads.turns.0;
+      begins = has-begun (self.finished + 1) (machine_options false self.options) new.mount new.notifier (some-more self.finished);
+      given = given-more old.mount.clients.next new.mount.clients.next self.finished self.given reads.clients.next;
+      short = self.short;
+      waits = none-waits new.mount c.clear.new.self.items c.clear.ensures.items;
+      temps = temps-on self.work old.mount.layers new.mount.layers reads.lowers self.temps;
+      limits = limits-on old.mount.layers new.mount.layers reads.lowers self.limits;
+      blank = blank-on self.read_only old.mount.layers new.mount.layers reads.lowers reads.objects self.blank;
+      idle = self.idle;
+    }
+
+pub invariant_of-self-in-NoMemory : goal.invariant_of-self-in-NoMemory
+invariant_of-self-in-NoMemory g c =
+    let self = c.args.self.now in
+    let old = self.watched in
+    let new = c.answer-turn.new.watched in
+    let reads = rw c.in-NoMemory.is at c.answer-turn.ensures.reads in
+    let there = old.mount.clients.rising c.args.job.now.client c.requires.attached in
+    record {
+      agrees = state-stays old.mount new.mount old.notifier new.notifier self.agrees reads.turns.0;
+      begins = has-begun self.finished (machine_options false self.options) new.mount new.notifier (some-finished c.args.job.now.client old.mount.clients.next self.finished there self.given);
+      given = given-same old.mount.clients.next new.mount.clients.next self.finished self.given reads.clients.next;
+      short = self.short;
+      waits = none-waits new.mount c.clear.new.self.items c.clear.ensures.items;
+      temps = temps-on self.work old.mount.layers new.mount.layers reads.lowers self.temps;
+      limits = limits-on old.mount.layers new.mount.layers reads.lowers self.limits;
+      blank = blank-on self.read_only old.mount.layers new.mount.layers reads.lowers reads.objects self.blank;
+      idle = self.idle;
+    }
+
+pub returns-in-Done-clause-turn : goal.returns-in-Done-clause-turn
+returns-in-Done-clause-turn g c =
+    let old = c.args.self.now.watched in
+    let new = c.answer-turn.new.watched in
+    let job = c.args.job.now in
+    let reads = rw c.in-Done.is at c.answer-turn.ensures.reads in
+    let turns = reads.turns in
+    rw c.in-Done.is (subst (λ b. GoesAs b g.R.Rule.shows old.mount old.notifier job.client (Called job.call c.in-Done.field-0) new.mount new.notifier) (sym c.requires.read_only) turns.0, turns.1)
+
+pub returns-in-Done-clause-marks : goal.returns-in-Done-clause-marks
+returns-in-Done-clause-marks g c = c.answer-turn.ensures.reads.marks
+
+pub returns-in-NoMemory-clause-marks : goal.returns-in-NoMemory-clause-marks
+returns-in-NoMemory-clause-marks g c = c.answer-turn.ensures.reads.marks
