@@ -3,15 +3,13 @@ use Rattle.std.proofs.Common.{◌≡◌, ◌<◌, ℕ, zero, suc, List, [], ◌�
 use Rattle.std.proofs.lemmas.Bool.{false≢true, not-true}
 use Rattle.std.specs.Option.{option_and_then}
 use Rattle.slab.specs.Slab.{get}
-use Rattle.ov_base.specs.declared.options.Options.{Options}
 use Rattle.plain_model.specs.Layers.{Inode, Layer, Path, shows}
 use Rattle.plain_model.specs.Limits.{IsWithinLimits}
 use Rattle.layer_tree.specs.Tree.{Tree, inode_of, layer_of, layers_given}
 use Rattle.layer_tree.specs.declared.node.Node.{Node}
 use Rattle.overlay_core.proofs.Agreeing.{all-below}
 use Rattle.overlay_core.specs.Marks.{astray, goes_astray}
-use Rattle.overlay_core.specs.Mounting.{IsAstray, IsFault, IsMountable, shows_file}
-use Rattle.overlay_core.specs.declared.mount_faults.MountFault.{MountFault}
+use Rattle.overlay_core.specs.Mounting.{IsAstray, shows_file}
 
 -- a mark that is astray is one
 astray-mark : (lowers : List Layer) (o : Option Path) → astray lowers o ≡ true → (q : Path) × (o ≡ Some q) × (shows_file (shows 1 lowers q) ≡ false)
@@ -43,16 +41,6 @@ pub any-layer : (P : Layer → Type 0) (ts : List Tree) (k : ℕ) (t : Tree) →
 any-layer P [] k t within is p = absurd (omega (arith, within))
 any-layer P (s ∷ ts) zero t within is p = (0, layer_of s, omega arith, refl, subst (λ t. P (layer_of t)) (sym is) p)
 any-layer P (s ∷ ts) (suc k) t within is p = let m = any-layer P ts k t (omega (arith, within)) is p in (suc m.0, m.1, omega (arith, m.2), m.3, m.4)
-
--- the trees of a slice are a mount where those that it is taken of are
-pub mountable-in : (n : ℕ) (o : Options) (U : Option Layer) (ts items : List Tree) → ts ≡ items → length ts ≡ n → IsMountable (length ts) o U (map layer_of ts) → IsMountable n o U (map layer_of items)
-mountable-in n o U ts items same len is =
-    subst (λ k. IsMountable k o U (map layer_of items)) len (subst (λ x. IsMountable (length ts) o U (map layer_of x)) same is)
-
--- and why they are none is so why those are none
-pub fault-in : (n : ℕ) (o : Options) (U : Option Layer) (ts items : List Tree) (f : MountFault) → ts ≡ items → length ts ≡ n → IsFault (length ts) o U (map layer_of ts) f → IsFault n o U (map layer_of items) f
-fault-in n o U ts items f same len is =
-    subst (λ k. IsFault k o U (map layer_of items) f) len (subst (λ x. IsFault (length ts) o U (map layer_of x) f) same is)
 
 -- the lower layers are within limits where all that are given are
 pub given-below : (u : Option Tree) (ts : List Tree) → All IsWithinLimits (layers_given u ts) → All IsWithinLimits (map layer_of ts)
