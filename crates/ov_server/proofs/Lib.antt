@@ -1,3 +1,4 @@
+pub mod Arguments
 pub mod Clients
 pub mod Histories
 pub mod JobSteps
