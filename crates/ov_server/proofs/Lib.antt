@@ -1,4 +1,3 @@
-pub mod Arguments
 pub mod Clients
 pub mod Histories
 pub mod JobSteps
@@ -6,3 +5,4 @@ pub mod Manifests
 pub mod Mountable
 pub mod Scripts
 pub mod Stages
+pub mod Told

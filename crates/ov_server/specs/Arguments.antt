@@ -165,9 +165,9 @@ AsksMore rows (Serve serving) = AsksServe rows serving
 AsksMore rows _ = Unit {0}
 
 -- it asks to serve this manifest, which is read up to so many bytes
-pub record IsServing (rows : List Row) (named : List ℕ) (limit : ℕ) (asked : Serving) : Type 0 where
+pub record IsServing (rows : List Row) (named : List ℕ) (told : ℕ) (asked : Serving) : Type 0 where
   pub manifest : asked.manifest.now ≡ named
-  pub limit : asked.manifest_limit ≡ limit
+  pub limit : asked.manifest_limit ≡ told
   pub more : AsksServe rows asked
 
 -- a parse met the subcommand of this name, whose arguments name this manifest and tell its limit

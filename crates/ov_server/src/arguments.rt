@@ -285,7 +285,8 @@ fn serving_of<'a>(
 fn history_of(matches: &ArgMatches<'_>) -> Option<Option<HistoryLength>>
     ensures { IfSome result (λ length. Spells (one_of (codes "history") (rows_of (found_of matches.now))) (option_map places_in length)) }
 {
-    match matches.try_get_one("history").ok()? {
+    let told = matches.try_get_one("history").ok()?;
+    match told {
         Some(places) => Some(Some(HistoryLength::new(places)?)),
         None => Some(None),
     }

@@ -1,7 +1,7 @@
 use Rattle.std.proofs.Common.{◌≡◌, ◌∙◌, codes, refl, sym}
 use Rattle.clap.specs.Matches.{found_of}
 use Rattle.clap.proofs.WalkLemmas.{first_value-rows}
-use Rattle.ov_server.proofs.Arguments.{flag, told, told_if}
+use Rattle.ov_server.proofs.Told.{flag, told, told_if}
 use Rattle.ov_server.proofs.arguments.serving_of.Goals as goal
 
 pub returns : goal.returns
