@@ -1,13 +1,12 @@
 // The socket on which connections are waited for.
 use ov_server::{Fault, Serving};
-use std::fs;
 use std::fs::Files;
-use std::io;
 use std::io::{Eprint, ErrorKind};
 use std::net::Net;
 use std::os::fd::{AsRawFd, IntoRawFd, RawFd};
 use std::os::unix::fs::FileTypeExt;
 use std::os::unix::net::{UnixListener, UnixStream};
+use std::{fs, io};
 
 /// The descriptor of standard error. Those of standard input and output are before it.
 const STANDARD_ERROR: RawFd = 2;
@@ -58,8 +57,7 @@ fn bind<R: Files + Net>(rt: &R, serving: &Serving<'_>) -> io::Result<UnixListene
         Err(fault)
             if serving.unlink
                 && fault.kind() == ErrorKind::AddrInUse
-                && is_left_behind(rt, path)? =>
-        {
+                && is_left_behind(rt, path)? => {
             fs::remove_file(rt, path)?;
             UnixListener::bind(rt, path)
         }

@@ -19,10 +19,10 @@ returns c =
         history_told = c.in_ok-history.ensures;
         idle_told = told_if found (codes "idle") c.try_get_one-2.result c.in_ok-idle.idle
             c.in_ok-idle.ensures.value c.try_get_one-2.ensures.none c.try_get_one-2.ensures.value;
-        unlinks = flag found (codes "unlink") c.get_flag-unlink.unlink
+        unlinks = flag found (codes "unlink") c.get_flag-unlink.result
             c.get_flag-unlink.ensures.value c.get_flag-unlink.ensures.other
             c.get_flag-unlink.ensures.none;
-        tells = flag found (codes "verbose") c.get_flag-verbose.verbose
+        tells = flag found (codes "verbose") c.get_flag-verbose.result
             c.get_flag-verbose.ensures.value c.get_flag-verbose.ensures.other
             c.get_flag-verbose.ensures.none;
       };
