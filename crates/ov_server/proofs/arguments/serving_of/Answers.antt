@@ -1,4 +1,4 @@
-use Rattle.std.proofs.Common.{◌≡◌, ◌∙◌, codes, refl, sym}
+use Rattle.std.proofs.Common.{◌∙◌, codes, refl, sym}
 use Rattle.clap.specs.Matches.{found_of}
 use Rattle.clap.proofs.WalkLemmas.{first_value-rows}
 use Rattle.ov_server.proofs.Told.{flag, told, told_if}
