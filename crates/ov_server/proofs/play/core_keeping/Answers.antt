@@ -22,8 +22,8 @@ unreachable-requires g c =
     let told = c.in_ok-upper.ensures in
     let lasts = c.lasting-options.ensures in
     let within = told-length (parse_document c.args.manifest.now) c.in_ok-upper.told told.options in
-    no-fault (vec_len c.in_ok-upper.lowers) c.lasting-options.options c.in_ok-upper.upper c.in_ok-upper.lowers.items c.in-Err.field-0.fault
-    (sound-number (is_some c.in_ok-upper.upper) (vec_len c.in_ok-upper.lowers) c.lasting-options.options c.in-Err.field-0.fault told.some_lower told.two_lowers told.few_lowers (lasts.least within.0) (lasts.most within.1))
+    no-fault (vec_len c.in_ok-upper.lowers) c.lasting-options.result c.in_ok-upper.upper c.in_ok-upper.lowers.items c.in-Err.field-0.fault
+    (sound-number (is_some c.in_ok-upper.upper) (vec_len c.in_ok-upper.lowers) c.lasting-options.result c.in-Err.field-0.fault told.some_lower told.two_lowers told.few_lowers (lasts.least within.0) (lasts.most within.1))
     (λ there marks. lasts.redirects ∙ told.redirected there (sym lasts.metacopy ∙ marks)) told.unmarked (rw c.in-Err.is at c.in_ok-core.ensures.fault)
 
 pub returns-clause-count : goal.returns-clause-count
@@ -40,9 +40,9 @@ returns-clause-manifest g c =
 
 pub returns-clause-places : goal.returns-clause-places
 returns-clause-places g c =
-    let options : core_options c.in-Ok.core ≡ c.lasting-options.options = rw c.in-Ok.is at c.in_ok-core.ensures.options in
+    let options : core_options c.in-Ok.core ≡ c.lasting-options.result = rw c.in-Ok.is at c.in_ok-core.ensures.options in
     let finished : core_finished c.in-Ok.core ≡ 0 = rw c.in-Ok.is at c.in_ok-core.ensures.finished in
-    first_places c.in-Ok.core (rw options (bounded (is_some (option_map layer_of c.in_ok-upper.upper)) (vec_len c.in_ok-upper.lowers) c.lasting-options.options ((rw c.in-Ok.is at c.in_ok-core.ensures.mounted).0))) finished (rw c.in-Ok.is at c.in_ok-core.ensures.nobody)
+    first_places c.in-Ok.core (rw options (bounded (is_some (option_map layer_of c.in_ok-upper.upper)) (vec_len c.in_ok-upper.lowers) c.lasting-options.result ((rw c.in-Ok.is at c.in_ok-core.ensures.mounted).0))) finished (rw c.in-Ok.is at c.in_ok-core.ensures.nobody)
 
 pub returns-clause-begins : goal.returns-clause-begins
 returns-clause-begins g c = record {
