@@ -33,16 +33,14 @@ play:
 	@tools/try play $(EXAMPLE).toml < $(EXAMPLE).script
 
 try-serve:
-	@rm -f $(SOCKET)
-	@tools/try serve $(EXAMPLE).toml $(SOCKET) --verbose
+	@tools/try serve $(EXAMPLE).toml $(SOCKET) --verbose --unlink
 
 build:
 	@tools/need-kit && tools/build
 
-# A server leaves its socket's file behind, and takes no path that is taken.
+# A server leaves its socket's file behind, which the next one takes.
 serve: build
-	@rm -f $(SOCKET)
-	out/overlayd serve $(EXAMPLE).toml $(SOCKET) --verbose
+	out/overlayd serve $(EXAMPLE).toml $(SOCKET) --verbose --unlink
 
 # The gate has at most four proofs side by side, with one job each: several jobs on one proof take
 # up to half as much processor time again. What it leaves of the program goes where build puts it.

@@ -5,3 +5,4 @@ pub mod Manifests
 pub mod Mountable
 pub mod Scripts
 pub mod Stages
+pub mod Told

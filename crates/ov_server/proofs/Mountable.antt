@@ -75,20 +75,17 @@ manifest-length m o h =
     let same : b.0 ≡ a.0 = either-ok _ b.0 a.0 fault.Layers b.2 in
     subst (λ (x : Options). (2 ≤ x.history) × (x.history ≤ 1000000)) (same ∙ whole) (options-length m b.0 b.1)
 
-told-length : (o : Option Members) (x : Options) → option_map manifest_of o ≡ Some (Ok x) → (2 ≤ x.history) × (x.history ≤ 1000000)
+pub told-length : (o : Option Members) (x : Options) → option_map manifest_of o ≡ Some (Ok x) → (2 ≤ x.history) × (x.history ≤ 1000000)
 told-length None x h = absurd (cc)
 told-length (Some m) x h = manifest-length m x (let e : Some (manifest_of m) ≡ Some (Ok x) = h in cc)
 
--- and so many layers with such options are no fault
-pub sound-number : (has : Bool) (n : ℕ) (o : Option Members) (x : Options) (f : MountFault) → 0 < n → (has ≡ false → 2 ≤ n) → n ≤ 16 → option_map manifest_of o ≡ Some (Ok x) → mount_fault has n x ≡ Some f → ⊥
-sound-number has n o x f some two few told h = by has two h
-  where
-    length : (2 ≤ x.history) × (x.history ≤ 1000000)
-    length = told-length o x told
-
-    by : (has : Bool) → (has ≡ false → 2 ≤ n) → mount_fault has n x ≡ Some f → ⊥
-    by true two h = let none : mount_fault true n x ≡ None = grind (arith, nat_tests, length.0, length.1) in cc
-    by false two h = let least : 2 ≤ n = two refl in let none : mount_fault false n x ≡ None = grind (arith, nat_tests, length.0, length.1) in cc
+-- and so many layers with options of such a length are no fault
+pub sound-number : (has : Bool) (n : ℕ) (x : Options) (f : MountFault) → 0 < n → (has ≡ false → 2 ≤ n) → n ≤ 16 → 2 ≤ x.history → x.history ≤ 1000000 → mount_fault has n x ≡ Some f → ⊥
+sound-number true n x f some two few least most h =
+    let none : mount_fault true n x ≡ None = grind (arith, nat_tests, least, most) in cc
+sound-number false n x f some two few least most h =
+    let enough : 2 ≤ n = two refl in
+    let none : mount_fault false n x ≡ None = grind (arith, nat_tests, least, most) in cc
 
 -- so they are a mount, where their number and the options are no fault
 pub no-fault : (n : ℕ) (o : Options) (upper : Option Tree) (lowers : List Tree) (f : MountFault) → (mount_fault (is_some upper) n o ≡ Some f → ⊥) → (is_some upper ≡ true → o.metacopy ≡ true → o.redirects ≡ true) → All HasNoMark (layers_given upper lowers) → IsFault n o (option_map layer_of upper) (map layer_of lowers) f → ⊥

@@ -1,6 +1,6 @@
 -- The command line of the program, and what its words ask for.
 use Rattle.std.specs.Prelude.{◌≡◌, ℕ, Bool, List, [], ◌∷◌, Option, Some, None, Ok, true, false}
-use Rattle.std.specs.Prelude.{codes, drop, ◌⊎◌}
+use Rattle.std.specs.Prelude.{codes, drop, option_map, ◌⊎◌}
 use Rattle.std.specs.declared.num.ParseIntError.{ParseIntError}
 use Rattle.std.specs.Str.Parse.{ParsesUnsigned}
 use Rattle.clap.specs.Simple.{App, new_app, new_rule, on_top, subcommand_of, subcommand_rows_of, with_rule, with_subcommand}
@@ -11,6 +11,8 @@ use Rattle.clap.specs.declared.error.Error.{Error}
 use Rattle.clap.specs.declared.error.kind.ErrorKind.TheVariants as kind
 use Rattle.clap.specs.declared.parser.matches.ArgMatches.{ArgMatches}
 use Rattle.ov_server.specs.declared.arguments.Invocation.{Invocation}
+use Rattle.ov_server.specs.declared.arguments.Serving.{Serving}
+use Rattle.ov_server.specs.declared.history_length.HistoryLength.{HistoryLength}
 use Rattle.clap.specs.declared.builder.action.ArgAction.TheVariants as action
 use Rattle.clap.specs.declared.builder.value_parser.ValueParser.TheVariants as vp
 use Rattle.ov_server.specs.declared.arguments.Invocation.TheVariants.{Show, Play, Serve}
@@ -19,9 +21,18 @@ use Rattle.ov_server.specs.declared.arguments.Invocation.TheVariants.{Show, Play
 abbrev pub manifest_rule : Rule
 manifest_rule = record (new_rule (codes "MANIFEST")) { required = true }
 
--- a subcommand of this name, with that argument
+-- `--manifest-limit BYTES`: 1 to 2^40, and 2^30 where it is left out
+abbrev pub manifest_limit_rule : Rule
+manifest_limit_rule = record (new_rule (codes "manifest-limit")) {
+  long = Some (codes "manifest-limit");
+  value_names = 1;
+  parser = Some (vp.Unsigned 1 1099511627776);
+  defaults = codes "1073741824" ∷ [];
+}
+
+-- a subcommand of this name, with these arguments
 abbrev pub app_named : List ℕ → App
-app_named name = with_rule (new_app name) manifest_rule
+app_named name = with_rule (with_rule (new_app name) manifest_rule) manifest_limit_rule
 
 -- the program without its subcommands, one of which is wanted; it has a version
 abbrev pub bare_app : App
@@ -49,6 +60,29 @@ sessions_rule = record (new_rule (codes "sessions")) {
   parser = Some (vp.Unsigned 1 1000000);
 }
 
+-- `--history N`: 2 to 1,000,000
+abbrev pub history_rule : Rule
+history_rule = record (new_rule (codes "history")) {
+  long = Some (codes "history");
+  value_names = 1;
+  parser = Some (vp.Unsigned 2 1000000);
+}
+
+-- `--idle SECONDS`: 1 to 86,400
+abbrev pub idle_rule : Rule
+idle_rule = record (new_rule (codes "idle")) {
+  long = Some (codes "idle");
+  value_names = 1;
+  parser = Some (vp.Unsigned 1 86400);
+}
+
+-- `--unlink`
+abbrev pub unlink_rule : Rule
+unlink_rule = record (new_rule (codes "unlink")) {
+  long = Some (codes "unlink");
+  action = Some action.SetTrue;
+}
+
 -- `--verbose`, or `-v`
 abbrev pub verbose_rule : Rule
 verbose_rule = record (new_rule (codes "verbose")) {
@@ -59,8 +93,9 @@ verbose_rule = record (new_rule (codes "verbose")) {
 
 -- the subcommand that serves
 abbrev pub serve_app : App
-serve_app = with_rule (with_rule (with_rule (with_rule (app_named (codes "serve")) socket_rule)
-    workers_rule) sessions_rule) verbose_rule
+serve_app = with_rule (with_rule (with_rule (with_rule (with_rule (with_rule (with_rule
+    (app_named (codes "serve")) socket_rule) workers_rule) sessions_rule) history_rule) idle_rule)
+    unlink_rule) verbose_rule
 
 -- THE COMMAND LINE: `overlayd show MANIFEST`, `overlayd play MANIFEST`, `overlayd serve MANIFEST
 -- SOCKET` with its options, `overlayd --version` or `overlayd --help`
@@ -73,15 +108,21 @@ overlayd_app =
 
 -- the name of the subcommand
 abbrev pub name_of : Invocation → List ℕ
-name_of (Show manifest) = codes "show"
-name_of (Play manifest) = codes "play"
-name_of (Serve manifest socket workers sessions verbose) = codes "serve"
+name_of (Show manifest limit) = codes "show"
+name_of (Play manifest limit) = codes "play"
+name_of (Serve serving) = codes "serve"
 
 -- the name of the manifest's file
 abbrev pub manifest_named : Invocation → List ℕ
-manifest_named (Show manifest) = manifest.now
-manifest_named (Play manifest) = manifest.now
-manifest_named (Serve manifest socket workers sessions verbose) = manifest.now
+manifest_named (Show manifest limit) = manifest.now
+manifest_named (Play manifest limit) = manifest.now
+manifest_named (Serve serving) = serving.manifest.now
+
+-- up to how many bytes it is read
+abbrev pub limit_of : Invocation → ℕ
+limit_of (Show manifest limit) = limit
+limit_of (Play manifest limit) = limit
+limit_of (Serve serving) = serving.manifest_limit
 
 -- the text is this number in decimal, below 2^64
 abbrev pub IsNumber : List ℕ → ℕ → Type 0
@@ -93,41 +134,56 @@ Spells None None = Unit {0}
 Spells (Some text) (Some n) = IsNumber text n
 Spells _ _ = ⊥
 
--- what a parse of `serve` says: the socket, the numbers of workers and of sessions, and whether what
--- is served is told
-pub record AsksServe (rows : List Row) (socket : List ℕ) (workers : ℕ) (sessions : Option ℕ)
-    (verbose : Bool) : Type 0 where
-  pub socket_named : first_of (codes "SOCKET") rows ≡ Some socket
-  pub workers_told : Spells (one_of (codes "workers") rows) (Some workers)
-  pub sessions_told : Spells (one_of (codes "sessions") rows) sessions
-  pub loud : one_of (codes "verbose") rows ≡ Some (codes "true") → verbose ≡ true
-  pub silent : one_of (codes "verbose") rows ≡ Some (codes "false") → verbose ≡ false
-  pub unsaid : one_of (codes "verbose") rows ≡ None → verbose ≡ false
+-- a parse says up to how many bytes the manifest is read
+abbrev pub TellsLimit : List Row → ℕ → Type 0
+TellsLimit rows limit = Spells (one_of (codes "manifest-limit") rows) (Some limit)
+
+-- a parse says whether the flag of this name is set
+pub record TellsFlag (rows : List Row) (name : List ℕ) (set : Bool) : Type 0 where
+  pub is_set : one_of name rows ≡ Some (codes "true") → set ≡ true
+  pub is_clear : one_of name rows ≡ Some (codes "false") → set ≡ false
+  pub unsaid : one_of name rows ≡ None → set ≡ false
+
+-- how many places a length has
+abbrev pub places_in : HistoryLength → ℕ
+places_in length = length.places
+
+-- what a parse of `serve` says: the socket, the numbers of workers, sessions, places and seconds, and
+-- what is set
+pub record AsksServe (rows : List Row) (asked : Serving) : Type 0 where
+  pub socket_named : first_of (codes "SOCKET") rows ≡ Some asked.socket.now
+  pub workers_told : Spells (one_of (codes "workers") rows) (Some asked.workers)
+  pub sessions_told : Spells (one_of (codes "sessions") rows) asked.sessions
+  pub history_told : Spells (one_of (codes "history") rows) (option_map places_in asked.history)
+  pub idle_told : Spells (one_of (codes "idle") rows) asked.idle
+  pub unlinks : TellsFlag rows (codes "unlink") asked.unlink
+  pub tells : TellsFlag rows (codes "verbose") asked.verbose
 
 -- what a parse says beside the manifest
 abbrev pub AsksMore : List Row → Invocation → Type 0
-AsksMore rows (Serve manifest socket workers sessions verbose) =
-    AsksServe rows socket.now workers sessions verbose
+AsksMore rows (Serve serving) = AsksServe rows serving
 AsksMore rows _ = Unit {0}
 
--- it asks to serve this manifest
-abbrev pub IsServing : List Row → List ℕ → Invocation → Type 0
-IsServing rows named (Serve manifest socket workers sessions verbose) =
-    (manifest.now ≡ named) × AsksServe rows socket.now workers sessions verbose
-IsServing rows named _ = ⊥
+-- it asks to serve this manifest, which is read up to so many bytes
+pub record IsServing (rows : List Row) (named : List ℕ) (told : ℕ) (asked : Serving) : Type 0 where
+  pub manifest : asked.manifest.now ≡ named
+  pub limit : asked.manifest_limit ≡ told
+  pub more : AsksServe rows asked
 
--- a parse met the subcommand of this name, whose argument names this manifest
+-- a parse met the subcommand of this name, whose arguments name this manifest and tell its limit
 pub record Names (matches : ArgMatches) (asked : Invocation) : Type 0 where
   pub rows : List Row
   pub subcommand : subcommand_rows_of matches ≡ Some (name_of asked, rows)
   pub manifest : first_of (codes "MANIFEST") rows ≡ Some (manifest_named asked)
+  pub limit : TellsLimit rows (limit_of asked)
   pub more : AsksMore rows asked
 
--- the words name the subcommand, and its argument names this manifest
+-- the words name the subcommand, and its arguments name this manifest and tell its limit
 pub record IsAskedBy (words : List (List ℕ)) (asked : Invocation) : Type 0 where
   pub rows : List Row
   pub subcommand : subcommand_of overlayd_app words ≡ Some (name_of asked, rows)
   pub manifest : first_of (codes "MANIFEST") rows ≡ Some (manifest_named asked)
+  pub limit : TellsLimit rows (limit_of asked)
   pub more : AsksMore rows asked
 
 -- one word follows the program's name, and it is this one

@@ -1,6 +1,7 @@
 -- The mount that a manifest tells.
-use Rattle.std.specs.Prelude.{◌≡◌, ℕ, Bool, cond, not, List, ◌∷◌, Option, Some, Ok, IfSome, option_map}
+use Rattle.std.specs.Prelude.{◌≡◌, ℕ, Bool, cond, not, List, ◌∷◌, Option, Some, None, Ok, IfSome, option_map}
 use Rattle.toml.specs.Parse.{parse_document}
+use Rattle.ov_base.specs.declared.options.Options.{Options}
 use Rattle.plain_model.specs.Layers.{Layer}
 use Rattle.layer_tree.specs.Tree.{layer_of}
 use Rattle.merged_lookup.specs.Merged.{lowers_of}
@@ -9,6 +10,7 @@ use Rattle.ov_wire.specs.Manifests.{has_upper}
 use Rattle.ov_wire.specs.ManifestLayers.{AreSpelled, layer_items, manifest_of}
 use Rattle.overlay_core.specs.Views.{core_layers, core_options, core_read_only}
 use Rattle.overlay_core.specs.declared.mounted.Core.{Core}
+use Rattle.ov_server.specs.declared.history_length.HistoryLength.{HistoryLength}
 use Rattle.watch_table.specs.declared.hook.Callback.{Ghosts as Callback}
 use Rattle.watch_table.specs.declared.hook.Rule.{Ghosts as Rule}
 
@@ -21,10 +23,18 @@ abbrev pub HoldManifest : List ℕ → Layers → Type 0
 HoldManifest bytes l =
     IfSome (parse_document bytes) (λ m. AreSpelled (told_layers (has_upper m) l) (layer_items m))
 
+-- options with a history of this length, if one is told
+abbrev pub lasting : Option HistoryLength → Options → Options
+lasting None options = options
+lasting (Some length) options = record options { history = length.places }
+
 -- THE MOUNT OF A MANIFEST: its layers hold what the entries say, its options are those that are told,
--- and it may be written to where it has an upper
+-- but for the length of the history where that is told apart, and it may be written to where it has an
+-- upper
 pub record IsMountOf {F G : Type 0} {asks : Callback F} {rule : Rule G} (bytes : List ℕ)
-    (core : Core F G asks rule) : Type 0 where
+    (history : Option HistoryLength) (core : Core F G asks rule) : Type 0 where
   pub layers : HoldManifest bytes (core_layers core)
-  pub options : option_map manifest_of (parse_document bytes) ≡ Some (Ok (core_options core))
+  pub told : Options
+  pub is_told : option_map manifest_of (parse_document bytes) ≡ Some (Ok told)
+  pub options : core_options core ≡ lasting history told
   pub upper : option_map has_upper (parse_document bytes) ≡ Some (not (core_read_only core))

@@ -1,15 +1,17 @@
 // The command line.
-ghost use Rattle.std.specs.Prelude.{◌≡◌, false, codes, [], ◌∷◌, IfErr, IfOk, IfSome, map};
+ghost use Rattle.std.specs.Prelude.{◌≡◌, false, codes, [], ◌∷◌, IfErr, IfOk, IfSome, map, option_map};
 ghost use Rattle.clap.specs.Faults.{fault_of};
 ghost use Rattle.clap.specs.Kinds.{FailsBy};
 ghost use Rattle.clap.specs.Simple.{app_of};
 ghost use Rattle.clap.specs.Matches.{found_of};
-ghost use Rattle.clap.specs.Walk.{rows_of, rule_of};
+ghost use Rattle.clap.specs.Walk.{one_of, rows_of, rule_of};
 ghost use Rattle.clap.specs.declared.builder.command.Command.TheViews.{out-Command};
 ghost use Rattle.ov_server.specs.Arguments.{IsAskedBy, IsLoneWord, IsRefusedBy, IsServing, Names};
-ghost use Rattle.ov_server.specs.Arguments.{app_named, manifest_rule, overlayd_app, serve_app};
-ghost use Rattle.ov_server.specs.Arguments.{sessions_rule, socket_rule, verbose_rule, workers_rule};
+ghost use Rattle.ov_server.specs.Arguments.{Spells, TellsLimit, app_named, overlayd_app, places_in, serve_app};
+ghost use Rattle.ov_server.specs.Arguments.{manifest_limit_rule, manifest_rule};
+ghost use Rattle.ov_server.specs.Arguments.{history_rule, idle_rule, sessions_rule, socket_rule, unlink_rule, verbose_rule, workers_rule};
 
+use crate::history_length::HistoryLength;
 use clap::builder::ValueParser;
 use clap::error::ErrorKind;
 use clap::{Arg, ArgAction, ArgMatches, Command, Error};
@@ -23,28 +25,42 @@ pub const VERSION: &str = "0.4.0";
 const PLAYED: &str =
     "Plays lines: attach, C CALL, C start CALL, C step [N], C drop, C detach, work, layer I, merge";
 
-/// What the command line asks for.
+/// What the command line asks for. A manifest is read up to so many bytes.
 #[derive(Clone, Copy, Debug, PartialEq, Eq)]
 pub enum Invocation<'a> {
     /// The merged tree of a manifest is printed.
     Show {
         manifest: &'a str,
+        manifest_limit: u64,
     },
     /// A script is played on the mount of a manifest.
     Play {
         manifest: &'a str,
+        manifest_limit: u64,
     },
     /// The mount of a manifest is served on a socket.
-    Serve {
-        manifest: &'a str,
-        socket: &'a str,
-        /// How many connections are served at once.
-        workers: u64,
-        /// After how many sessions each worker ends; none where they never do.
-        sessions: Option<u64>,
-        /// Whether it is told what is served.
-        verbose: bool,
-    },
+    Serve(Serving<'a>),
+}
+
+/// What is served, and how.
+#[derive(Clone, Copy, Debug, PartialEq, Eq)]
+pub struct Serving<'a> {
+    pub manifest: &'a str,
+    /// Up to how many bytes the manifest is read.
+    pub manifest_limit: u64,
+    pub socket: &'a str,
+    /// How many connections are served at once.
+    pub workers: u64,
+    /// After how many sessions each worker ends; none where they never do.
+    pub sessions: Option<u64>,
+    /// How many places the history has; none where the manifest says it.
+    pub history: Option<HistoryLength>,
+    /// After how many seconds a connection that does nothing ends; none where it never does.
+    pub idle: Option<u64>,
+    /// Whether the file of a socket on which nobody listens is removed first.
+    pub unlink: bool,
+    /// Whether it is told what is served.
+    pub verbose: bool,
 }
 
 /// Reads the words of a command line, the program's name first. An error has the text for the user,
@@ -94,6 +110,9 @@ fn serve<'a>(alloc: Global) -> Result<Command<'a>, AllocError>
     .arg(socket(alloc))?
     .arg(workers(alloc))?
     .arg(sessions(alloc))?
+    .arg(history(alloc))?
+    .arg(idle(alloc))?
+    .arg(unlink(alloc))?
     .arg(verbose(alloc))
 }
 
@@ -113,7 +132,7 @@ fn workers<'a>(alloc: Global) -> Arg<'a>
     Arg::new(alloc, "workers")
         .long("workers")
         .value_name("N")
-        .help("How many connections are served at once, 1 to 64; further ones wait")
+        .help("Serve N connections at once, 1 to 64; further ones wait")
         .value_parser(ValueParser::unsigned(1, 64))
         .default_value("8")
 }
@@ -125,8 +144,40 @@ fn sessions<'a>(alloc: Global) -> Arg<'a>
     Arg::new(alloc, "sessions")
         .long("sessions")
         .value_name("K")
-        .help("Each worker ends after K sessions, 1 to 1000000; else they never end")
+        .help("End each worker after K sessions, 1 to 1000000 [default: never]")
         .value_parser(ValueParser::unsigned(1, 1_000_000))
+}
+
+fn history<'a>(alloc: Global) -> Arg<'a>
+    ensures rule { rule_of result ≡ history_rule }
+    ensures local { result.global ≡ false }
+{
+    Arg::new(alloc, "history")
+        .long("history")
+        .value_name("N")
+        .help("Give the history N places, 2 to 1000000 [default: the manifest's]")
+        .value_parser(ValueParser::unsigned(2, 1_000_000))
+}
+
+fn idle<'a>(alloc: Global) -> Arg<'a>
+    ensures rule { rule_of result ≡ idle_rule }
+    ensures local { result.global ≡ false }
+{
+    Arg::new(alloc, "idle")
+        .long("idle")
+        .value_name("SECONDS")
+        .help("End a connection that does nothing so long, 1 to 86400 [default: never]")
+        .value_parser(ValueParser::unsigned(1, 86_400))
+}
+
+fn unlink<'a>(alloc: Global) -> Arg<'a>
+    ensures rule { rule_of result ≡ unlink_rule }
+    ensures local { result.global ≡ false }
+{
+    Arg::new(alloc, "unlink")
+        .long("unlink")
+        .help("Remove a socket's file at SOCKET first, if nobody listens there")
+        .action(ArgAction::SetTrue)
 }
 
 fn verbose<'a>(alloc: Global) -> Arg<'a>
@@ -136,7 +187,7 @@ fn verbose<'a>(alloc: Global) -> Arg<'a>
     Arg::new(alloc, "verbose")
         .long("verbose")
         .short('v')
-        .help("Tells on standard error what is served")
+        .help("Tell on standard error what is served")
         .action(ArgAction::SetTrue)
 }
 
@@ -145,7 +196,10 @@ fn subcommand<'a>(alloc: Global, name: &'a str, about: &'a str) -> Result<Comman
     ensures app { IfOk result (λ command. app_of command ≡ app_named name.entry.now) }
     ensures local { IfOk result (λ command. (out-Command command).has_globals ≡ false) }
 {
-    Command::new(alloc, name).about(about).arg(manifest(alloc))
+    Command::new(alloc, name)
+        .about(about)
+        .arg(manifest(alloc))?
+        .arg(manifest_limit(alloc))
 }
 
 fn manifest<'a>(alloc: Global) -> Arg<'a>
@@ -157,35 +211,83 @@ fn manifest<'a>(alloc: Global) -> Arg<'a>
         .required(true)
 }
 
+fn manifest_limit<'a>(alloc: Global) -> Arg<'a>
+    ensures rule { rule_of result ≡ manifest_limit_rule }
+    ensures local { result.global ≡ false }
+{
+    Arg::new(alloc, "manifest-limit")
+        .long("manifest-limit")
+        .value_name("BYTES")
+        .help("Refuse a manifest of more than BYTES bytes, 1 to 1099511627776")
+        .value_parser(ValueParser::unsigned(1, 1_099_511_627_776))
+        .default_value("1073741824")
+}
+
 fn invocation_of<'a>(matches: &ArgMatches<'a>) -> Option<Invocation<'a>>
     ensures { IfSome result (Names matches.now) }
 {
     let (name, inner) = matches.subcommand()?;
     let manifest = inner.get_str("MANIFEST")?;
+    let manifest_limit = limit_of(inner)?;
     if name == "show" {
-        Some(Invocation::Show { manifest })
+        Some(Invocation::Show {
+            manifest,
+            manifest_limit,
+        })
     } else if name == "play" {
-        Some(Invocation::Play { manifest })
+        Some(Invocation::Play {
+            manifest,
+            manifest_limit,
+        })
     } else if name == "serve" {
-        serving_of(manifest, inner)
+        let serving = serving_of(manifest, manifest_limit, inner)?;
+        Some(Invocation::Serve(serving))
     } else {
         None
     }
 }
 
+fn limit_of(matches: &ArgMatches<'_>) -> Option<u64>
+    ensures { IfSome result (TellsLimit (rows_of (found_of matches.now))) }
+{
+    matches.get_one("manifest-limit")
+}
+
 // What `serve` asks for, on this manifest.
-fn serving_of<'a>(manifest: &'a str, matches: &ArgMatches<'a>) -> Option<Invocation<'a>>
-    ensures { IfSome result (IsServing (rows_of (found_of matches.now)) manifest.entry.now) }
+fn serving_of<'a>(
+    manifest: &'a str,
+    manifest_limit: u64,
+    matches: &ArgMatches<'a>,
+) -> Option<Serving<'a>>
+    ensures { IfSome result (IsServing (rows_of (found_of matches.now)) manifest.entry.now manifest_limit) }
 {
     let socket = matches.get_str("SOCKET")?;
     let workers = matches.get_one("workers")?;
     let sessions = matches.try_get_one("sessions").ok()?;
+    let history = history_of(matches)?;
+    let idle = matches.try_get_one("idle").ok()?;
+    let unlink = matches.get_flag("unlink");
     let verbose = matches.get_flag("verbose");
-    Some(Invocation::Serve {
+    Some(Serving {
         manifest,
+        manifest_limit,
         socket,
         workers,
         sessions,
+        history,
+        idle,
+        unlink,
         verbose,
     })
+}
+
+// The length of the history, if one is told.
+fn history_of(matches: &ArgMatches<'_>) -> Option<Option<HistoryLength>>
+    ensures { IfSome result (λ length. Spells (one_of (codes "history") (rows_of (found_of matches.now))) (option_map places_in length)) }
+{
+    let told = matches.try_get_one("history").ok()?;
+    match told {
+        Some(places) => Some(Some(HistoryLength::new(places)?)),
+        None => Some(None),
+    }
 }

@@ -2,6 +2,7 @@
 ghost use Rattle.std.specs.Prelude.{◌≡◌, ℕ, ◌+◌, ◌*◌, ◌<◌, ◌≤◌, ◌^◌, [], length, nat_eq, position, IfErr, IfOk, IfSome, OnOk};
 ghost use Rattle.overlay_core.specs.Views.{core_finished};
 ghost use Rattle.ov_server.specs.Faults.{AnswersManifest, IsManifestFault, layers_told};
+ghost use Rattle.ov_server.specs.Mounts as mounts;
 ghost use Rattle.ov_server.specs.Mounts.{IsMountOf};
 ghost use Rattle.overlay_core.specs.Histories.{HasPlaces};
 ghost use Rattle.ov_server.specs.Plays as plays;
@@ -13,7 +14,9 @@ ghost use Rattle.ov_server.specs.Stages.{IsInOrder};
 use crate::commands::{LineFault, play_line};
 use crate::devices::{Output, read_some};
 use crate::fault::{DeviceFault, Fault};
+use crate::history_length::HistoryLength;
 use crate::stage::Stage;
+use ov_base::Options;
 use ov_devices::{Sink, Source};
 use ov_wire::manifest_of;
 use overlay_core::{Core, LOOK_UPS_KEPT, Unmounted};
@@ -60,7 +63,7 @@ pub fn play_run_keeping<S: Source, K: Sink, F: Callback + Copy, H: Rule>(
     ensures well { OnOk result ((S.failures input.new ≡ S.failures input.old) × (K.failures output.new.sink ≡ K.failures output.old.sink)) }
     ensures manifest { AnswersManifest manifest.now result }
 {
-    let core = core_keeping(alloc, keys, look_ups, manifest)?;
+    let core = core_keeping(alloc, keys, look_ups, manifest, None)?;
     let outcome = play_on(alloc, core, hooks, input, output);
     output.flush()?;
     outcome?;
@@ -94,21 +97,23 @@ fn play_on<S: Source, K: Sink, F: Callback + Copy, H: Rule>(
     outcome
 }
 
-/// The mount of the layers that the bytes of a manifest spell, without a client.
+/// The mount of the layers that the bytes of a manifest spell, without a client. Its history is as
+/// long as is told, or else as the manifest says.
 pub fn core_of<F: Callback + Drop, H: Rule>(
     alloc: Global,
     keys: RandomState,
     manifest: &[u8],
+    history: Option<HistoryLength>,
 ) -> Result<Core<F, H>, Fault>
     ensures manifest { AnswersManifest manifest.now result }
     ensures err { IfErr result IsManifestFault }
-    ensures mount { IfOk result (IsMountOf manifest.now) }
+    ensures mount { IfOk result (IsMountOf manifest.now history) }
     ensures count { IfOk result (λ core. layers_in core ≡ layers_told manifest.now) }
     ensures begins { IfOk result BeginsOn }
     ensures finished { IfOk result (λ core. core_finished core ≡ 0) }
     ensures places { IfOk result HasPlaces }
 {
-    core_keeping(alloc, keys, LOOK_UPS_KEPT, manifest)
+    core_keeping(alloc, keys, LOOK_UPS_KEPT, manifest, history)
 }
 
 // The same, which keeps at most so many look-ups in the lower layers.
@@ -117,21 +122,40 @@ fn core_keeping<F: Callback + Drop, H: Rule>(
     keys: RandomState,
     look_ups: usize,
     manifest: &[u8],
+    history: Option<HistoryLength>,
 ) -> Result<Core<F, H>, Fault>
     requires { look_ups ≤ 65536 }
     ensures manifest { AnswersManifest manifest.now result }
     ensures err { IfErr result IsManifestFault }
-    ensures mount { IfOk result (IsMountOf manifest.now) }
+    ensures mount { IfOk result (IsMountOf manifest.now history) }
     ensures count { IfOk result (λ core. layers_in core ≡ layers_told manifest.now) }
     ensures begins { IfOk result BeginsOn }
     ensures finished { IfOk result (λ core. core_finished core ≡ 0) }
     ensures places { IfOk result HasPlaces }
 {
-    let (upper, lowers, options) = manifest_of(alloc, keys, manifest)?;
+    let (upper, lowers, told) = manifest_of(alloc, keys, manifest)?;
+    let options = lasting(history, told);
     match Core::mount_keeping(alloc, keys, upper, lowers, options, look_ups) {
         Ok(core) => Ok(core),
         Err(Unmounted { fault: None, .. }) => Err(Fault::Memory),
         Err(_) => unreachable!(),
+    }
+}
+
+// These options with a history of that length, if one is told.
+fn lasting(history: Option<HistoryLength>, options: Options) -> Options
+    ensures told { result ≡ mounts.lasting history options }
+    ensures redirects { result.redirects ≡ options.redirects }
+    ensures metacopy { result.metacopy ≡ options.metacopy }
+    ensures least { 2 ≤ options.history → 2 ≤ result.history }
+    ensures most { options.history ≤ 1000000 → result.history ≤ 1000000 }
+{
+    match history {
+        Some(length) => Options {
+            history: length.places(),
+            ..options
+        },
+        None => options,
     }
 }
 

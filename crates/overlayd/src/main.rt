@@ -1,20 +1,26 @@
 //! The program: shows the merged tree of a manifest, plays a script on its mount, or serves it.
 #![tactic(auto)]
 
+mod listening;
+
+ghost use Rattle.std.specs.Prelude.{IfOk, length, ◌≤◌};
+ghost use Rattle.locked_history.specs.Names.{blank_core};
+ghost use Rattle.ov_server.specs.Mounts.{IsMountOf};
+
+use crate::listening::listen;
 use locked_history::Blank;
 use ov_devices::{CountedReader, CountedWriter};
 use ov_server::{
-    ByTag, Fault, Invocation, Output, ProgramRule, command_line, core_of, hooks_by_slot, play_run,
-    show_run,
+    Fault, HistoryLength, Invocation, Output, Serving, command_line, core_of, hooks_by_slot,
+    play_run, show_run,
 };
 use socket_server::{ServeOptions, Served, serve_on};
 use std::alloc::Global;
 use std::env::Env;
 use std::fs::Files;
 use std::hash::RandomState;
-use std::io::{Eprint, Print};
+use std::io::{Eprint, Print, Read};
 use std::net::Net;
-use std::os::unix::net::UnixListener;
 use std::process::ExitCode;
 use std::random::RandomSource;
 use std::rt::Runtime;
@@ -38,23 +44,15 @@ fn run<R: Runtime + AllocGlobal + RandomSource + Net + Threads + Wait + Sync>(
     let invocation = command_line(rt.alloc(), words.as_slice())?;
     let keys = keys(rt)?;
     match invocation {
-        Invocation::Show { manifest } => show(rt, keys, manifest)?,
-        Invocation::Play { manifest } => play(rt, keys, manifest)?,
-        Invocation::Serve {
+        Invocation::Show {
             manifest,
-            socket,
-            workers,
-            sessions,
-            verbose,
-        } => {
-            let options = ServeOptions {
-                socket,
-                workers: workers as usize,
-                sessions,
-                verbose,
-            };
-            return serve(rt, keys, manifest, &options);
-        }
+            manifest_limit,
+        } => show(rt, keys, manifest, manifest_limit)?,
+        Invocation::Play {
+            manifest,
+            manifest_limit,
+        } => play(rt, keys, manifest, manifest_limit)?,
+        Invocation::Serve(serving) => return serve(rt, keys, &serving),
     }
     Ok(0)
 }
@@ -77,14 +75,24 @@ fn words<R: Env + AllocGlobal>(rt: &R) -> Result<Vec<String>, Fault> {
     }
 }
 
-fn show<R: Runtime + AllocGlobal>(rt: &R, keys: RandomState, manifest: &str) -> Result<(), Fault> {
-    let manifest = bytes_of(rt, manifest)?;
+fn show<R: Runtime + AllocGlobal>(
+    rt: &R,
+    keys: RandomState,
+    manifest: &str,
+    limit: u64,
+) -> Result<(), Fault> {
+    let manifest = bytes_of(rt, manifest, limit)?;
     let mut output = Output::new(rt.alloc(), CountedWriter::new(io::writer(rt)));
     show_run(rt.alloc(), keys, manifest.as_slice(), &mut output)
 }
 
-fn play<R: Runtime + AllocGlobal>(rt: &R, keys: RandomState, manifest: &str) -> Result<(), Fault> {
-    let manifest = bytes_of(rt, manifest)?;
+fn play<R: Runtime + AllocGlobal>(
+    rt: &R,
+    keys: RandomState,
+    manifest: &str,
+    limit: u64,
+) -> Result<(), Fault> {
+    let manifest = bytes_of(rt, manifest, limit)?;
     let hooks = hooks_by_slot(rt.alloc())?;
     let mut input = CountedReader::new(rt.reader());
     let mut output = Output::new(rt.alloc(), CountedWriter::new(io::writer(rt)));
@@ -101,11 +109,10 @@ fn play<R: Runtime + AllocGlobal>(rt: &R, keys: RandomState, manifest: &str) -> 
 fn serve<R: Runtime + AllocGlobal + Net + Threads + Wait + Sync>(
     rt: &R,
     keys: RandomState,
-    manifest: &str,
-    options: &ServeOptions<'_>,
+    serving: &Serving<'_>,
 ) -> Result<u8, Fault> {
     let hooks = hooks_by_slot(rt.alloc())?;
-    serve_with(rt, keys, manifest, hooks.as_slice(), options)
+    serve_with(rt, keys, hooks.as_slice(), serving)
 }
 
 // The same with hooks of any kind. The mount is there before the socket, so that who can connect is
@@ -113,43 +120,58 @@ fn serve<R: Runtime + AllocGlobal + Net + Threads + Wait + Sync>(
 fn serve_with<F, H, R>(
     rt: &R,
     keys: RandomState,
-    manifest: &str,
     hooks: &[Hook<F, H>],
-    options: &ServeOptions<'_>,
+    serving: &Serving<'_>,
 ) -> Result<u8, Fault>
 where
     F: Callback + Copy + Send + Sync,
     H: Rule + Send + Sync,
     R: Runtime + AllocGlobal + Net + Threads + Wait + Sync,
 {
-    let manifest = bytes_of(rt, manifest)?;
-    let blank = blank_of(rt.alloc(), keys, manifest.as_slice())?;
-    let listener = match UnixListener::bind(rt, options.socket) {
-        Ok(listener) => listener,
-        Err(fault) if fault.kind() == io::ErrorKind::OutOfMemory => return Err(Fault::Memory),
-        Err(_) => return Err(Fault::Socket),
+    let manifest = bytes_of(rt, serving.manifest, serving.manifest_limit)?;
+    let blank = blank_of(rt.alloc(), keys, manifest.as_slice(), serving.history)?;
+    let listener = listen(rt, serving)?;
+    let options = ServeOptions {
+        socket: serving.socket,
+        workers: serving.workers as usize,
+        sessions: serving.sessions,
+        verbose: serving.verbose,
     };
-    match serve_on(rt, rt.alloc(), &listener, blank, hooks, options)? {
+    match serve_on(rt, rt.alloc(), &listener, blank, hooks, &options)? {
         Served::Done => Ok(0),
         Served::Failed => Ok(Fault::Socket.status()),
     }
 }
 
-// A mount of a manifest's layers on which nothing was done.
+// A mount of a manifest's layers on which nothing was done. Its history is as long as is told, or
+// else as the manifest says.
 fn blank_of<F: Callback + Drop, H: Rule>(
     alloc: Global,
     keys: RandomState,
     manifest: &[u8],
-) -> Result<Blank<F, H>, Fault> {
-    let core = core_of(alloc, keys, manifest)?;
-    Blank::new(alloc, core).map_err(|_| Fault::Memory)
+    history: Option<HistoryLength>,
+) -> Result<Blank<F, H>, Fault>
+    ensures mount { IfOk result (λ blank. IsMountOf manifest.now history (blank_core blank)) }
+{
+    let core = core_of(alloc, keys, manifest, history)?;
+    match Blank::new(alloc, core) {
+        Ok(blank) => Ok(blank),
+        Err(_) => Err(Fault::Memory),
+    }
 }
 
-fn bytes_of<R: Files + AllocGlobal>(rt: &R, path: &str) -> Result<Vec<u8>, Fault> {
-    match fs::read(rt, path) {
-        Ok(bytes) => Ok(bytes),
+// The bytes of a manifest's file, of which at most one over the limit is read.
+fn bytes_of<R: Files + AllocGlobal>(rt: &R, path: &str, limit: u64) -> Result<Vec<u8>, Fault>
+    ensures { IfOk result (λ bytes. length bytes.items ≤ limit) }
+{
+    let Ok(file) = fs::open(rt, path) else {
+        return Err(Fault::CannotReadManifest);
+    };
+    let mut bytes = Vec::new(rt.alloc());
+    match file.take(limit.saturating_add(1)).read_to_end(&mut bytes) {
+        Ok(_) if bytes.len() as u64 <= limit => Ok(bytes),
         Err(fault) if fault.kind() == io::ErrorKind::OutOfMemory => Err(Fault::Memory),
-        Err(_) => Err(Fault::CannotReadManifest),
+        _ => Err(Fault::CannotReadManifest),
     }
 }
 

@@ -1,14 +1,22 @@
 // Command lines, and the texts and statuses of faults.
-use ov_server::{Fault, Invocation, command_line};
+use ov_server::{Fault, HistoryLength, Invocation, Serving, command_line};
 use std::test::Fail;
 
 #[test]
 fn reads_command_lines(rt: HostRuntime) -> Result<(), Fail> {
     let alloc = rt.alloc();
     let show = command_line(alloc, &["overlayd", "show", "m.toml"])?;
-    assert!(rt; show == Invocation::Show { manifest: "m.toml" });
-    let play = command_line(alloc, &["overlayd", "play", "m.toml"])?;
-    assert!(rt; play == Invocation::Play { manifest: "m.toml" });
+    let wanted = Invocation::Show {
+        manifest: "m.toml",
+        manifest_limit: 1_073_741_824,
+    };
+    assert!(rt; show == wanted);
+    let words = ["overlayd", "play", "m.toml", "--manifest-limit", "1"];
+    let wanted = Invocation::Play {
+        manifest: "m.toml",
+        manifest_limit: 1,
+    };
+    assert!(rt; command_line(alloc, &words)? == wanted);
     for (words, status) in [
         (["overlayd", "--help"].as_slice(), 0),
         (&["overlayd", "--version"], 0),
@@ -29,14 +37,18 @@ fn reads_command_lines(rt: HostRuntime) -> Result<(), Fail> {
 fn reads_what_to_serve(rt: HostRuntime) -> Result<(), Fail> {
     let alloc = rt.alloc();
     let plain = command_line(alloc, &["overlayd", "serve", "m.toml", "s"])?;
-    let wanted = Invocation::Serve {
+    let wanted = Serving {
         manifest: "m.toml",
+        manifest_limit: 1_073_741_824,
         socket: "s",
         workers: 8,
         sessions: None,
+        history: None,
+        idle: None,
+        unlink: false,
         verbose: false,
     };
-    assert!(rt; plain == wanted);
+    assert!(rt; plain == Invocation::Serve(wanted));
     let words = [
         "overlayd",
         "serve",
@@ -46,27 +58,42 @@ fn reads_what_to_serve(rt: HostRuntime) -> Result<(), Fail> {
         "m.toml",
         "s",
         "--sessions=1000000",
+        "--history=2",
+        "--idle",
+        "86400",
+        "--unlink",
+        "--manifest-limit=1099511627776",
     ];
     let full = command_line(alloc, &words)?;
-    let wanted = Invocation::Serve {
+    let wanted = Serving {
         manifest: "m.toml",
+        manifest_limit: 1_099_511_627_776,
         socket: "s",
         workers: 64,
         sessions: Some(1_000_000),
+        history: HistoryLength::new(2),
+        idle: Some(86_400),
+        unlink: true,
         verbose: true,
     };
-    assert!(rt; full == wanted);
+    assert!(rt; full == Invocation::Serve(wanted));
     Ok(())
 }
 
 #[test]
-fn refuses_other_numbers_of_workers_and_sessions(rt: HostRuntime) -> Result<(), Fail> {
+fn refuses_other_numbers(rt: HostRuntime) -> Result<(), Fail> {
     let alloc = rt.alloc();
     for more in [
         "--workers=65",
         "--workers=0",
         "--sessions=0",
         "--sessions=1000001",
+        "--history=1",
+        "--history=1000001",
+        "--idle=0",
+        "--idle=86401",
+        "--manifest-limit=0",
+        "--manifest-limit=1099511627777",
     ] {
         match command_line(alloc, &["overlayd", "serve", "m.toml", "s", more]) {
             Ok(_) => return Err(Fail::from("no fault")),

@@ -4,7 +4,7 @@ use Rattle.std.proofs.lemmas.Bool.{cases_Bool}
 use Rattle.std.proofs.lemmas.Result.{err_from_is_err_and}
 use Rattle.clap.specs.Faults.{built_fault, fault_of, is_simple_and_free}
 use Rattle.clap.specs.Kinds.{HasKind, Kinds}
-use Rattle.clap.specs.Simple.{App, app_of, built}
+use Rattle.clap.specs.Simple.{App, HasMatchesOf, app_of, built, is_simple, subcommand_of}
 use Rattle.clap.specs.Takes.{takes}
 use Rattle.clap.specs.Values.{kind_of}
 use Rattle.clap.specs.Walk.{nothing_held}
@@ -12,13 +12,40 @@ use Rattle.clap.specs.declared.error.Error.{Error}
 use Rattle.clap.specs.declared.error.kind.ErrorKind.{ErrorKind}
 use Rattle.clap.specs.declared.error.kind.ErrorKind.TheVariants as kind
 use Rattle.clap.proofs.OnLiterals.{clap_on_literals}
-use Rattle.ov_server.specs.Arguments.{IsLoneWord, IsRefusedBy, overlayd_app}
+use Rattle.clap.specs.declared.parser.matches.ArgMatches.{ArgMatches}
+use Rattle.ov_server.specs.Arguments.{IsAskedBy, IsLoneWord, IsRefusedBy, Names, overlayd_app}
+use Rattle.ov_server.specs.declared.arguments.Invocation.{Invocation}
 use Rattle.ov_server.proofs.arguments.command_line.Goals as goal
 
 -- the program's command line is one of those of which clap's clauses speak
 simple_and_free : is_simple_and_free overlayd_app ≡ true
 unfolding clap_on_literals
 simple_and_free = refl
+
+-- so is what a parse of it has
+simple : is_simple overlayd_app ≡ true
+unfolding clap_on_literals
+simple = refl
+
+-- what a parse of the words names is what they ask for
+named : (app : App) (words : List (List ℕ)) (m : ArgMatches) (asked : Invocation) → app ≡ overlayd_app
+    → HasMatchesOf app words m → Names m asked → IsAskedBy words asked
+named app words m asked is has names =
+    let parsed = (has (ap is_simple is ∙ simple)).1 in record {
+      rows = names.rows;
+      subcommand = ap (λ (a : App). subcommand_of a words) (sym is) ∙ sym parsed ∙ names.subcommand;
+      manifest = names.manifest;
+      limit = names.limit;
+      more = names.more;
+    }
+
+-- an error has the kinds of the program's own commands
+of_kinds : (app : App) (words : List (List ℕ)) (e : Error) → app ≡ overlayd_app
+    → (is_simple_and_free app ≡ true → HasKind (fault_of app words) e)
+    → HasKind (fault_of overlayd_app words) e
+of_kinds app words e is fails =
+    let same : fault_of app words ≡ fault_of overlayd_app words = ap (λ (a : App). fault_of a words) is in
+    subst (λ (kinds : Kinds). HasKind kinds e) same (fails (ap is_simple_and_free is ∙ simple_and_free))
 
 -- words that would be taken are refused for memory alone
 refused : (app : App) (words : List (List ℕ)) (e : Error) → app ≡ overlayd_app
@@ -67,6 +94,19 @@ returns-in_err-matches-clause-err g c =
     c.from_residual-in_err-matches.ensures.1 in
     rw (p.1, p.2) (refused (app_of c.in_ok-command.command) (map g.S.AsStr.text c.args.words.now)
     c.in_err-matches.field-0.0 c.in_ok-command.ensures c.in_err-matches.ensures.passes)
+
+pub returns-in_err-matches-clause-kinds : goal.returns-in_err-matches-clause-kinds
+returns-in_err-matches-clause-kinds g c =
+    let p = err_from_is_err_and c.from_residual-in_err-matches.result
+    c.from_residual-in_err-matches.ensures.1 in
+    rw (p.1, p.2) (of_kinds (app_of c.in_ok-command.command) (map g.S.AsStr.text c.args.words.now)
+    c.in_err-matches.field-0.0 c.in_ok-command.ensures c.in_err-matches.ensures.kinds)
+
+pub returns-in-Some-clause-ok : goal.returns-in-Some-clause-ok
+returns-in-Some-clause-ok g c =
+    named (app_of c.in_ok-command.command) (map g.S.AsStr.text c.args.words.now)
+    c.in_ok-matches.matches c.in-Some.invocation c.in_ok-command.ensures c.in_ok-matches.ensures.matches
+    c.in-Some.ensures
 
 pub returns-in-Some-clause-kinds : goal.returns-in-Some-clause-kinds
 returns-in-Some-clause-kinds g c =

@@ -3,14 +3,10 @@ use Rattle.std.specs.Str.{bytes_eq}
 use Rattle.std.proofs.lemmas.Slice.Eq.{bytes_eq-Decides}
 use Rattle.clap.specs.Matches.{found_of, subcommand_name_of}
 use Rattle.clap.specs.Simple.{subcommand_rows_of}
-use Rattle.clap.specs.Walk.{Row, first_of, rows_of}
+use Rattle.clap.specs.Walk.{Row, rows_of}
 use Rattle.clap.specs.declared.parser.matches.ArgMatches.{ArgMatches}
 use Rattle.clap.specs.declared.parser.matches.ArgMatches.TheViews.{out-ArgMatches}
 use Rattle.clap.proofs.WalkLemmas.{first_value-rows}
-use Rattle.std.specs.Prelude.{IfSome}
-use Rattle.ov_server.specs.Arguments.{IsServing, Names}
-use Rattle.ov_server.specs.declared.arguments.Invocation.{Invocation}
-use Rattle.ov_server.specs.declared.arguments.Invocation.TheVariants.{Show, Play, Serve}
 use Rattle.ov_server.proofs.arguments.invocation_of.Goals as goal
 
 -- texts that compare equal are the same
@@ -30,27 +26,13 @@ pair f g (Some x) a b p q = let e : f x ≡ a = cc in let h : g x ≡ b = cc in 
 subcommand_is : (m : ArgMatches) (n : List ℕ) (rows : List Row) → subcommand_name_of m ≡ Some n → option_map (λ p. p.1) (subcommand_rows_of m) ≡ Some rows → subcommand_rows_of m ≡ Some (n, rows)
 subcommand_is m n rows p q = pair _ _ (out-ArgMatches m).subcommand n rows p q
 
--- what asks to serve the manifest is named by the parse
-served : (m : ArgMatches) (rows : List Row) (named : List ℕ) (r : Option Invocation)
-    → subcommand_rows_of m ≡ Some (codes "serve", rows)
-    → first_of (codes "MANIFEST") rows ≡ Some named
-    → IfSome r (IsServing rows named) → IfSome r (Names m)
-served m rows named None sub is h = tt
-served m rows named (Some (Serve manifest socket workers sessions verbose)) sub is h = record {
-  rows = rows;
-  subcommand = sub;
-  manifest = is ∙ ap (λ (n : List ℕ). Some n) (sym h.0);
-  more = h.1;
-}
-served m rows named (Some (Show manifest)) sub is h = absurd h
-served m rows named (Some (Play manifest)) sub is h = absurd h
-
 pub returns-then-eq : goal.returns-then-eq
 returns-then-eq c = record {
   rows = rows_of (found_of c.in_ok-name.inner.now);
   subcommand = subcommand_is c.args.matches.now (codes "show") (rows_of (found_of c.in_ok-name.inner.now))
       (sym c.in_ok-name.ensures.name ∙ ap (λ (n : List ℕ). Some n) (same_text c.in_ok-name.name.now (codes "show") c.eq.result c.eq.ensures c.if-eq.true)) (sym c.in_ok-name.ensures.rows);
   manifest = sym (first_value-rows (found_of c.in_ok-name.inner.now) (codes "MANIFEST")) ∙ sym c.in_ok-manifest.ensures;
+  limit = c.in_ok-manifest_limit.ensures;
   more = tt;
 }
 
@@ -60,18 +42,21 @@ returns-then-eq-2 c = record {
   subcommand = subcommand_is c.args.matches.now (codes "play") (rows_of (found_of c.in_ok-name.inner.now))
       (sym c.in_ok-name.ensures.name ∙ ap (λ (n : List ℕ). Some n) (same_text c.in_ok-name.name.now (codes "play") c.eq-else-eq.result c.eq-else-eq.ensures c.if-eq-2.true)) (sym c.in_ok-name.ensures.rows);
   manifest = sym (first_value-rows (found_of c.in_ok-name.inner.now) (codes "MANIFEST")) ∙ sym c.in_ok-manifest.ensures;
+  limit = c.in_ok-manifest_limit.ensures;
   more = tt;
 }
 
-pub returns-then-eq-3 : goal.returns-then-eq-3
-returns-then-eq-3 c =
+pub returns-in_ok-serving : goal.returns-in_ok-serving
+returns-in_ok-serving c =
     let rows = rows_of (found_of c.in_ok-name.inner.now) in
+    let asked = c.in_ok-serving.ensures in
     let named = same_text c.in_ok-name.name.now (codes "serve") c.eq-else-eq-2.result
-    c.eq-else-eq-2.ensures c.if-eq-3.true in
-    served c.args.matches.now rows c.in_ok-manifest.manifest.now c.serving_of.result
-    (subcommand_is c.args.matches.now (codes "serve") rows
-    (sym c.in_ok-name.ensures.name ∙ ap (λ (n : List ℕ). Some n) named)
-    (sym c.in_ok-name.ensures.rows))
-    (sym (first_value-rows (found_of c.in_ok-name.inner.now) (codes "MANIFEST"))
-    ∙ sym c.in_ok-manifest.ensures)
-    c.serving_of.ensures
+    c.eq-else-eq-2.ensures c.if-eq-3.true in record {
+      rows = rows;
+      subcommand = subcommand_is c.args.matches.now (codes "serve") rows
+          (sym c.in_ok-name.ensures.name ∙ ap (λ (n : List ℕ). Some n) named) (sym c.in_ok-name.ensures.rows);
+      manifest = sym (first_value-rows (found_of c.in_ok-name.inner.now) (codes "MANIFEST")) ∙ sym c.in_ok-manifest.ensures
+          ∙ ap (λ (n : List ℕ). Some n) (sym asked.manifest);
+      limit = rw asked.limit c.in_ok-manifest_limit.ensures;
+      more = asked.more;
+    }

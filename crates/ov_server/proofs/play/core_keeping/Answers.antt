@@ -1,4 +1,4 @@
-use Rattle.std.proofs.Common.{◌≡◌, ap, is_some, sym}
+use Rattle.std.proofs.Common.{◌≡◌, ◌∙◌, ap, is_some, sym}
 use Rattle.std.specs.Prelude.{option_map}
 use Rattle.std.specs.Vec.{vec_len}
 use Rattle.std.proofs.lemmas.Result.{err_from_is_err_and}
@@ -8,7 +8,7 @@ use Rattle.overlay_core.specs.Views.{core_finished, core_layers, core_options, c
 use Rattle.overlay_core.proofs.Agreeing.{bounded}
 use Rattle.overlay_core.proofs.Histories.{first_places}
 use Rattle.ov_server.proofs.Manifests.{counted, given_upper, holds_manifest, refuses_none, refuses_told}
-use Rattle.ov_server.proofs.Mountable.{no-fault, sound-number}
+use Rattle.ov_server.proofs.Mountable.{no-fault, sound-number, told-length}
 use Rattle.ov_server.proofs.play.core_keeping.Goals as goal
 
 pub returns-in_err-upper-clause-manifest : goal.returns-in_err-upper-clause-manifest
@@ -20,27 +20,29 @@ returns-in_err-upper-clause-manifest g c =
 pub unreachable-requires : goal.unreachable-requires
 unreachable-requires g c =
     let told = c.in_ok-upper.ensures in
-    no-fault (vec_len c.in_ok-upper.lowers) c.in_ok-upper.options c.in_ok-upper.upper c.in_ok-upper.lowers.items c.in-Err.field-0.fault
-    (sound-number (is_some c.in_ok-upper.upper) (vec_len c.in_ok-upper.lowers) (parse_document c.args.manifest.now) c.in_ok-upper.options c.in-Err.field-0.fault told.some_lower told.two_lowers told.few_lowers told.options)
-    told.redirected told.unmarked (rw c.in-Err.is at c.in_ok-core.ensures.fault)
+    let lasts = c.lasting-options.ensures in
+    let within = told-length (parse_document c.args.manifest.now) c.in_ok-upper.told told.options in
+    no-fault (vec_len c.in_ok-upper.lowers) c.lasting-options.result c.in_ok-upper.upper c.in_ok-upper.lowers.items c.in-Err.field-0.fault
+    (sound-number (is_some c.in_ok-upper.upper) (vec_len c.in_ok-upper.lowers) c.lasting-options.result c.in-Err.field-0.fault told.some_lower told.two_lowers told.few_lowers (lasts.least within.0) (lasts.most within.1))
+    (λ there marks. lasts.redirects ∙ told.redirected there (sym lasts.metacopy ∙ marks)) told.unmarked (rw c.in-Err.is at c.in_ok-core.ensures.fault)
 
 pub returns-clause-count : goal.returns-clause-count
 returns-clause-count g c =
     let told = c.in_ok-upper.ensures in
     let lowers = rw c.in-Ok.is at c.in_ok-core.ensures.lowers in
     let read_only = given_upper c.in_ok-upper.upper (core_read_only c.in-Ok.core) (rw c.in-Ok.is at c.in_ok-core.ensures.read_only) in
-    rw (lowers, read_only) (sym (counted c.args.manifest.now c.in_ok-upper.upper c.in_ok-upper.lowers.items c.in_ok-upper.options told.options told.upper told.spelled))
+    rw (lowers, read_only) (sym (counted c.args.manifest.now c.in_ok-upper.upper c.in_ok-upper.lowers.items c.in_ok-upper.told told.options told.upper told.spelled))
 
 pub returns-clause-manifest : goal.returns-clause-manifest
 returns-clause-manifest g c =
     let told = c.in_ok-upper.ensures in
-    refuses_none c.args.manifest.now c.in-Ok.core c.in_ok-upper.options told.not_utf8 told.not_toml told.options
+    refuses_none c.args.manifest.now c.in-Ok.core c.in_ok-upper.told told.not_utf8 told.not_toml told.options
 
 pub returns-clause-places : goal.returns-clause-places
 returns-clause-places g c =
-    let options : core_options c.in-Ok.core ≡ c.in_ok-upper.options = rw c.in-Ok.is at c.in_ok-core.ensures.options in
+    let options : core_options c.in-Ok.core ≡ c.lasting-options.result = rw c.in-Ok.is at c.in_ok-core.ensures.options in
     let finished : core_finished c.in-Ok.core ≡ 0 = rw c.in-Ok.is at c.in_ok-core.ensures.finished in
-    first_places c.in-Ok.core (rw options (bounded (is_some (option_map layer_of c.in_ok-upper.upper)) (vec_len c.in_ok-upper.lowers) c.in_ok-upper.options ((rw c.in-Ok.is at c.in_ok-core.ensures.mounted).0))) finished (rw c.in-Ok.is at c.in_ok-core.ensures.nobody)
+    first_places c.in-Ok.core (rw options (bounded (is_some (option_map layer_of c.in_ok-upper.upper)) (vec_len c.in_ok-upper.lowers) c.lasting-options.result ((rw c.in-Ok.is at c.in_ok-core.ensures.mounted).0))) finished (rw c.in-Ok.is at c.in_ok-core.ensures.nobody)
 
 pub returns-clause-begins : goal.returns-clause-begins
 returns-clause-begins g c = record {
@@ -57,6 +59,8 @@ returns-clause-mount g c =
     record {
       layers = holds_manifest c.args.manifest.now upper c.in_ok-upper.lowers.items (core_layers core)
           (rw c.in-Ok.is at c.in_ok-core.ensures.upper) (ap (λ v. v.items) (rw c.in-Ok.is at c.in_ok-core.ensures.lowers)) told.upper told.spelled;
-      options = rw (rw c.in-Ok.is at c.in_ok-core.ensures.options) told.options;
+      told = c.in_ok-upper.told;
+      is_told = told.options;
+      options = rw c.in-Ok.is at c.in_ok-core.ensures.options ∙ c.lasting-options.ensures.told;
       upper = rw read_only told.upper;
     }

@@ -1,0 +1,88 @@
+// The socket on which connections are waited for.
+use ov_server::{Fault, Serving};
+use std::fs::Files;
+use std::io::{Eprint, ErrorKind};
+use std::net::Net;
+use std::os::fd::{AsRawFd, IntoRawFd, RawFd};
+use std::os::unix::fs::FileTypeExt;
+use std::os::unix::net::{UnixListener, UnixStream};
+use std::{fs, io};
+
+/// The descriptor of standard error. Those of standard input and output are before it.
+const STANDARD_ERROR: RawFd = 2;
+
+/// Listens on the socket that is served. Where that can't be made, it is told why if it is to be told
+/// what is served.
+pub(crate) fn listen<R: Files + Net + Eprint>(
+    rt: &R,
+    serving: &Serving<'_>,
+) -> Result<UnixListener, Fault> {
+    let outcome = match hold_standard(rt) {
+        Ok(()) => bind(rt, serving),
+        Err(fault) => Err(fault),
+    };
+    match outcome {
+        Ok(listener) => Ok(listener),
+        Err(fault) if fault.kind() == ErrorKind::OutOfMemory => Err(Fault::Memory),
+        Err(fault) => {
+            if serving.verbose {
+                tell_why(rt, serving.socket, &fault);
+            }
+            Err(Fault::Socket)
+        }
+    }
+}
+
+// Takes those descriptors that the program was started without, for good: what is told must never
+// come to a client, whose connection would else be given the number of standard error.
+fn hold_standard<R: Net>(rt: &R) -> io::Result<()> {
+    for _ in 0..=STANDARD_ERROR {
+        let held = rt.unix_socket()?;
+        if held.as_raw_fd() > STANDARD_ERROR {
+            return Ok(());
+        }
+        held.into_raw_fd();
+    }
+    Ok(())
+}
+
+// Makes the socket; what is left of another one is removed first if that is asked for. An empty path
+// would be given a name by the system.
+fn bind<R: Files + Net>(rt: &R, serving: &Serving<'_>) -> io::Result<UnixListener> {
+    let path = serving.socket;
+    if path.is_empty() {
+        return Err(io::Error::from(ErrorKind::NotFound));
+    }
+    match UnixListener::bind(rt, path) {
+        Err(fault)
+            if serving.unlink
+                && fault.kind() == ErrorKind::AddrInUse
+                && is_left_behind(rt, path)? => {
+            fs::remove_file(rt, path)?;
+            UnixListener::bind(rt, path)
+        }
+        outcome => outcome,
+    }
+}
+
+// Whether a path is a socket on which nobody listens.
+fn is_left_behind<R: Files + Net>(rt: &R, path: &str) -> io::Result<bool> {
+    if !fs::symlink_metadata(rt, path)?.file_type().is_socket() {
+        return Ok(false);
+    }
+    match UnixStream::connect(rt, path) {
+        Err(fault) => Ok(fault.kind() == ErrorKind::ConnectionRefused),
+        Ok(_) => Ok(false),
+    }
+}
+
+// Tells why there is no socket. A line that can't be written is lost.
+fn tell_why<R: Eprint>(rt: &R, path: &str, fault: &io::Error) {
+    let _ = match fault.kind() {
+        ErrorKind::AddrInUse => eprintln!(rt; "overlayd: {path}: is there already"),
+        ErrorKind::NotFound if path.is_empty() => eprintln!(rt; "overlayd: the path is empty"),
+        ErrorKind::NotFound => eprintln!(rt; "overlayd: {path}: no such directory"),
+        ErrorKind::InvalidInput => eprintln!(rt; "overlayd: {path}: longer than 107 bytes"),
+        _ => eprintln!(rt; "overlayd: {path}: {fault}"),
+    };
+}
