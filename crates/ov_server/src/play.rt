@@ -138,7 +138,7 @@ fn core_keeping<F: Callback + Drop, H: Rule>(
     match Core::mount_keeping(alloc, keys, upper, lowers, options, look_ups) {
         Ok(core) => Ok(core),
         Err(Unmounted { fault: None, .. }) => Err(Fault::Memory),
-        Err(_) => unreachable!(),
+        Err(Unmounted { fault: Some(_), .. }) => unreachable!(),
     }
 }
 

@@ -40,5 +40,8 @@ pub fn layers_in(alloc: Global, keys: RandomState, manifest: &[u8]) -> Result<La
 {
     let (upper, lowers, _) = manifest_of(alloc, keys, manifest)?;
     let over = upper_over(alloc, keys, upper, lowers.as_slice())?;
-    Layers::new(alloc, keys, over, lowers, 1).map_err(|_| Fault::Memory)
+    match Layers::new(alloc, keys, over, lowers, 1) {
+        Ok(layers) => Ok(layers),
+        Err(_) => Err(Fault::Memory),
+    }
 }

@@ -24,13 +24,13 @@ unreachable-requires g c =
     let within = told-length (parse_document c.args.manifest.now) c.in_ok-upper.told told.options in
     no-fault (vec_len c.in_ok-upper.lowers) c.lasting-options.result c.in_ok-upper.upper c.in_ok-upper.lowers.items c.in-Err.field-0.fault
     (sound-number (is_some c.in_ok-upper.upper) (vec_len c.in_ok-upper.lowers) c.lasting-options.result c.in-Err.field-0.fault told.some_lower told.two_lowers told.few_lowers (lasts.least within.0) (lasts.most within.1))
-    (λ there marks. lasts.redirects ∙ told.redirected there (sym lasts.metacopy ∙ marks)) told.unmarked (rw c.in-Err.is at c.in_ok-core.ensures.fault)
+    (λ there marks. lasts.redirects ∙ told.redirected there (sym lasts.metacopy ∙ marks)) told.unmarked (rw c.in-Err.is at c.mount_keeping.ensures.fault)
 
 pub returns-clause-count : goal.returns-clause-count
 returns-clause-count g c =
     let told = c.in_ok-upper.ensures in
-    let lowers = rw c.in-Ok.is at c.in_ok-core.ensures.lowers in
-    let read_only = given_upper c.in_ok-upper.upper (core_read_only c.in-Ok.core) (rw c.in-Ok.is at c.in_ok-core.ensures.read_only) in
+    let lowers = rw c.in-Ok.is at c.mount_keeping.ensures.lowers in
+    let read_only = given_upper c.in_ok-upper.upper (core_read_only c.in-Ok.core) (rw c.in-Ok.is at c.mount_keeping.ensures.read_only) in
     rw (lowers, read_only) (sym (counted c.args.manifest.now c.in_ok-upper.upper c.in_ok-upper.lowers.items c.in_ok-upper.told told.options told.upper told.spelled))
 
 pub returns-clause-manifest : goal.returns-clause-manifest
@@ -40,14 +40,14 @@ returns-clause-manifest g c =
 
 pub returns-clause-places : goal.returns-clause-places
 returns-clause-places g c =
-    let options : core_options c.in-Ok.core ≡ c.lasting-options.result = rw c.in-Ok.is at c.in_ok-core.ensures.options in
-    let finished : core_finished c.in-Ok.core ≡ 0 = rw c.in-Ok.is at c.in_ok-core.ensures.finished in
-    first_places c.in-Ok.core (rw options (bounded (is_some (option_map layer_of c.in_ok-upper.upper)) (vec_len c.in_ok-upper.lowers) c.lasting-options.result ((rw c.in-Ok.is at c.in_ok-core.ensures.mounted).0))) finished (rw c.in-Ok.is at c.in_ok-core.ensures.nobody)
+    let options : core_options c.in-Ok.core ≡ c.lasting-options.result = rw c.in-Ok.is at c.mount_keeping.ensures.options in
+    let finished : core_finished c.in-Ok.core ≡ 0 = rw c.in-Ok.is at c.mount_keeping.ensures.finished in
+    first_places c.in-Ok.core (rw options (bounded (is_some (option_map layer_of c.in_ok-upper.upper)) (vec_len c.in_ok-upper.lowers) c.lasting-options.result ((rw c.in-Ok.is at c.mount_keeping.ensures.mounted).0))) finished (rw c.in-Ok.is at c.mount_keeping.ensures.nobody)
 
 pub returns-clause-begins : goal.returns-clause-begins
 returns-clause-begins g c = record {
-  nobody = rw c.in-Ok.is at c.in_ok-core.ensures.nobody;
-  first = rw c.in-Ok.is at c.in_ok-core.ensures.first;
+  nobody = rw c.in-Ok.is at c.mount_keeping.ensures.nobody;
+  first = rw c.in-Ok.is at c.mount_keeping.ensures.first;
 }
 
 pub returns-clause-mount : goal.returns-clause-mount
@@ -55,12 +55,12 @@ returns-clause-mount g c =
     let told = c.in_ok-upper.ensures in
     let core = c.in-Ok.core in
     let upper = c.in_ok-upper.upper in
-    let read_only = given_upper upper (core_read_only core) (rw c.in-Ok.is at c.in_ok-core.ensures.read_only) in
+    let read_only = given_upper upper (core_read_only core) (rw c.in-Ok.is at c.mount_keeping.ensures.read_only) in
     record {
       layers = holds_manifest c.args.manifest.now upper c.in_ok-upper.lowers.items (core_layers core)
-          (rw c.in-Ok.is at c.in_ok-core.ensures.upper) (ap (λ v. v.items) (rw c.in-Ok.is at c.in_ok-core.ensures.lowers)) told.upper told.spelled;
+          (rw c.in-Ok.is at c.mount_keeping.ensures.upper) (ap (λ v. v.items) (rw c.in-Ok.is at c.mount_keeping.ensures.lowers)) told.upper told.spelled;
       told = c.in_ok-upper.told;
       is_told = told.options;
-      options = rw c.in-Ok.is at c.in_ok-core.ensures.options ∙ c.lasting-options.ensures.told;
+      options = rw c.in-Ok.is at c.mount_keeping.ensures.options ∙ c.lasting-options.ensures.told;
       upper = rw read_only told.upper;
     }
