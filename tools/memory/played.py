@@ -89,7 +89,7 @@ class PlayTrial(Trial):
         return busy
 
     def look(self, stage, at):
-        texts = ["merge", *(f"layer {layer}" for layer in range(self.row.layers)), "work"]
+        texts = ["merge", *(f"layer {layer}" for layer in self.row.layers), "work"]
         for client in self.busy(at):
             texts += [f"{client} drop", "work"]
         clients = range(sum(line.verb == "attach" for line in self.row.lines[:at]))

@@ -56,13 +56,15 @@ class Row(NamedTuple):
 
     @property
     def layers(self):
-        """How many layers its manifest has, each a table of its one array."""
+        """The numbers of its layers, each a table of its manifest's one array. Without an upper
+        they begin with 1."""
         body = self.manifest.partition("layer = [")[2]
         depth = count = 0
         for letter in body:
             count += letter == "{" and depth == 0
             depth += {"{": 1, "}": -1}.get(letter, 0)
-        return count or self.manifest.count("[[layer]]")
+        first = int("upper = false" in self.manifest)
+        return range(first, first + (count or self.manifest.count("[[layer]]")))
 
     def text_of(self, places=None):
         """The manifest, with a history of so many places."""

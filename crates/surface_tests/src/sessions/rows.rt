@@ -53,6 +53,30 @@ pub fn replies_to(alloc: Global, len: usize) -> Result<Vec<u8>, AllocError> {
     Ok(bytes)
 }
 
+/// The same where the history has so many entries more before them.
+pub fn later_replies_to(alloc: Global, len: usize, entries: u8) -> Result<Vec<u8>, AllocError> {
+    let mut bytes = Vec::new(alloc);
+    let mut left = len;
+    for (request, reply) in ROWS {
+        if left < request.len() {
+            return Ok(bytes);
+        }
+        left -= request.len();
+        bytes.extend_from_slice(later(alloc, reply, entries)?.as_slice())?;
+    }
+    Ok(bytes)
+}
+
+// A reply so many places later: the last byte of the place is its thirteenth. A refused request has
+// neither.
+fn later(alloc: Global, reply: &[u8], entries: u8) -> Result<Vec<u8>, AllocError> {
+    let mut bytes = Vec::from_slice(alloc, reply)?;
+    if let Some(place) = bytes.get_mut(12) {
+        *place = place.wrapping_add(entries);
+    }
+    Ok(bytes)
+}
+
 /// The replies to the first so many requests.
 pub fn first_replies(alloc: Global, count: usize) -> Result<Vec<u8>, AllocError> {
     let mut bytes = Vec::new(alloc);
