@@ -83,26 +83,31 @@ impl Layers {
     ghost use Rattle.layer_tree.specs.declared.node.Node.TheVariants as Node;
 
     /// An upper layer over 1 to 16 lower ones, the nearest first. So many look-ups in the lower ones
-    /// are kept, at most 65,536.
+    /// are kept, at most 65,536. An allocation failure hands the layers back.
     pub fn new(
         alloc: Global,
         keys: RandomState,
         upper: Layer,
         lowers: Vec<Layer>,
         kept: usize,
-    ) -> Result<Layers, AllocError>
+    ) -> Result<Layers, (Layer, Vec<Layer>)>
         requires some_lower { 0 < vec_len lowers }
         requires few_lowers { vec_len lowers ≤ 16 }
         requires some_kept { 0 < kept }
         requires few_kept { kept ≤ 65536 }
         ensures upper { IfOk result (λ layers. layers.upper ≡ upper) }
         ensures lowers { IfOk result (λ layers. layers.lowers ≡ lowers) }
+        ensures back { IfErr result (λ back. (back.0 ≡ upper) × (back.1 ≡ lowers)) }
     {
         let Some(most) = NonZeroUsize::new(kept) else {
             unreachable!()
         };
-        let asked = Asked::new(alloc, keys, kept)?;
-        let kept = LruCache::with_hasher(alloc, most, keys)?;
+        let Ok(asked) = Asked::new(alloc, keys, kept) else {
+            return Err((upper, lowers));
+        };
+        let Ok(kept) = LruCache::with_hasher(alloc, most, keys) else {
+            return Err((upper, lowers));
+        };
         let stacked = Stacked { upper, lowers };
         Ok(Layers {
             stacked,
@@ -112,6 +117,14 @@ impl Layers {
             asked,
             prepared: None,
         })
+    }
+
+    /// The upper layer and the lower ones, as they are now.
+    pub fn into_parts(self) -> (Layer, Vec<Layer>)
+        ensures upper { result.0 ≡ self.upper }
+        ensures lowers { result.1 ≡ self.lowers }
+    {
+        (self.stacked.upper, self.stacked.lowers)
     }
 
     /// The upper layer.

@@ -56,24 +56,29 @@ impl Mount {
     ghost use Rattle.copy_up.specs.Showing.{StaysThin};
 
     /// A mount of these layers without a client, whose renames of directories make redirects or not, and whose changes of attributes and
-    /// names copy no bytes or do. The names of open directories are hashed with these keys.
+    /// names copy no bytes or do. The names of open directories are hashed with these keys. An
+    /// allocation failure hands the layers back.
     pub fn new(
         alloc: Global,
         keys: RandomState,
         layers: Layers,
         redirects: bool,
         metacopy: bool,
-    ) -> Result<Mount, AllocError>
+    ) -> Result<Mount, Layers>
         ensures layers { IfOk result (λ mount. mount.layers ≡ layers) }
+        ensures back { IfErr result (λ back. back ≡ layers) }
         ensures redirects { IfOk result (λ mount. mount.redirects ≡ redirects) }
         ensures metacopy { IfOk result (λ mount. mount.metacopy ≡ metacopy) }
         ensures none { IfOk result (λ mount. (n : ℕ) → get nat_cmp mount.clients.attached n ≡ None) }
         ensures first { IfOk result (λ mount. mount.clients.next ≡ 0) }
         ensures begins { IfOk result (λ mount. (t : Tree) → AreLayers (layers_of layers) → IsMerge (upper_of layers) (lowers_of layers) t → IsStateOf mount (machine.opening t (record { redirects = redirects; metacopy = metacopy; read_only = false }))) }
     {
+        let Ok(clients) = Clients::new(alloc, keys) else {
+            return Err(layers);
+        };
         Ok(Mount {
             layers,
-            clients: Clients::new(alloc, keys)?,
+            clients,
             redirects,
             metacopy,
             alloc,
@@ -92,6 +97,13 @@ impl Mount {
         ensures { result.now ≡ self.now.layers }
     {
         &self.layers
+    }
+
+    /// The layers as they are now, without the clients.
+    pub fn into_layers(self) -> Layers
+        ensures { result ≡ self.layers }
+    {
+        self.layers
     }
 
     /// Attaches a client and gives its number. Where 64 are attached it is ENFILE.

@@ -66,8 +66,8 @@ fn mounted<F: Callback, A: Rule>(alloc: Global, keys: RandomState) -> Result<Cor
     ensures { IfOk result (λ core. core_finished core ≡ 0) }
 {
     let (upper, lowers, options) = manifest_of(alloc, keys, LAYERS.as_bytes())?;
-    let mounting = Core::mount(alloc, keys, upper, lowers, options)?;
-    mounting.ok().context("no mount")
+    let mounted = Core::mount(alloc, keys, upper, lowers, options);
+    mounted.ok().context("no mount")
 }
 
 fn edit<F: Callback, A: Rule>(alloc: Global, core: &mut Core<F, A>, client: u64) -> Result<Reply> {

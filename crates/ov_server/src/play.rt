@@ -16,7 +16,7 @@ use crate::fault::{DeviceFault, Fault};
 use crate::stage::Stage;
 use ov_devices::{Sink, Source};
 use ov_wire::manifest_of;
-use overlay_core::{Core, LOOK_UPS_KEPT};
+use overlay_core::{Core, LOOK_UPS_KEPT, Unmounted};
 use std::alloc::{AllocError, Global};
 use std::hash::RandomState;
 use watch_table::{Callback, Hook, Rule};
@@ -128,8 +128,9 @@ fn core_keeping<F: Callback + Drop, H: Rule>(
     ensures places { IfOk result HasPlaces }
 {
     let (upper, lowers, options) = manifest_of(alloc, keys, manifest)?;
-    match Core::mount_keeping(alloc, keys, upper, lowers, options, look_ups)? {
+    match Core::mount_keeping(alloc, keys, upper, lowers, options, look_ups) {
         Ok(core) => Ok(core),
+        Err(Unmounted { fault: None, .. }) => Err(Fault::Memory),
         Err(_) => unreachable!(),
     }
 }

@@ -40,5 +40,5 @@ pub fn layers_in(alloc: Global, keys: RandomState, manifest: &[u8]) -> Result<La
 {
     let (upper, lowers, _) = manifest_of(alloc, keys, manifest)?;
     let over = upper_over(alloc, keys, upper, lowers.as_slice())?;
-    Ok(Layers::new(alloc, keys, over, lowers, 1)?)
+    Layers::new(alloc, keys, over, lowers, 1).map_err(|_| Fault::Memory)
 }

@@ -39,10 +39,7 @@ pub fn mounted_alone<F: Callback + Copy, R: Rule>(
     let Ok((upper, lowers, options)) = manifest_of(alloc, keys, manifest.as_bytes()) else {
         return Err(AllocError);
     };
-    match Core::mount(alloc, keys, upper, lowers, options)? {
-        Ok(core) => Ok(core),
-        Err(_) => Err(AllocError),
-    }
+    Core::mount(alloc, keys, upper, lowers, options).map_err(|_| AllocError)
 }
 
 /// Lets a mount go. It is let go nowhere else, since each place where a core is dropped costs much

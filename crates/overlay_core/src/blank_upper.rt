@@ -1,5 +1,5 @@
 // The upper of a mount that is given none: it holds nothing.
-ghost use Rattle.std.specs.Prelude.{◌≡◌, ◌<◌, ◌∷◌, None, IfOk, IfSome, length, map};
+ghost use Rattle.std.specs.Prelude.{◌≡◌, ◌<◌, ◌∷◌, None, IfOk, IfSome, OnErr, length, map};
 ghost use Rattle.plain_model.specs.Blank.{IsBlank};
 ghost use Rattle.plain_model.specs.Layers.{AreLayers, IsLayer};
 ghost use Rattle.layer_tree.specs.Tree.{layer_of, layers_given};
@@ -20,6 +20,7 @@ pub fn upper_over(
     ensures given { IfOk result (λ over. IfSome upper (λ given. over ≡ given)) }
     ensures blank { IfOk result (λ over. upper ≡ None → IsBlank (layer_of over) (map layer_of lowers.now)) }
     ensures layers { IfOk result (λ over. AreLayers (layer_of over ∷ map layer_of lowers.now)) }
+    ensures none { OnErr result (upper ≡ None) }
 {
     match upper {
         Some(upper) => Ok(upper),

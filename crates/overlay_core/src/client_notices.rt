@@ -37,22 +37,25 @@ fn closing_of(handle: Option<&Handle>) -> Option<u32>
 
 impl<F: Callback, R: Rule> Watched<F, R> {
     /// A mount of these layers without a client, for which nothing is kept. The names and numbers of what is open and tracked are hashed with
-    /// these keys.
+    /// these keys. An allocation failure hands the layers back.
     pub(crate) fn new(
         alloc: Global,
         keys: RandomState,
         layers: Layers,
         redirects: bool,
         metacopy: bool,
-    ) -> Result<Watched<F, R>, AllocError>
+    ) -> Result<Watched<F, R>, Layers>
         requires { AreLayers (layers_of layers) }
         ensures layers { IfOk result (λ watched. watched.mount.layers ≡ layers) }
+        ensures back { IfErr result (λ back. back ≡ layers) }
         ensures nobody { IfOk result (λ watched. (n : ℕ) → get nat_cmp watched.mount.clients.attached n ≡ None) }
         ensures first { IfOk result (λ watched. watched.mount.clients.next ≡ 0) }
         ensures begins { IfOk result (λ watched. BeginsWith layers (record { redirects = redirects; metacopy = metacopy; read_only = false }) watched.mount watched.notifier) }
     {
         let mount = Mount::new(alloc, keys, layers, redirects, metacopy)?;
-        let notifier = Notifier::new(alloc, keys)?;
+        let Ok(notifier) = Notifier::new(alloc, keys) else {
+            return Err(mount.into_layers());
+        };
         Ok(Watched { mount, notifier })
     }
 

@@ -1,5 +1,5 @@
 // The core of a mount: what is done to it, each deed one of the plain machine.
-ghost use Rattle.std.specs.Prelude.{◌≡◌, ◌≢◌, ◌+◌, ◌-◌, ◌<◌, ◌≤◌, ◌^◌, ℕ, true, false, not, [], ◌∷◌, map, count_by, is_none, is_some, Some, None, All, IfOk, IfErr, IfSome, OnOk, OnErr, length, nat_lt, option_map, unwrap_or, vec_len};
+ghost use Rattle.std.specs.Prelude.{◌≡◌, ◌≢◌, ◌+◌, ◌-◌, ◌<◌, ◌≤◌, ◌^◌, ℕ, true, false, not, [], ◌∷◌, map, count_by, is_none, is_some, Some, None, All, MatchOption, cond, IfOk, IfErr, IfSome, OnOk, OnErr, length, nat_lt, option_map, unwrap_or, vec_len};
 ghost use Rattle.plain_model.specs.Blank.{IsBlank};
 ghost use Rattle.plain_model.specs.Layers.{AreLayers};
 ghost use Rattle.plain_model.specs.Limits.{IsWithinLimits};
@@ -32,7 +32,7 @@ use layer_tree::Layer;
 use merged_lookup::Layers;
 use mount_calls::CLIENTS_MAX;
 use ov_base::{Call, Errno, Options};
-use std::alloc::{AllocError, Global};
+use std::alloc::Global;
 use std::hash::RandomState;
 use watch_table::{Callback, HOOKS_MAX, Hook, NotAttached, Rule};
 use work_dir::WorkDir;
@@ -40,12 +40,26 @@ use work_dir::WorkDir;
 /// The most look-ups in the lower layers that a new mount keeps.
 pub const LOOK_UPS_KEPT: usize = 1_024;
 
-/// Layers that could not be mounted, and why.
+/// Layers that could not be mounted, and why; without a fault memory ran out.
 #[derive(Drop)]
 pub struct Unmounted {
-    pub fault: MountFault,
+    pub fault: Option<MountFault>,
     pub upper: Option<Layer>,
     pub lowers: Vec<Layer>,
+}
+
+// Layers for which memory ran out, without the upper that was made where none was given.
+fn handed_back(read_only: bool, upper: Layer, lowers: Vec<Layer>) -> Unmounted
+    ensures fault { result.fault ≡ None }
+    ensures upper { result.upper ≡ cond read_only None (Some upper) }
+    ensures lowers { result.lowers ≡ lowers }
+{
+    let upper = if read_only { None } else { Some(upper) };
+    Unmounted {
+        fault: None,
+        upper,
+        lowers,
+    }
 }
 
 /// A mount, its clients, what is kept for their watches, and the work directory, which has the open
@@ -86,43 +100,34 @@ impl<F: Callback, R: Rule> Core<F, R> {
     /// Mounts lower layers, the nearest first, under an upper, or alone: then nothing may be written,
     /// and a call that would is refused with EROFS (overlayfs.rst, "Multiple lower layers"). The names
     /// of open directories and the numbers of watched objects are hashed with these keys. A fault
-    /// needs no memory and hands the layers back.
+    /// needs no memory; it hands the layers back, and so does an allocation failure.
     pub fn mount(
         alloc: Global,
         keys: RandomState,
         upper: Option<Layer>,
         lowers: Vec<Layer>,
         options: Options,
-    ) -> Result<Result<Core<F, R>, Unmounted>, AllocError>
+    ) -> Result<Core<F, R>, Unmounted>
         requires layers { AreLayers (layers_given upper lowers.items) }
         requires limits { All IsWithinLimits (layers_given upper lowers.items) }
-        ensures fault { IfOk result (λ mounting. IfErr mounting (λ unmounted.
-            IsFault (vec_len lowers) options (option_map layer_of upper) (map layer_of lowers.items) unmounted.fault)) }
-        ensures handed_back { IfOk result (λ mounting. IfErr mounting (λ unmounted.
-            (unmounted.upper ≡ upper) × (unmounted.lowers ≡ lowers))) }
-        ensures mounted { IfOk result (λ mounting. OnOk mounting (
-            IsMountable (vec_len lowers) options (option_map layer_of upper) (map layer_of lowers.items))) }
-        ensures no_memory { OnErr result (
+        ensures fault { IfErr result (λ unmounted. MatchOption unmounted.fault
+            (IsMountable (vec_len lowers) options (option_map layer_of upper) (map layer_of lowers.items))
+            (IsFault (vec_len lowers) options (option_map layer_of upper) (map layer_of lowers.items))) }
+        ensures handed_back { IfErr result (λ unmounted.
+            (unmounted.upper ≡ upper) × (unmounted.lowers ≡ lowers)) }
+        ensures mounted { OnOk result (
             IsMountable (vec_len lowers) options (option_map layer_of upper) (map layer_of lowers.items)) }
-        ensures upper { IfOk result (λ mounting. IfOk mounting (λ core.
-            IfSome upper (λ given. (core_layers core).upper ≡ given))) }
-        ensures blank { IfOk result (λ mounting. IfOk mounting (λ core.
-            upper ≡ None → CoreIsBlank core)) }
-        ensures read_only { IfOk result (λ mounting. IfOk mounting (λ core.
-            core_read_only core ≡ is_none upper)) }
-        ensures lowers { IfOk result (λ mounting. IfOk mounting (λ core.
-            (core_layers core).lowers ≡ lowers)) }
-        ensures options { IfOk result (λ mounting. IfOk mounting (λ core.
-            core_options core ≡ options)) }
-        ensures finished { IfOk result (λ mounting. IfOk mounting (λ core.
-            core_finished core ≡ 0)) }
-        ensures nobody { IfOk result (λ mounting. IfOk mounting (λ core.
-            (n : ℕ) → has_client core n ≢ true)) }
-        ensures first { IfOk result (λ mounting. IfOk mounting (λ core.
-            next_client core ≡ 0)) }
-        ensures begins { IfOk result (λ mounting. IfOk mounting (λ core.
-            CoreBegins core options)) }
-        ensures idle { IfOk result (λ mounting. IfOk mounting (λ core. core_work core ≡ [])) }
+        ensures upper { IfOk result (λ core.
+            IfSome upper (λ given. (core_layers core).upper ≡ given)) }
+        ensures blank { IfOk result (λ core. upper ≡ None → CoreIsBlank core) }
+        ensures read_only { IfOk result (λ core. core_read_only core ≡ is_none upper) }
+        ensures lowers { IfOk result (λ core. (core_layers core).lowers ≡ lowers) }
+        ensures options { IfOk result (λ core. core_options core ≡ options) }
+        ensures finished { IfOk result (λ core. core_finished core ≡ 0) }
+        ensures nobody { IfOk result (λ core. (n : ℕ) → has_client core n ≢ true) }
+        ensures first { IfOk result (λ core. next_client core ≡ 0) }
+        ensures begins { IfOk result (λ core. CoreBegins core options) }
+        ensures idle { IfOk result (λ core. core_work core ≡ []) }
     {
         Core::mount_keeping(alloc, keys, upper, lowers, options, LOOK_UPS_KEPT)
     }
@@ -136,65 +141,71 @@ impl<F: Callback, R: Rule> Core<F, R> {
         lowers: Vec<Layer>,
         options: Options,
         look_ups: usize,
-    ) -> Result<Result<Core<F, R>, Unmounted>, AllocError>
+    ) -> Result<Core<F, R>, Unmounted>
         requires layers { AreLayers (layers_given upper lowers.items) }
         requires limits { All IsWithinLimits (layers_given upper lowers.items) }
         requires look_ups { look_ups ≤ 65536 }
-        ensures fault { IfOk result (λ mounting. IfErr mounting (λ unmounted.
-            IsFault (vec_len lowers) options (option_map layer_of upper) (map layer_of lowers.items) unmounted.fault)) }
-        ensures handed_back { IfOk result (λ mounting. IfErr mounting (λ unmounted.
-            (unmounted.upper ≡ upper) × (unmounted.lowers ≡ lowers))) }
-        ensures mounted { IfOk result (λ mounting. OnOk mounting (
-            IsMountable (vec_len lowers) options (option_map layer_of upper) (map layer_of lowers.items))) }
-        ensures no_memory { OnErr result (
+        ensures fault { IfErr result (λ unmounted. MatchOption unmounted.fault
+            (IsMountable (vec_len lowers) options (option_map layer_of upper) (map layer_of lowers.items))
+            (IsFault (vec_len lowers) options (option_map layer_of upper) (map layer_of lowers.items))) }
+        ensures handed_back { IfErr result (λ unmounted.
+            (unmounted.upper ≡ upper) × (unmounted.lowers ≡ lowers)) }
+        ensures mounted { OnOk result (
             IsMountable (vec_len lowers) options (option_map layer_of upper) (map layer_of lowers.items)) }
-        ensures upper { IfOk result (λ mounting. IfOk mounting (λ core.
-            IfSome upper (λ given. (core_layers core).upper ≡ given))) }
-        ensures blank { IfOk result (λ mounting. IfOk mounting (λ core.
-            upper ≡ None → CoreIsBlank core)) }
-        ensures read_only { IfOk result (λ mounting. IfOk mounting (λ core.
-            core_read_only core ≡ is_none upper)) }
-        ensures lowers { IfOk result (λ mounting. IfOk mounting (λ core.
-            (core_layers core).lowers ≡ lowers)) }
-        ensures options { IfOk result (λ mounting. IfOk mounting (λ core.
-            core_options core ≡ options)) }
-        ensures finished { IfOk result (λ mounting. IfOk mounting (λ core.
-            core_finished core ≡ 0)) }
-        ensures nobody { IfOk result (λ mounting. IfOk mounting (λ core.
-            (n : ℕ) → has_client core n ≢ true)) }
-        ensures first { IfOk result (λ mounting. IfOk mounting (λ core.
-            next_client core ≡ 0)) }
-        ensures begins { IfOk result (λ mounting. IfOk mounting (λ core.
-            CoreBegins core options)) }
-        ensures idle { IfOk result (λ mounting. IfOk mounting (λ core. core_work core ≡ [])) }
+        ensures upper { IfOk result (λ core.
+            IfSome upper (λ given. (core_layers core).upper ≡ given)) }
+        ensures blank { IfOk result (λ core. upper ≡ None → CoreIsBlank core) }
+        ensures read_only { IfOk result (λ core. core_read_only core ≡ is_none upper) }
+        ensures lowers { IfOk result (λ core. (core_layers core).lowers ≡ lowers) }
+        ensures options { IfOk result (λ core. core_options core ≡ options) }
+        ensures finished { IfOk result (λ core. core_finished core ≡ 0) }
+        ensures nobody { IfOk result (λ core. (n : ℕ) → has_client core n ≢ true) }
+        ensures first { IfOk result (λ core. next_client core ≡ 0) }
+        ensures begins { IfOk result (λ core. CoreBegins core options) }
+        ensures idle { IfOk result (λ core. core_work core ≡ []) }
     {
         if let Some(fault) = fault_of(upper.as_ref(), lowers.as_slice(), options) {
-            return Ok(Err(Unmounted {
-                fault,
+            return Err(Unmounted {
+                fault: Some(fault),
                 upper,
                 lowers,
-            }));
+            });
         }
         let read_only = upper.is_none();
-        let upper = upper_over(alloc, keys, upper, lowers.as_slice())?;
-        let mut layers = Layers::new(alloc, keys, upper, lowers, look_ups.max(1))?;
+        let Ok(over) = upper_over(alloc, keys, upper, lowers.as_slice()) else {
+            return Err(Unmounted {
+                fault: None,
+                upper: None,
+                lowers,
+            });
+        };
+        let mut layers = match Layers::new(alloc, keys, over, lowers, look_ups.max(1)) {
+            Ok(layers) => layers,
+            Err((over, lowers)) => return Err(handed_back(read_only, over, lowers)),
+        };
         layers.keep_look_ups(alloc, look_ups);
-        let core = Core::over(alloc, keys, layers, options, read_only)?;
-        Ok(Ok(core))
+        match Core::over(alloc, keys, layers, options, read_only) {
+            Ok(core) => Ok(core),
+            Err(layers) => {
+                let (over, lowers) = layers.into_parts();
+                Err(handed_back(read_only, over, lowers))
+            }
+        }
     }
 
-    // A mount of these layers, without a client.
+    // A mount of these layers, without a client. An allocation failure hands them back.
     fn over(
         alloc: Global,
         keys: RandomState,
         layers: Layers,
         options: Options,
         read_only: bool,
-    ) -> Result<Core<F, R>, AllocError>
+    ) -> Result<Core<F, R>, Layers>
         requires layers { AreLayers (layer_of layers.upper ∷ lowers_of layers) }
         requires limits { All IsWithinLimits (lowers_of layers) }
         requires short { options.history ≤ 1000000 }
         requires blank { read_only ≡ true → IsBlank (layer_of layers.upper) (lowers_of layers) }
+        ensures back { IfErr result (λ back. back ≡ layers) }
         ensures layers { IfOk result (λ core. core_layers core ≡ layers) }
         ensures options { IfOk result (λ core. core_options core ≡ options) }
         ensures read_only { IfOk result (λ core. core_read_only core ≡ read_only) }

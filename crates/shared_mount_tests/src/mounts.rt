@@ -39,7 +39,7 @@ pub fn blank_of<F: Callback + Drop, R: Rule>(
     manifest: &str,
 ) -> Result<Blank<F, R>, Fail> {
     let (upper, lowers, options) = manifest_of(alloc, keys, manifest.as_bytes())?;
-    match Core::mount(alloc, keys, upper, lowers, options)? {
+    match Core::mount(alloc, keys, upper, lowers, options) {
         Ok(core) => Blank::new(alloc, core).map_err(|_| Fail::from("out of memory")),
         Err(_) => Err(Fail::from("no mount")),
     }

@@ -108,7 +108,7 @@ fn blank_of<F: Callback + Drop, R: Rule>(
         history: options.history.min(places),
         ..options
     };
-    match Core::mount(alloc, keys, upper, lowers, options)? {
+    match Core::mount(alloc, keys, upper, lowers, options) {
         Ok(core) => Ok(Blank::new(alloc, core).ok()),
         Err(_) => Ok(None),
     }

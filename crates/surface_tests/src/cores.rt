@@ -8,7 +8,7 @@ use crate::fixtures::read;
 use layer_tree::Layer;
 use ov_base::{Call, Options, Reply};
 use overlay_core::{Core, Job, Turn, Unmounted};
-use std::alloc::{AllocError, Global};
+use std::alloc::Global;
 use std::hash::RandomState;
 use std::test::Fail;
 use watch_table::{Callback, Hook, Rule};
@@ -23,7 +23,7 @@ fn mounting<F: Callback + Copy, H: Rule>(
     upper: Layer,
     lowers: Vec<Layer>,
     options: Options,
-) -> Result<Result<Core<F, H>, Unmounted>, AllocError>
+) -> Result<Core<F, H>, Unmounted>
     requires layers { AreLayers (layer_of upper ∷ map layer_of lowers.items) }
     requires limits { All IsWithinLimits (layer_of upper ∷ map layer_of lowers.items) }
 {
@@ -41,7 +41,7 @@ pub fn mounted_on<F: Callback + Copy, H: Rule>(
     requires layers { AreLayers (layer_of upper ∷ map layer_of lowers.items) }
     requires limits { All IsWithinLimits (layer_of upper ∷ map layer_of lowers.items) }
 {
-    match mounting(alloc, keys, upper, lowers, options)? {
+    match mounting(alloc, keys, upper, lowers, options) {
         Ok(core) => Ok(core),
         Err(_) => Err(Fail::from("no mount")),
     }
@@ -68,7 +68,7 @@ pub fn refused<F: Callback + Copy, H: Rule>(
     requires layers { AreLayers (layer_of upper ∷ map layer_of lowers.items) }
     requires limits { All IsWithinLimits (layer_of upper ∷ map layer_of lowers.items) }
 {
-    match mounting::<F, H>(alloc, keys, upper, lowers, options)? {
+    match mounting::<F, H>(alloc, keys, upper, lowers, options) {
         Ok(_) => Err(Fail::from("a mount")),
         Err(unmounted) => Ok(unmounted),
     }

@@ -39,7 +39,7 @@ pub fn read(
 // The layers of a manifest as a mount has them.
 pub fn mount(alloc: Global, keys: RandomState, manifest: &str) -> Result<Layers, Fail> {
     let (upper, lowers, _) = read(alloc, keys, manifest)?;
-    Ok(Layers::new(alloc, keys, upper, lowers, 1)?)
+    Layers::new(alloc, keys, upper, lowers, 1).map_err(|_| Fail::from("out of memory"))
 }
 
 pub fn path(rt: &impl Abort, alloc: Global, text: &str) -> Path {

@@ -86,10 +86,8 @@ fn an_object_without_a_name_has_no_path(rt: HostRuntime) -> Result<(), Fail> {
         return Err(Fail::from("no file"));
     };
     assert!(rt; upper.node(key).is_some());
-    assert!(rt;
-        Layers::new(alloc, keys, upper, lowers, 1)?
-            .locate(alloc, key)?
-            .is_none()
-    );
+    let layers = Layers::new(alloc, keys, upper, lowers, 1);
+    let layers = layers.map_err(|_| Fail::from("out of memory"))?;
+    assert!(rt; layers.locate(alloc, key)?.is_none());
     Ok(())
 }

@@ -153,7 +153,7 @@ fn a_lower_layer_with_a_mark_is_no_mount(rt: HostRuntime) -> Result<(), Fail> {
     put_marked(&rt, alloc, &mut lower, "/f")?;
     let (upper, lowers) = over(alloc, upper, lower)?;
     let back = refused::<ByTag, ProgramRule>(alloc, keys, upper, lowers, options)?;
-    assert!(rt; back.fault == MountFault::BadMetacopy);
+    assert!(rt; back.fault == Some(MountFault::BadMetacopy));
     let Some(upper) = &back.upper else {
         return Err(Fail::from("no upper"));
     };
@@ -176,7 +176,7 @@ fn a_mark_that_leads_to_no_lower_file_is_no_mount(rt: HostRuntime) -> Result<(),
 fn refuses_mark(rt: &impl Abort, alloc: Global, keys: RandomState, mark: &str) -> Result<(), Fail> {
     let (upper, lowers, options) = marked_by(rt, alloc, keys, mark)?;
     let back = refused::<ByTag, ProgramRule>(alloc, keys, upper, lowers, options)?;
-    assert!(rt; back.fault == MountFault::BadMetacopy, "{mark}");
+    assert!(rt; back.fault == Some(MountFault::BadMetacopy), "{mark}");
     let Some(upper) = &back.upper else {
         return Err(Fail::from("no upper"));
     };

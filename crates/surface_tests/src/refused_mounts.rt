@@ -17,7 +17,7 @@ fn refuses_a_history_of_one(rt: HostRuntime) -> Result<(), Fail> {
         ..options
     };
     let unmounted = refused::<ByTag, ProgramRule>(alloc, keys, upper, lowers, options)?;
-    assert!(rt; unmounted.fault == MountFault::BadHistory);
+    assert!(rt; unmounted.fault == Some(MountFault::BadHistory));
     assert_eq!(rt; unmounted.lowers.len(), 1);
     Ok(())
 }
@@ -32,7 +32,7 @@ fn refuses_metacopy_without_redirects(rt: HostRuntime) -> Result<(), Fail> {
         ..options
     };
     let unmounted = refused::<ByTag, ProgramRule>(alloc, keys, upper, lowers, options)?;
-    assert!(rt; unmounted.fault == MountFault::BadMetacopy);
+    assert!(rt; unmounted.fault == Some(MountFault::BadMetacopy));
     assert_eq!(rt; unmounted.lowers.len(), 1);
     Ok(())
 }
