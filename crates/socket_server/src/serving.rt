@@ -73,13 +73,21 @@ where
 {
     reports.listens(options.socket, options.workers);
     let sessions = options.sessions;
-    let left = thread::map_indices(
+    let ((), left) = thread::join(
         rt,
-        alloc,
-        options.workers,
-        &|_| work(rt, alloc, listener, mount, hooks, reports, sessions),
-    )?;
-    gathered(alloc, left)
+        || reports.tell_all(),
+        || {
+            let left = thread::map_indices(
+                rt,
+                alloc,
+                options.workers,
+                &|_| work(rt, alloc, listener, mount, hooks, reports, sessions),
+            );
+            reports.close();
+            left
+        },
+    );
+    gathered(alloc, left?)
 }
 
 /// Serves the clients of a blank mount, each with copies of these hooks, until all workers have
@@ -127,7 +135,7 @@ where
     H: Threads + Wait + Eprint + Sync,
     requires { IsNamed N.cells N.name N.parts N.opening blank }
 {
-    let reports = Reports::new(rt, alloc, options.verbose);
+    let reports = Reports::new(rt, alloc, options.verbose)?;
     let (past, _) = serve_blank::<N, F, R, H>(
         rt, alloc, listener, blank, hooks, &reports, options,
     )?;

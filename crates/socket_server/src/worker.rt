@@ -1,14 +1,15 @@
 // A worker: it takes one connection after the other. The client of a connection is attached, its
 // session is run, and it is detached before its stream is closed.
-ghost use Rattle.std.specs.Prelude.{◌<◌, IfOk};
+ghost use Rattle.std.specs.Prelude.{◌≡◌, ◌<◌, IfOk};
 ghost use Rattle.std.specs.Vec.{vec_capacity, vec_len};
+ghost use Rattle.ov_frames.specs.Replies.{answer_frame};
+ghost use Rattle.ov_frames.specs.declared.answer.Answer.TheVariants.{NotTaken};
 
 use crate::reports::Reports;
 use locked_history::{Mount, MountName, Open, Receipt, Session};
 use mount_door::{Departure, run_session};
 use ov_base::Errno;
 use ov_devices::{CountedReader, CountedWriter};
-use ov_frames::{Answer, append_reply};
 use ov_session::SessionOutput;
 use std::alloc::{AllocError, Global};
 use std::io::{Eprint, Write};
@@ -53,17 +54,47 @@ fn attach<N: MountName, F: Callback + Copy, R: Rule, H: Wait>(
     }
 }
 
-// Tells a connection by one frame that no client is attached for it.
-fn refuse(alloc: Global, stream: &UnixStream, errno: Errno) {
-    let mut writer = stream;
-    let mut frame = Vec::new(alloc);
-    if append_reply(&Answer::NotTaken(errno), &mut frame).is_ok() {
-        let _ = writer.write_all(frame.as_slice());
-    }
+// Runs the session of a client that was just attached, over its stream.
+fn converse<N: MountName, F: Callback + Copy, R: Rule, H: Wait>(
+    rt: &H,
+    alloc: Global,
+    mount: &Mount<N, F, R>,
+    stream: &UnixStream,
+    session: Session,
+    receipts: Vec<Receipt<N>>,
+) -> Departure<N, F, R>
+    requires { vec_len receipts < vec_capacity receipts }
+{
+    let mut input = CountedReader::new(stream);
+    let mut output = SessionOutput::new(alloc, CountedWriter::new(stream));
+    run_session(
+        rt,
+        alloc,
+        mount,
+        &Open,
+        session,
+        receipts,
+        &mut input,
+        &mut output,
+    )
 }
 
-// Serves a connection, whose client comes with copies of these hooks. The receipts of what it did
-// are put behind those of others.
+// The frame that tells that no client is attached. It takes no memory.
+fn refusal(errno: Errno) -> [u8; 6]
+    ensures { result ≡ answer_frame (NotTaken errno) }
+{
+    [0, 0, 0, 2, 2, errno.number()]
+}
+
+// Tells a connection that no client is attached for it.
+fn refuse(stream: &UnixStream, errno: Errno) {
+    let mut writer = stream;
+    let _ = writer.write_all(&refusal(errno));
+}
+
+// Serves a connection, whose client comes with copies of these hooks, and tells whether the worker
+// can go on: it can't where the client's detach was refused. The receipts of what the client did are
+// put behind those of others.
 fn serve<N: MountName, F: Callback + Copy, R: Rule, H: Wait + Eprint>(
     rt: &H,
     alloc: Global,
@@ -72,47 +103,37 @@ fn serve<N: MountName, F: Callback + Copy, R: Rule, H: Wait + Eprint>(
     reports: &Reports<'_, H>,
     stream: &UnixStream,
     receipts: &mut Vec<Vec<Receipt<N>>>,
-) {
+) -> bool {
     let number = reports.comes();
-    if receipts.reserve(1).is_err() {
-        refuse(alloc, stream, Errno::ENOMEM);
-        reports.refuses(number, Errno::ENOMEM);
-        return;
-    }
-    match attach(rt, alloc, mount, hooks) {
+    let attached = match receipts.reserve(1) {
+        Ok(()) => attach(rt, alloc, mount, hooks),
+        Err(_) => Err(Errno::ENOMEM),
+    };
+    match attached {
         Ok((session, own)) => {
             reports.begins(number, session.client);
-            let mut input = CountedReader::new(stream);
-            let mut output = SessionOutput::new(alloc, CountedWriter::new(stream));
             let Departure {
                 ending,
                 calls,
                 session: _,
                 receipts: own,
-                hooks: _,
+                hooks,
                 lost: _,
-            } = run_session(
-                rt,
-                alloc,
-                mount,
-                &Open,
-                session,
-                own,
-                &mut input,
-                &mut output,
-            );
+            } = converse(rt, alloc, mount, stream, session, own);
             reports.ends(number, calls, ending);
             receipts.push_reserved(own);
+            hooks.is_some()
         }
         Err(errno) => {
-            refuse(alloc, stream, errno);
+            refuse(stream, errno);
             reports.refuses(number, errno);
+            true
         }
     }
 }
 
 /// Takes connections, so many or without an end, and serves each. It ends early where it can take
-/// none. The receipts of all that its clients did are left.
+/// none, or a client's detach is refused. The receipts of all that its clients did are left.
 pub(crate) fn work<N: MountName, F: Callback + Copy, R: Rule, H: Wait + Eprint>(
     rt: &H,
     alloc: Global,
@@ -134,7 +155,10 @@ pub(crate) fn work<N: MountName, F: Callback + Copy, R: Rule, H: Wait + Eprint>(
             reports.fails();
             break;
         };
-        serve(rt, alloc, mount, hooks, reports, &stream, &mut receipts);
+        if !serve(rt, alloc, mount, hooks, reports, &stream, &mut receipts) {
+            reports.fails();
+            break;
+        }
     }
     receipts
 }
