@@ -9,13 +9,13 @@ use locked_history::{Blank, Gate, Mount, MountName, Open, Receipt, Session};
 use mount_door::{Departure, run_session};
 use ov_devices::{CountedReader, CountedWriter};
 use ov_session::{Ending, SessionOutput};
+use overlay_core::Core;
 use std::alloc::Global;
 use std::hash::RandomState;
 use std::marker::Brand;
 use std::process::Abort;
 use std::sync::Wait;
 use std::test::Fail;
-use overlay_core::Core;
 use watch_table::{AnyAnswer, Callback, Hook, Rule};
 
 const EMPTY: &str = "layer = [{}, {}]";
@@ -44,14 +44,12 @@ const NOT_ITS_SESSION: &[u8] = b"\x00\x00\x00\x02\x02\x16";
 /// `open r /f`, and its reply at place 1: descriptor 0.
 const OPEN_TO_READ: &[u8] = b"\x00\x00\x00\x0a\x0b\x00\x00\x00\x01\xa4\x00\x02\x2f\x66";
 
-const OPENED_AT_1: &[u8] =
-    b"\x00\x00\x00\x0d\x00\x00\x00\x00\x00\x00\x00\x00\x01\x00\x00\x00\x00";
+const OPENED_AT_1: &[u8] = b"\x00\x00\x00\x0d\x00\x00\x00\x00\x00\x00\x00\x00\x01\x00\x00\x00\x00";
 
 /// `arm 0 18 /f`, and its reply at place 2: watch 1.
 const ARM: &[u8] = b"\x00\x00\x00\x0a\x17\x00\x00\x00\x00\x18\x00\x02\x2f\x66";
 
-const ARMED_AT_2: &[u8] =
-    b"\x00\x00\x00\x0d\x00\x00\x00\x00\x00\x00\x00\x00\x02\x00\x00\x00\x01";
+const ARMED_AT_2: &[u8] = b"\x00\x00\x00\x0d\x00\x00\x00\x00\x00\x00\x00\x00\x02\x00\x00\x00\x01";
 
 /// `open w /f`, which copies the file.
 const OPEN_TO_WRITE: &[u8] = b"\x00\x00\x00\x0a\x0b\x01\x00\x00\x01\xa4\x00\x02\x2f\x66";

@@ -5,7 +5,7 @@ ghost use Rattle.locked_history.specs.Names.{IsNamed};
 use crate::mounts::{Silent, blank_of, looks};
 use crate::peers::{DETACH, SHOWN_FIRST, STAT_ROOT, ask, assert_closed, hear, patient};
 use locked_history::{Blank, Mount, MountName, Open, Receipt, Session};
-use socket_server::{Reports, ServeOptions, serve_mount};
+use socket_server::{Reports, ServeOptions, Served, serve_mount};
 use std::alloc::Global;
 use std::env::Env;
 use std::fs::Files;
@@ -32,8 +32,8 @@ const CROWDED: &[u8] = b"\x00\x00\x00\x02\x02\x17";
 /// What a detach is answered whose session's number was used: EINVAL.
 const NOT_ITS_SESSION: &[u8] = b"\x00\x00\x00\x02\x02\x16";
 
-/// What happens to a connection; how many receipts the worker leaves, whether it fails, and how many
-/// entries the history has.
+/// What happens to a connection; how many receipts the worker leaves, how the server ends, and how
+/// many entries the history has.
 #[derive(Clone, Copy)]
 enum Meeting {
     IsCrowdedOut,
@@ -48,8 +48,11 @@ impl Meeting {
         }
     }
 
-    fn fails(self) -> bool {
-        matches!(self, Meeting::IsMeddledWith)
+    fn end(self) -> Served {
+        match self {
+            Meeting::IsCrowdedOut => Served::Done,
+            Meeting::IsMeddledWith => Served::Failed,
+        }
     }
 
     fn entries(self) -> usize {
@@ -105,14 +108,14 @@ fn meets<N: MountName, F: Callback + Drop, R: Rule, H: Net + Wait + Abort>(
     assert_closed(rt, &stream)
 }
 
-// The receipts of what one worker did, and whether it failed.
+// The receipts of what one worker did, and how the server ended.
 fn receipts_of<N, F, R, H>(
     rt: &H,
     alloc: Global,
     options: &ServeOptions<'_>,
     mount: &Mount<N, F, R>,
     meeting: Meeting,
-) -> Result<(Vec<Receipt<N>>, bool), Fail>
+) -> Result<(Vec<Receipt<N>>, Served), Fail>
 where
     N: MountName + Send + Sync,
     F: Callback + Copy + Send + Sync,
@@ -132,7 +135,7 @@ where
     let removed = fs::remove_file(rt, path);
     met?;
     removed?;
-    Ok((receipts?, reports.has_failed()))
+    Ok(receipts?)
 }
 
 // The worker ends as it is to, and its receipts stand in the one history.
@@ -154,11 +157,11 @@ where
     if let Meeting::IsCrowdedOut = meeting {
         crowd(rt, alloc, &mount)?;
     }
-    let (receipts, failed) = receipts_of(rt, alloc, options, &mount, meeting)?;
+    let (receipts, end) = receipts_of(rt, alloc, options, &mount, meeting)?;
     let count = receipts.len();
     let (past, left) = mount.finish(receipts);
     assert!(rt; left.is_empty() && count == meeting.receipts());
-    assert!(rt; failed == meeting.fails() && past.len() == meeting.entries());
+    assert!(rt; end == meeting.end() && past.len() == meeting.entries());
     Ok(())
 }
 

@@ -5,7 +5,7 @@ ghost use Rattle.locked_history.specs.Names.{IsNamed};
 use crate::mounts::{Silent, blank_of};
 use crate::peers::{DETACH, SHOWN_FIRST, STAT_ROOT, ask, assert_closed, patient};
 use locked_history::{Blank, Mount, MountName, Receipt};
-use socket_server::{Reports, ServeOptions, serve_mount};
+use socket_server::{Reports, ServeOptions, Served, serve_mount};
 use std::alloc::Global;
 use std::env::Env;
 use std::fs::Files;
@@ -111,8 +111,9 @@ where
     let removed = fs::remove_file(rt, path);
     asked?;
     removed?;
-    assert!(rt; !reports.has_failed());
-    Ok(receipts?)
+    let (receipts, end) = receipts?;
+    assert_eq!(rt; end, Served::Done);
+    Ok(receipts)
 }
 
 // The same under the name of a mount. No type of its signature is a `&str`, since the name couldn't

@@ -42,7 +42,10 @@ impl Display for Line {
                 ending,
             } => {
                 let how = ending_text(ending);
-                write!(f, "overlayd: session {session} ends after {calls} calls: {how}\n")
+                write!(
+                    f,
+                    "overlayd: session {session} ends after {calls} calls: {how}\n"
+                )
             }
             Line::Lost(count) => write!(f, "overlayd: lines lost: {count}\n"),
         }

@@ -82,11 +82,6 @@ impl<'r, E: Eprint + Wait> Reports<'r, E> {
         }
     }
 
-    /// Whether a worker could not go on.
-    pub fn has_failed(&self) -> bool {
-        self.failed.load(Ordering::SeqCst)
-    }
-
     /// All workers have ended, and the history has so many entries.
     pub fn sums_up(&self, entries: usize) {
         if self.verbose {

@@ -1,9 +1,11 @@
 // A worker: it takes one connection after the other. The client of a connection is attached, its
 // session is run, and it is detached before its stream is closed.
-ghost use Rattle.std.specs.Prelude.{◌≡◌, ◌<◌, IfOk};
+ghost use Rattle.std.specs.Prelude.{◌≡◌, ◌+◌, ◌<◌, ◌∷◌, [], All, IfOk, MatchResult, OnErr, false, length, map, true};
 ghost use Rattle.std.specs.Vec.{vec_capacity, vec_len};
 ghost use Rattle.ov_frames.specs.Replies.{answer_frame};
 ghost use Rattle.ov_frames.specs.declared.answer.Answer.TheVariants.{NotTaken};
+ghost use Rattle.locked_history.specs.Claims.{Claim, IsAttachOf};
+ghost use Rattle.socket_server.specs.Working.{IsClient, IsWork};
 
 use crate::reports::Reports;
 use locked_history::{Mount, MountName, Open, Receipt, Session};
@@ -17,11 +19,22 @@ use std::os::unix::net::{UnixListener, UnixStream};
 use std::sync::Wait;
 use watch_table::{Callback, Hook, Rule};
 
+/// What a worker leaves of the connections that it took: the receipts of each client that was
+/// attached, how many connections were refused a client, and whether it could not go on.
+#[derive(Drop)]
+pub(crate) struct Worked<N: MountName> {
+    pub(crate) clients: Vec<Vec<Receipt<N>>>,
+    pub(crate) refused: u64,
+    pub(crate) failed: bool,
+}
+
 // Other hooks of the same tags and callbacks.
 fn copies_of<F: Callback + Copy, R: Rule>(
     alloc: Global,
     hooks: &[Hook<F, R>],
-) -> Result<Vec<Hook<F, R>>, AllocError> {
+) -> Result<Vec<Hook<F, R>>, AllocError>
+    ensures { IfOk result (λ copies. copies.items ≡ hooks.now) }
+{
     let mut copies = Vec::with_capacity(alloc, hooks.len())?;
     for hook in hooks {
         copies.push(hook.copied())?;
@@ -37,7 +50,11 @@ fn attach<N: MountName, F: Callback + Copy, R: Rule, H: Wait>(
     mount: &Mount<N, F, R>,
     hooks: &[Hook<F, R>],
 ) -> Result<(Session, Vec<Receipt<N>>), Errno>
-    ensures { IfOk result (λ r. vec_len r.1 < vec_capacity r.1) }
+    ensures room { IfOk result (λ r. vec_len r.1 < vec_capacity r.1) }
+    ensures number { IfOk result (λ r. r.0.number ≡ 2) }
+    ensures came { IfOk result (λ r. (came : Claim) × (r.1.items ≡ came ∷ [])
+        × IsAttachOf came.entry r.0.client (map (λ h. h.tag) hooks.now)
+        × (came.counted ≡ true)) }
 {
     let Ok(mut receipts) = Vec::with_capacity(alloc, 2) else {
         return Err(Errno::ENOMEM);
@@ -54,16 +71,22 @@ fn attach<N: MountName, F: Callback + Copy, R: Rule, H: Wait>(
     }
 }
 
-// Runs the session of a client that was just attached, over its stream.
+// Runs the session of a client that was just attached with copies of these hooks, over its stream.
 fn converse<N: MountName, F: Callback + Copy, R: Rule, H: Wait>(
     rt: &H,
     alloc: Global,
     mount: &Mount<N, F, R>,
+    hooks: &[Hook<F, R>],
     stream: &UnixStream,
     session: Session,
     receipts: Vec<Receipt<N>>,
 ) -> Departure<N, F, R>
-    requires { vec_len receipts < vec_capacity receipts }
+    requires room { vec_len receipts < vec_capacity receipts }
+    requires number { session.number ≡ 2 }
+    requires came { (came : Claim) × (receipts.items ≡ came ∷ [])
+        × IsAttachOf came.entry session.client (map (λ h. h.tag) hooks.now)
+        × (came.counted ≡ true) }
+    ensures { IsClient (map (λ h. h.tag) hooks.now) result.receipts.items }
 {
     let mut input = CountedReader::new(stream);
     let mut output = SessionOutput::new(alloc, CountedWriter::new(stream));
@@ -92,48 +115,80 @@ fn refuse(stream: &UnixStream, errno: Errno) {
     let _ = writer.write_all(&refusal(errno));
 }
 
-// Serves a connection, whose client comes with copies of these hooks, and tells whether the worker
-// can go on: it can't where the client's detach was refused. The receipts of what the client did are
-// put behind those of others.
+// Serves a connection, whose client comes with copies of these hooks, or says why it has no client.
+// The receipts of what the client did are put to what the worker leaves, which can't go on where the
+// client's detach was refused.
 fn serve<N: MountName, F: Callback + Copy, R: Rule, H: Wait + Eprint>(
     rt: &H,
     alloc: Global,
     mount: &Mount<N, F, R>,
     hooks: &[Hook<F, R>],
     reports: &Reports<'_, H>,
+    number: u64,
     stream: &UnixStream,
-    receipts: &mut Vec<Vec<Receipt<N>>>,
-) -> bool {
-    let number = reports.comes();
-    let attached = match receipts.reserve(1) {
-        Ok(()) => attach(rt, alloc, mount, hooks),
-        Err(_) => Err(Errno::ENOMEM),
+    worked: &mut Worked<N>,
+) -> Result<(), Errno>
+    ensures clients { All (λ receipts. IsClient (map (λ h. h.tag) hooks.now) receipts.items)
+        worked.old.clients.items
+        → All (λ receipts. IsClient (map (λ h. h.tag) hooks.now) receipts.items)
+        worked.new.clients.items }
+    ensures count { MatchResult result
+        (λ _. length worked.new.clients.items ≡ length worked.old.clients.items + 1)
+        (λ _. length worked.new.clients.items ≡ length worked.old.clients.items) }
+    ensures refused { worked.new.refused ≡ worked.old.refused }
+    ensures failed { OnErr result (worked.new.failed ≡ worked.old.failed) }
+{
+    let Ok(()) = worked.clients.reserve(1) else {
+        return Err(Errno::ENOMEM);
     };
-    match attached {
-        Ok((session, own)) => {
-            reports.begins(number, session.client);
-            let Departure {
-                ending,
-                calls,
-                session: _,
-                receipts: own,
-                hooks,
-                lost: _,
-            } = converse(rt, alloc, mount, stream, session, own);
-            reports.ends(number, calls, ending);
-            receipts.push_reserved(own);
-            hooks.is_some()
-        }
-        Err(errno) => {
-            refuse(stream, errno);
-            reports.refuses(number, errno);
-            true
-        }
+    let (session, own) = attach(rt, alloc, mount, hooks)?;
+    reports.begins(number, session.client);
+    let Departure {
+        ending,
+        calls,
+        session: _,
+        receipts,
+        hooks: back,
+        lost: _,
+    } = converse(rt, alloc, mount, hooks, stream, session, own);
+    reports.ends(number, calls, ending);
+    worked.clients.push_reserved(receipts);
+    worked.failed = back.is_none();
+    Ok(())
+}
+
+// Takes a connection and serves it, or refuses it a client; or it can't take one.
+fn take<N: MountName, F: Callback + Copy, R: Rule, H: Wait + Eprint>(
+    rt: &H,
+    alloc: Global,
+    listener: &UnixListener,
+    mount: &Mount<N, F, R>,
+    hooks: &[Hook<F, R>],
+    reports: &Reports<'_, H>,
+    worked: &mut Worked<N>,
+)
+    requires few { worked.old.refused < 18446744073709551615 }
+    ensures clients { All (λ receipts. IsClient (map (λ h. h.tag) hooks.now) receipts.items)
+        worked.old.clients.items
+        → All (λ receipts. IsClient (map (λ h. h.tag) hooks.now) receipts.items)
+        worked.new.clients.items }
+    ensures count { worked.new.failed ≡ false → length worked.new.clients.items + worked.new.refused
+        ≡ (length worked.old.clients.items + worked.old.refused) + 1 }
+{
+    let Ok((stream, _)) = listener.accept() else {
+        worked.failed = true;
+        return;
+    };
+    let number = reports.comes();
+    if let Err(errno) = serve(rt, alloc, mount, hooks, reports, number, &stream, worked) {
+        refuse(&stream, errno);
+        reports.refuses(number, errno);
+        worked.refused += 1;
     }
 }
 
-/// Takes connections, so many or without an end, and serves each. It ends early where it can take
-/// none, or a client's detach is refused. The receipts of all that its clients did are left.
+/// Takes connections, so many or nearly without an end, and serves each. It ends early where it can
+/// take none, or a client's detach is refused, which is told.
 pub(crate) fn work<N: MountName, F: Callback + Copy, R: Rule, H: Wait + Eprint>(
     rt: &H,
     alloc: Global,
@@ -142,23 +197,20 @@ pub(crate) fn work<N: MountName, F: Callback + Copy, R: Rule, H: Wait + Eprint>(
     hooks: &[Hook<F, R>],
     reports: &Reports<'_, H>,
     sessions: Option<u64>,
-) -> Vec<Vec<Receipt<N>>> {
-    let mut receipts = Vec::new(alloc);
-    let mut left = sessions;
-    for _ in rt.forever() {
-        match left {
-            Some(0) => break,
-            Some(count) => left = Some(count.saturating_sub(1)),
-            None => {}
-        }
-        let Ok((stream, _)) = listener.accept() else {
-            reports.fails();
-            break;
-        };
-        if !serve(rt, alloc, mount, hooks, reports, &stream, &mut receipts) {
+) -> Worked<N>
+    ensures { IsWork (map (λ h. h.tag) hooks.now) sessions result }
+{
+    let mut worked = Worked {
+        clients: Vec::new(alloc),
+        refused: 0,
+        failed: false,
+    };
+    for _ in 0..sessions.unwrap_or(u64::MAX) {
+        take(rt, alloc, listener, mount, hooks, reports, &mut worked);
+        if worked.failed {
             reports.fails();
             break;
         }
     }
-    receipts
+    worked
 }
