@@ -51,6 +51,7 @@ fn run<R: Runtime + AllocGlobal + RandomSource + Net + Threads + Wait + Sync>(
                 socket,
                 workers: workers as usize,
                 sessions,
+                idle: None,
                 verbose,
             };
             return serve(rt, keys, manifest, &options);

@@ -1,5 +1,5 @@
-// One worker on a mount that others use too: no client is left for its connection, and another
-// thread uses the number of the client of its connection.
+// One worker on a mount that others use too: no client is left for its connection, another thread
+// uses the number of the client of its connection, or its client says nothing.
 ghost use Rattle.locked_history.specs.Names.{IsNamed};
 
 use crate::mounts::{Silent, blank_of, looks};
@@ -38,19 +38,20 @@ const NOT_ITS_SESSION: &[u8] = b"\x00\x00\x00\x02\x02\x16";
 enum Meeting {
     IsCrowdedOut,
     IsMeddledWith,
+    SaysNothing,
 }
 
 impl Meeting {
     fn receipts(self) -> usize {
         match self {
             Meeting::IsCrowdedOut => 0,
-            Meeting::IsMeddledWith => 2,
+            Meeting::IsMeddledWith | Meeting::SaysNothing => 2,
         }
     }
 
     fn end(self) -> Served {
         match self {
-            Meeting::IsCrowdedOut => Served::Done,
+            Meeting::IsCrowdedOut | Meeting::SaysNothing => Served::Done,
             Meeting::IsMeddledWith => Served::Failed,
         }
     }
@@ -59,6 +60,7 @@ impl Meeting {
         match self {
             Meeting::IsCrowdedOut => CLIENTS_MOST,
             Meeting::IsMeddledWith => 3,
+            Meeting::SaysNothing => 2,
         }
     }
 }
@@ -104,6 +106,7 @@ fn meets<N: MountName, F: Callback + Drop, R: Rule, H: Net + Wait + Abort>(
     match meeting {
         Meeting::IsCrowdedOut => hear(rt, &stream, CROWDED)?,
         Meeting::IsMeddledWith => meddle(rt, alloc, mount, &stream)?,
+        Meeting::SaysNothing => {}
     }
     assert_closed(rt, &stream)
 }
@@ -182,18 +185,25 @@ where
     served::<Brand, F, R, H>(rt, alloc, options, blank, meeting)
 }
 
-// Both on mounts of their own. A worker that went on would wait for another connection.
-fn both_served<F, R, H>(rt: &H, alloc: Global, keys: RandomState, path: &str) -> Result<(), Fail>
+// All on mounts of their own. A worker that went on would wait for another connection, or for its
+// client.
+fn all_served<F, R, H>(rt: &H, alloc: Global, keys: RandomState, path: &str) -> Result<(), Fail>
 where
     F: Callback + Copy + Send + Sync,
     R: Rule + Send + Sync,
     H: Files + Net + Threads + Wait + Eprint + Abort + Sync,
 {
-    for (meeting, sessions) in [(Meeting::IsCrowdedOut, 1), (Meeting::IsMeddledWith, 2)] {
+    let meetings = [
+        (Meeting::IsCrowdedOut, 1, None),
+        (Meeting::IsMeddledWith, 2, None),
+        (Meeting::SaysNothing, 1, Some(1)),
+    ];
+    for (meeting, sessions, idle) in meetings {
         let options = ServeOptions {
             socket: path,
             workers: 1,
             sessions: Some(sessions),
+            idle,
             verbose: true,
         };
         let blank = blank_of::<F, R>(alloc, keys, EMPTY)?;
@@ -209,5 +219,5 @@ fn one_worker_meets_others(rt: HostRuntime) -> Result<(), Fail> {
     let number = std::process::id(rt.process());
     let path = format!(in alloc; "{}/overlayd-one-{number}.socket", folder.display())?;
     let keys = RandomState::new(&rt)?;
-    both_served::<Silent, AnyAnswer, HostRuntime>(&rt, alloc, keys, path.as_str())
+    all_served::<Silent, AnyAnswer, HostRuntime>(&rt, alloc, keys, path.as_str())
 }

@@ -143,6 +143,7 @@ where
         socket: path,
         workers: 2,
         sessions: Some(1),
+        idle: None,
         verbose: false,
     };
     let blank = blank_of::<F, R>(alloc, keys, EMPTY)?;

@@ -2,6 +2,7 @@
 //! time as a client of the mount.
 #![tactic(auto)]
 
+mod connection;
 mod lines;
 mod reports;
 mod served;

@@ -22,6 +22,7 @@ pub(crate) enum Line {
         session: u64,
         calls: u64,
         ending: Ending,
+        timed_out: bool,
     },
     Lost(u64),
 }
@@ -40,8 +41,13 @@ impl Display for Line {
                 session,
                 calls,
                 ending,
+                timed_out,
             } => {
-                let how = ending_text(ending);
+                let how = if timed_out {
+                    "timed out"
+                } else {
+                    ending_text(ending)
+                };
                 write!(
                     f,
                     "overlayd: session {session} ends after {calls} calls: {how}\n"

@@ -65,13 +65,14 @@ impl<'r, E: Eprint + Wait> Reports<'r, E> {
         self.put(Line::IsNotAttached { session, errno });
     }
 
-    /// A session ended.
-    pub fn ends(&self, session: u64, calls: u64, ending: Ending) {
+    /// A session ended, as it did or since its connection waited too long.
+    pub fn ends(&self, session: u64, calls: u64, ending: Ending, timed_out: bool) {
         self.calls.fetch_add(calls, Ordering::SeqCst);
         self.put(Line::Ends {
             session,
             calls,
             ending,
+            timed_out,
         });
     }
 

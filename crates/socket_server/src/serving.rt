@@ -31,6 +31,9 @@ pub struct ServeOptions<'a> {
     pub workers: usize,
     /// After how many sessions each worker ends; none where they never do.
     pub sessions: Option<u64>,
+    /// After how many seconds, at least one, a connection ends that sends nothing or takes nothing;
+    /// none where it never does.
+    pub idle: Option<u64>,
     /// Whether it tells what it does.
     pub verbose: bool,
 }
@@ -102,14 +105,40 @@ where
     ensures work { IfOk result (λ left.
         All (IsWork (map (λ h. h.tag) hooks.now) options.now.sessions) left.items) }
 {
-    let sessions = options.sessions;
     let left = thread::map_indices(
         rt,
         alloc,
         options.workers,
-        &|_| work(rt, alloc, listener, mount, hooks, reports, sessions),
+        &|_| work(rt, alloc, listener, mount, hooks, reports, options),
     );
     reports.close();
+    left
+}
+
+// Has the workers serve, while a thread tells their lines.
+fn work_and_tell<N, F, R, H>(
+    rt: &H,
+    alloc: Global,
+    listener: &UnixListener,
+    mount: &Mount<N, F, R>,
+    hooks: &[Hook<F, R>],
+    reports: &Reports<'_, H>,
+    options: &ServeOptions<'_>,
+) -> Result<Vec<Worked<N>>, AllocError>
+where
+    N: MountName + Send + Sync,
+    F: Callback + Copy + Send + Sync,
+    R: Rule + Send + Sync,
+    H: Threads + Wait + Eprint + Sync,
+    ensures count { IfOk result (λ left. length left.items ≡ options.now.workers) }
+    ensures work { IfOk result (λ left.
+        All (IsWork (map (λ h. h.tag) hooks.now) options.now.sessions) left.items) }
+{
+    let ((), left) = thread::join(
+        rt,
+        || reports.tell_all(),
+        || work_all(rt, alloc, listener, mount, hooks, reports, options),
+    );
     left
 }
 
@@ -134,12 +163,7 @@ where
         options.now.workers options.now.sessions r.0.items r.1) }
 {
     reports.listens(options.socket, options.workers);
-    let ((), left) = thread::join(
-        rt,
-        || reports.tell_all(),
-        || work_all(rt, alloc, listener, mount, hooks, reports, options),
-    );
-    let workers = left?;
+    let workers = work_and_tell(rt, alloc, listener, mount, hooks, reports, options)?;
     let end = end_of(has_failed(workers.as_slice()));
     let receipts = gathered(alloc, workers)?;
     Ok((receipts, end))

@@ -2,20 +2,21 @@
 // session is run, and it is detached before its stream is closed.
 ghost use Rattle.std.specs.Prelude.{◌≡◌, ◌+◌, ◌<◌, ◌∷◌, [], All, IfOk, MatchResult, OnErr, false, length, map, true};
 ghost use Rattle.std.specs.Vec.{vec_capacity, vec_len};
-ghost use Rattle.ov_frames.specs.Replies.{answer_frame};
-ghost use Rattle.ov_frames.specs.declared.answer.Answer.TheVariants.{NotTaken};
 ghost use Rattle.locked_history.specs.Claims.{Claim, IsAttachOf};
 ghost use Rattle.socket_server.specs.Working.{IsClient, IsWork};
 
+use crate::connection::Connection;
 use crate::reports::Reports;
+use crate::serving::ServeOptions;
 use locked_history::{Mount, MountName, Open, Receipt, Session};
 use mount_door::{Departure, run_session};
 use ov_base::Errno;
 use ov_devices::{CountedReader, CountedWriter};
 use ov_session::SessionOutput;
 use std::alloc::{AllocError, Global};
-use std::io::{Eprint, Write};
-use std::os::unix::net::{UnixListener, UnixStream};
+use std::io;
+use std::io::Eprint;
+use std::os::unix::net::UnixListener;
 use std::sync::Wait;
 use watch_table::{Callback, Hook, Rule};
 
@@ -71,13 +72,14 @@ fn attach<N: MountName, F: Callback + Copy, R: Rule, H: Wait>(
     }
 }
 
-// Runs the session of a client that was just attached with copies of these hooks, over its stream.
+// Runs the session of a client that was just attached with copies of these hooks, over its
+// connection.
 fn converse<N: MountName, F: Callback + Copy, R: Rule, H: Wait>(
     rt: &H,
     alloc: Global,
     mount: &Mount<N, F, R>,
     hooks: &[Hook<F, R>],
-    stream: &UnixStream,
+    connection: &Connection,
     session: Session,
     receipts: Vec<Receipt<N>>,
 ) -> Departure<N, F, R>
@@ -88,8 +90,8 @@ fn converse<N: MountName, F: Callback + Copy, R: Rule, H: Wait>(
         × (came.counted ≡ true) }
     ensures { IsClient (map (λ h. h.tag) hooks.now) result.receipts.items }
 {
-    let mut input = CountedReader::new(stream);
-    let mut output = SessionOutput::new(alloc, CountedWriter::new(stream));
+    let mut input = CountedReader::new(connection);
+    let mut output = SessionOutput::new(alloc, CountedWriter::new(connection));
     run_session(
         rt,
         alloc,
@@ -102,17 +104,12 @@ fn converse<N: MountName, F: Callback + Copy, R: Rule, H: Wait>(
     )
 }
 
-// The frame that tells that no client is attached. It takes no memory.
-fn refusal(errno: Errno) -> [u8; 6]
-    ensures { result ≡ answer_frame (NotTaken errno) }
-{
-    [0, 0, 0, 2, 2, errno.number()]
-}
-
-// Tells a connection that no client is attached for it.
-fn refuse(stream: &UnixStream, errno: Errno) {
-    let mut writer = stream;
-    let _ = writer.write_all(&refusal(errno));
+// A connection that waits so long in a read or a write and no longer, where that is given.
+fn limited(connection: &Connection, idle: Option<u64>) -> io::Result<()> {
+    match idle {
+        Some(seconds) => connection.limit(seconds),
+        None => Ok(()),
+    }
 }
 
 // Serves a connection, whose client comes with copies of these hooks, or says why it has no client.
@@ -124,8 +121,8 @@ fn serve<N: MountName, F: Callback + Copy, R: Rule, H: Wait + Eprint>(
     mount: &Mount<N, F, R>,
     hooks: &[Hook<F, R>],
     reports: &Reports<'_, H>,
-    number: u64,
-    stream: &UnixStream,
+    connection: &Connection,
+    idle: Option<u64>,
     worked: &mut Worked<N>,
 ) -> Result<(), Errno>
     ensures clients { All (λ receipts. IsClient (map (λ h. h.tag) hooks.now) receipts.items)
@@ -141,6 +138,10 @@ fn serve<N: MountName, F: Callback + Copy, R: Rule, H: Wait + Eprint>(
     let Ok(()) = worked.clients.reserve(1) else {
         return Err(Errno::ENOMEM);
     };
+    let Ok(()) = limited(connection, idle) else {
+        return Err(Errno::EINVAL);
+    };
+    let number = connection.number;
     let (session, own) = attach(rt, alloc, mount, hooks)?;
     reports.begins(number, session.client);
     let Departure {
@@ -150,8 +151,8 @@ fn serve<N: MountName, F: Callback + Copy, R: Rule, H: Wait + Eprint>(
         receipts,
         hooks: back,
         lost: _,
-    } = converse(rt, alloc, mount, hooks, stream, session, own);
-    reports.ends(number, calls, ending);
+    } = converse(rt, alloc, mount, hooks, connection, session, own);
+    reports.ends(number, calls, ending, connection.timed_out());
     worked.clients.push_reserved(receipts);
     worked.failed = back.is_none();
     Ok(())
@@ -165,6 +166,7 @@ fn take<N: MountName, F: Callback + Copy, R: Rule, H: Wait + Eprint>(
     mount: &Mount<N, F, R>,
     hooks: &[Hook<F, R>],
     reports: &Reports<'_, H>,
+    idle: Option<u64>,
     worked: &mut Worked<N>,
 )
     requires few { worked.old.refused < 18446744073709551615 }
@@ -179,10 +181,10 @@ fn take<N: MountName, F: Callback + Copy, R: Rule, H: Wait + Eprint>(
         worked.failed = true;
         return;
     };
-    let number = reports.comes();
-    if let Err(errno) = serve(rt, alloc, mount, hooks, reports, number, &stream, worked) {
-        refuse(&stream, errno);
-        reports.refuses(number, errno);
+    let connection = Connection::new(reports.comes(), stream);
+    if let Err(errno) = serve(rt, alloc, mount, hooks, reports, &connection, idle, worked) {
+        connection.refuse(errno);
+        reports.refuses(connection.number, errno);
         worked.refused += 1;
     }
 }
@@ -196,17 +198,27 @@ pub(crate) fn work<N: MountName, F: Callback + Copy, R: Rule, H: Wait + Eprint>(
     mount: &Mount<N, F, R>,
     hooks: &[Hook<F, R>],
     reports: &Reports<'_, H>,
-    sessions: Option<u64>,
+    options: &ServeOptions<'_>,
 ) -> Worked<N>
-    ensures { IsWork (map (λ h. h.tag) hooks.now) sessions result }
+    ensures { IsWork (map (λ h. h.tag) hooks.now) options.now.sessions result }
 {
     let mut worked = Worked {
         clients: Vec::new(alloc),
         refused: 0,
         failed: false,
     };
-    for _ in 0..sessions.unwrap_or(u64::MAX) {
-        take(rt, alloc, listener, mount, hooks, reports, &mut worked);
+    let idle = options.idle;
+    for _ in 0..options.sessions.unwrap_or(u64::MAX) {
+        take(
+            rt,
+            alloc,
+            listener,
+            mount,
+            hooks,
+            reports,
+            idle,
+            &mut worked,
+        );
         if worked.failed {
             reports.fails();
             break;

@@ -4,8 +4,8 @@ use Rattle.socket_server.proofs.serving.serve_mount.Goals as goal
 pub returns : goal.returns
 returns g c = record {
   workers = c.in_ok-workers.workers.items;
-  many = search rules;
-  work = search rules;
+  many = c.in_ok-workers.ensures.count;
+  work = c.in_ok-workers.ensures.work;
   all = search rules;
   end = search rules;
 }
