@@ -135,6 +135,7 @@ where
         socket: serving.socket,
         workers: serving.workers as usize,
         sessions: serving.sessions,
+        idle: serving.idle,
         verbose: serving.verbose,
     };
     match serve_on(rt, rt.alloc(), &listener, blank, hooks, &options)? {

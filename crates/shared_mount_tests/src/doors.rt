@@ -1,25 +1,30 @@
-// Sessions of a mount over bytes in memory: calls that have no place in the history, and a gate that
-// stops.
+// Sessions of a mount over bytes in memory: calls that have no place in the history, and gates that
+// stop.
 ghost use Rattle.std.specs.Prelude.{◌≡◌};
 ghost use Rattle.locked_history.specs.Names.{IsNamed};
 
+use crate::gates::Stopping;
 use crate::mounts::{Shut, Silent, blank_of};
 use locked_history::{Blank, Gate, Mount, MountName, Open, Receipt, Session};
 use mount_door::{Departure, run_session};
 use ov_devices::{CountedReader, CountedWriter};
 use ov_session::{Ending, SessionOutput};
+use overlay_core::Core;
 use std::alloc::Global;
 use std::hash::RandomState;
 use std::marker::Brand;
 use std::process::Abort;
 use std::sync::Wait;
 use std::test::Fail;
-use watch_table::{AnyAnswer, Callback, Rule};
+use watch_table::{AnyAnswer, Callback, Hook, Rule};
 
 const EMPTY: &str = "layer = [{}, {}]";
 
 /// Three places: a client's attach, a call, and its detach.
 const THREE_PLACES: &str = "history = 3\nlayer = [{}, {}]";
+
+/// In the lower layer a file of three chunks.
+const FILE: &str = "layer = [{}, {entry = [{path = '/f', kind = 'file', zeros = 8193}]}]";
 
 /// `stat /x`, and its reply at place 1: ENOENT.
 const STAT_ABSENT: &[u8] = b"\x00\x00\x00\x05\x01\x00\x02\x2f\x78";
@@ -36,10 +41,24 @@ const FULL: &[u8] = b"\x00\x00\x00\x02\x02\x1c";
 
 const NOT_ITS_SESSION: &[u8] = b"\x00\x00\x00\x02\x02\x16";
 
+/// `open r /f`, and its reply at place 1: descriptor 0.
+const OPEN_TO_READ: &[u8] = b"\x00\x00\x00\x0a\x0b\x00\x00\x00\x01\xa4\x00\x02\x2f\x66";
+
+const OPENED_AT_1: &[u8] = b"\x00\x00\x00\x0d\x00\x00\x00\x00\x00\x00\x00\x00\x01\x00\x00\x00\x00";
+
+/// `arm 0 18 /f`, and its reply at place 2: watch 1.
+const ARM: &[u8] = b"\x00\x00\x00\x0a\x17\x00\x00\x00\x00\x18\x00\x02\x2f\x66";
+
+const ARMED_AT_2: &[u8] = b"\x00\x00\x00\x0d\x00\x00\x00\x00\x00\x00\x00\x00\x02\x00\x00\x00\x01";
+
+/// `open w /f`, which copies the file.
+const OPEN_TO_WRITE: &[u8] = b"\x00\x00\x00\x0a\x0b\x01\x00\x00\x01\xa4\x00\x02\x2f\x66";
+
 /// What happens on a mount that was just made.
 #[derive(Clone, Copy)]
 enum Scenario {
     Stops,
+    StopsInACopy,
     Fills,
     IsStale,
 }
@@ -53,13 +72,13 @@ fn joined(alloc: Global, parts: &[&[u8]]) -> Result<Vec<u8>, Fail> {
     Ok(all)
 }
 
-// A client without hooks, with memory for one receipt more.
+// A client with these hooks.
 fn attached<N: MountName, F: Callback + Drop, R: Rule, H: Wait>(
     rt: &H,
-    alloc: Global,
     mount: &Mount<N, F, R>,
+    hooks: Vec<Hook<F, R>>,
 ) -> Result<(Session, Receipt<N>), Fail> {
-    match mount.attach(rt, Vec::new(alloc)) {
+    match mount.attach(rt, hooks) {
         Ok(attached) => Ok(attached),
         Err(_) => Err(Fail::from("not attached")),
     }
@@ -114,12 +133,30 @@ fn stops<N: MountName, F: Callback + Drop, R: Rule, H: Wait + Abort>(
     rt: &H,
     alloc: Global,
     mount: &Mount<N, F, R>,
+    client: (Session, Receipt<N>),
 ) -> Result<Vec<Receipt<N>>, Fail> {
-    let client = attached(rt, alloc, mount)?;
     let (left, written) = session_left(rt, alloc, mount, &Shut, client, STAT_ABSENT)?;
     assert_eq!(rt; left.ending, Ending::Stopped);
     assert!(rt; written.is_empty() && left.hooks.is_some());
     assert!(rt; left.calls == 0 && left.receipts.len() == 2);
+    Ok(receipts_of(left))
+}
+
+// A call that is stopped between two chunks of a copy is not answered, and the client's descriptor
+// and watch go with it.
+fn stops_in_a_copy<N: MountName, F: Callback + Drop, R: Rule, H: Wait + Abort>(
+    rt: &H,
+    alloc: Global,
+    mount: &Mount<N, F, R>,
+    client: (Session, Receipt<N>),
+) -> Result<Vec<Receipt<N>>, Fail> {
+    let asked = joined(alloc, &[OPEN_TO_READ, ARM, OPEN_TO_WRITE, STAT_ABSENT])?;
+    let wanted = joined(alloc, &[OPENED_AT_1, ARMED_AT_2])?;
+    let gate = Stopping { step: 4 };
+    let (left, written) = session_left(rt, alloc, mount, &gate, client, asked.as_slice())?;
+    assert_eq!(rt; left.ending, Ending::Stopped);
+    assert!(rt; written.as_slice() == wanted.as_slice() && left.hooks.is_some());
+    assert!(rt; left.calls == 2 && left.receipts.len() == 4);
     Ok(receipts_of(left))
 }
 
@@ -128,8 +165,8 @@ fn fills<N: MountName, F: Callback + Drop, R: Rule, H: Wait + Abort>(
     rt: &H,
     alloc: Global,
     mount: &Mount<N, F, R>,
+    client: (Session, Receipt<N>),
 ) -> Result<Vec<Receipt<N>>, Fail> {
-    let client = attached(rt, alloc, mount)?;
     let asked = joined(alloc, &[STAT_ABSENT, STAT_ABSENT, DETACH])?;
     let wanted = joined(alloc, &[ABSENT_AT_1, FULL, DETACHED_AT_2])?;
     let (left, written) = session_left(rt, alloc, mount, &Open, client, asked.as_slice())?;
@@ -145,8 +182,9 @@ fn is_stale<N: MountName, F: Callback + Drop, R: Rule, H: Wait + Abort>(
     rt: &H,
     alloc: Global,
     mount: &Mount<N, F, R>,
+    client: (Session, Receipt<N>),
 ) -> Result<Vec<Receipt<N>>, Fail> {
-    let (session, receipt) = attached(rt, alloc, mount)?;
+    let (session, receipt) = client;
     let stale = Session {
         client: session.client,
         number: 1,
@@ -167,25 +205,44 @@ fn is_stale<N: MountName, F: Callback + Drop, R: Rule, H: Wait + Abort>(
     Ok(receipts_of(left))
 }
 
+// What happens to a client with these hooks; its receipts are left.
+fn client_left<N: MountName, F: Callback + Drop, R: Rule, H: Wait + Abort>(
+    rt: &H,
+    alloc: Global,
+    mount: &Mount<N, F, R>,
+    hooks: Vec<Hook<F, R>>,
+    scenario: Scenario,
+) -> Result<Vec<Receipt<N>>, Fail> {
+    let client = attached(rt, mount, hooks)?;
+    match scenario {
+        Scenario::Stops => stops(rt, alloc, mount, client),
+        Scenario::StopsInACopy => stops_in_a_copy(rt, alloc, mount, client),
+        Scenario::Fills => fills(rt, alloc, mount, client),
+        Scenario::IsStale => is_stale(rt, alloc, mount, client),
+    }
+}
+
+// Whether nothing is left of the first client.
+fn is_left_clean<F: Callback, R: Rule>(core: &Core<F, R>) -> bool {
+    core.temps() == 0 && core.open_jobs(0) == 0 && !core.is_attached(0)
+}
+
 // A mount of its own; each receipt stands in its history, which has so many entries.
 fn happens<N: MountName, F: Callback + Drop, R: Rule, H: Wait + Abort>(
     rt: &H,
     alloc: Global,
     blank: Blank<F, R>,
+    hooks: Vec<Hook<F, R>>,
     scenario: Scenario,
     entries: usize,
 ) -> Result<(), Fail>
     requires { IsNamed N.cells N.name N.parts N.opening blank }
 {
     let mount = Mount::<N, F, R>::open(blank);
-    let receipts = match scenario {
-        Scenario::Stops => stops(rt, alloc, &mount)?,
-        Scenario::Fills => fills(rt, alloc, &mount)?,
-        Scenario::IsStale => is_stale(rt, alloc, &mount)?,
-    };
+    let receipts = client_left(rt, alloc, &mount, hooks, scenario)?;
     let (past, past_end) = mount.finish(receipts);
     assert_eq!(rt; past.len(), entries);
-    assert!(rt; past_end.is_empty());
+    assert!(rt; past_end.is_empty() && is_left_clean(past.core()));
     Ok(())
 }
 
@@ -194,28 +251,37 @@ fn happens_named<F: Callback + Drop, R: Rule, H: Wait + Abort>(
     rt: &H,
     alloc: Global,
     blank: Blank<F, R>,
+    hooks: Vec<Hook<F, R>>,
     scenario: Scenario,
     entries: usize,
 ) -> Result<(), Fail> {
-    happens::<Brand, F, R, H>(rt, alloc, blank, scenario, entries)
+    happens::<Brand, F, R, H>(rt, alloc, blank, hooks, scenario, entries)
 }
 
 // All of them, each on a mount of its own.
-fn all_happen<F: Callback + Drop, R: Rule, H: Wait + Abort>(
+fn all_happen<F: Callback + Copy, R: Rule, H: Wait + Abort>(
     rt: &H,
     alloc: Global,
     keys: RandomState,
+    hook: &Hook<F, R>,
 ) -> Result<(), Fail> {
-    let blank = blank_of::<F, R>(alloc, keys, EMPTY)?;
-    happens_named(rt, alloc, blank, Scenario::Stops, 2)?;
-    let blank = blank_of::<F, R>(alloc, keys, THREE_PLACES)?;
-    happens_named(rt, alloc, blank, Scenario::Fills, 3)?;
-    let blank = blank_of::<F, R>(alloc, keys, EMPTY)?;
-    happens_named(rt, alloc, blank, Scenario::IsStale, 2)
+    let scenarios = [
+        (EMPTY, Scenario::Stops, 2),
+        (FILE, Scenario::StopsInACopy, 4),
+        (THREE_PLACES, Scenario::Fills, 3),
+        (EMPTY, Scenario::IsStale, 2),
+    ];
+    for (manifest, scenario, entries) in scenarios {
+        let blank = blank_of::<F, R>(alloc, keys, manifest)?;
+        let hooks = vec![in alloc; hook.copied()]?;
+        happens_named(rt, alloc, blank, hooks, scenario, entries)?;
+    }
+    Ok(())
 }
 
 #[test]
 fn sessions_are_stopped_and_refused(rt: HostRuntime) -> Result<(), Fail> {
     let keys = RandomState::new(&rt)?;
-    all_happen::<Silent, AnyAnswer, HostRuntime>(&rt, rt.alloc(), keys)
+    let hook = Hook::new(0, Silent);
+    all_happen::<Silent, AnyAnswer, HostRuntime>(&rt, rt.alloc(), keys, &hook)
 }

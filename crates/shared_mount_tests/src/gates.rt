@@ -198,8 +198,8 @@ fn gate_lets_others_through(rt: HostRuntime) -> Result<(), Fail> {
 
 /// Stops a call before one of its steps.
 #[derive(Drop)]
-struct Stopping {
-    step: u64,
+pub struct Stopping {
+    pub step: u64,
 }
 
 impl Gate for Stopping {

@@ -9,6 +9,8 @@ mod gates;
 #[cfg(test)]
 mod mounts;
 #[cfg(test)]
+mod one_worker;
+#[cfg(test)]
 mod opened;
 #[cfg(test)]
 mod peers;

@@ -5,6 +5,14 @@ use std::process::Abort;
 use std::test::Fail;
 use std::time::Duration;
 
+/// `stat /`, and its reply at place 1.
+pub const STAT_ROOT: &[u8] = b"\x00\x00\x00\x04\x01\x00\x01\x2f";
+
+pub const SHOWN_FIRST: &[u8] =
+    b"\x00\x00\x00\x22\x00\x00\x00\x00\x00\x00\x00\x00\x01\x01\x00\x00\x01\xed\x00\x00\x00\x00\x00\x00\x00\x00\x00\x00\x00\x00\x00\x00\x00\x00\x00\x00\x00\x01";
+
+pub const DETACH: &[u8] = b"\x00\x00\x00\x01\x1a";
+
 /// The most bytes of a reply.
 const REPLY_MOST: usize = 64;
 
@@ -16,8 +24,14 @@ pub fn patient(stream: &UnixStream) -> Result<(), Fail> {
 
 /// Sends these bytes, and reads as many as the reply has.
 pub fn ask(rt: &impl Abort, stream: &UnixStream, request: &[u8], reply: &[u8]) -> Result<(), Fail> {
+    let mut writer = stream;
+    writer.write_all(request)?;
+    hear(rt, stream, reply)
+}
+
+/// Reads as many bytes as these are, which are the same.
+pub fn hear(rt: &impl Abort, stream: &UnixStream, reply: &[u8]) -> Result<(), Fail> {
     let mut stream = stream;
-    stream.write_all(request)?;
     let mut bytes = [0u8; REPLY_MOST];
     let count = reply.len().min(REPLY_MOST);
     stream.read_exact(&mut bytes[..count])?;

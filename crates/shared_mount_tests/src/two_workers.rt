@@ -3,9 +3,9 @@ ghost use Rattle.std.specs.Prelude.{◌≡◌};
 ghost use Rattle.locked_history.specs.Names.{IsNamed};
 
 use crate::mounts::{Silent, blank_of};
-use crate::peers::{ask, assert_closed, patient};
+use crate::peers::{DETACH, SHOWN_FIRST, STAT_ROOT, ask, assert_closed, patient};
 use locked_history::{Blank, Mount, MountName, Receipt};
-use socket_server::{Reports, ServeOptions, serve_mount};
+use socket_server::{Reports, ServeOptions, Served, serve_mount};
 use std::alloc::Global;
 use std::env::Env;
 use std::fs::Files;
@@ -26,10 +26,7 @@ const EMPTY: &str = "layer = [{}, {}]";
 /// `stat /`, `mkdir 755 /a`, `stat /x` and `stat x`, each with its reply to the first client of a
 /// mount.
 const WORKED: [(&[u8], &[u8]); 4] = [
-    (
-        STAT_ROOT,
-        b"\x00\x00\x00\x22\x00\x00\x00\x00\x00\x00\x00\x00\x01\x01\x00\x00\x01\xed\x00\x00\x00\x00\x00\x00\x00\x00\x00\x00\x00\x00\x00\x00\x00\x00\x00\x00\x00\x01",
-    ),
+    (STAT_ROOT, SHOWN_FIRST),
     (
         b"\x00\x00\x00\x09\x09\x00\x00\x01\xed\x00\x02\x2f\x61",
         b"\x00\x00\x00\x09\x00\x00\x00\x00\x00\x00\x00\x00\x02",
@@ -44,13 +41,9 @@ const WORKED: [(&[u8], &[u8]); 4] = [
     ),
 ];
 
-const STAT_ROOT: &[u8] = b"\x00\x00\x00\x04\x01\x00\x01\x2f";
-
 /// What `stat /` is answered at place 5.
 const SHOWN_SECOND: &[u8] =
     b"\x00\x00\x00\x22\x00\x00\x00\x00\x00\x00\x00\x00\x05\x01\x00\x00\x01\xed\x00\x00\x00\x00\x00\x00\x00\x00\x00\x00\x00\x00\x00\x00\x00\x00\x00\x00\x00\x01";
-
-const DETACH: &[u8] = b"\x00\x00\x00\x01\x1a";
 
 /// What the first client's `detach` is answered at place 6.
 const DETACHED: &[u8] = b"\x00\x00\x00\x09\x00\x00\x00\x00\x00\x00\x00\x00\x06";
@@ -106,7 +99,7 @@ where
     H: Files + Net + Threads + Wait + Eprint + Abort + Sync,
 {
     let path = options.socket;
-    let reports = Reports::new(rt, alloc, options.verbose);
+    let reports = Reports::new(rt, alloc, options.verbose)?;
     let hooks: Vec<Hook<F, R>> = Vec::new(alloc);
     let listener = UnixListener::bind(rt, path)?;
     let (socket, clients, tell) = (&listener, hooks.as_slice(), &reports);
@@ -118,8 +111,9 @@ where
     let removed = fs::remove_file(rt, path);
     asked?;
     removed?;
-    assert!(rt; !reports.has_failed());
-    Ok(receipts?)
+    let (receipts, end) = receipts?;
+    assert_eq!(rt; end, Served::Done);
+    Ok(receipts)
 }
 
 // The same under the name of a mount. No type of its signature is a `&str`, since the name couldn't
@@ -149,6 +143,7 @@ where
         socket: path,
         workers: 2,
         sessions: Some(1),
+        idle: None,
         verbose: false,
     };
     let blank = blank_of::<F, R>(alloc, keys, EMPTY)?;

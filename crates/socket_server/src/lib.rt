@@ -2,9 +2,13 @@
 //! time as a client of the mount.
 #![tactic(auto)]
 
+mod connection;
+mod lines;
 mod reports;
+mod served;
 mod serving;
 mod worker;
 
 pub use reports::Reports;
-pub use serving::{ServeOptions, Served, serve_blank, serve_mount, serve_on};
+pub use served::Served;
+pub use serving::{ServeOptions, serve_blank, serve_mount, serve_on};

@@ -1,44 +1,50 @@
 // What a server tells on standard error, and its counts.
+use crate::lines::{Line, Waiting};
 use ov_base::Errno;
-use ov_frames::FrameFault;
 use ov_session::Ending;
-use std::alloc::Global;
+use std::alloc::{AllocError, Global};
 use std::io::Eprint;
 use std::sync::atomic::{AtomicBool, AtomicU64, Ordering};
+use std::sync::{Condvar, Mutex, Wait};
 
-/// What the workers of a server tell and count. Each line is written at once, so that lines of many
-/// threads don't mix; one that can't be written is lost.
+/// How many lines wait at most to be told.
+const LINES_MOST: usize = 1_024;
+
+/// What the workers of a server tell and count. Their lines wait for a thread that tells them, so
+/// that a standard error that nobody reads stops no worker; those that are too many are lost, and
+/// counted. Each line is written at once, and one that can't be written is lost.
 #[derive(Drop)]
-pub struct Reports<'r, E: Eprint> {
+pub struct Reports<'r, E: Eprint + Wait> {
     rt: &'r E,
-    alloc: Global,
     verbose: bool,
+    waiting: Mutex<Waiting>,
+    changed: Condvar,
     sessions: AtomicU64,
     calls: AtomicU64,
     failed: AtomicBool,
 }
 
-impl<'r, E: Eprint> Reports<'r, E> {
+impl<'r, E: Eprint + Wait> Reports<'r, E> {
     /// Reports to this standard error; only a failure is told unless they are verbose.
-    pub fn new(rt: &'r E, alloc: Global, verbose: bool) -> Reports<'r, E> {
-        Reports {
+    pub fn new(rt: &'r E, alloc: Global, verbose: bool) -> Result<Reports<'r, E>, AllocError> {
+        let most = if verbose { LINES_MOST } else { 0 };
+        Ok(Reports {
             rt,
-            alloc,
             verbose,
+            waiting: Mutex::new(Waiting::new(alloc, most)?),
+            changed: Condvar::new(),
             sessions: AtomicU64::new(0),
             calls: AtomicU64::new(0),
             failed: AtomicBool::new(false),
-        }
+        })
     }
 
     /// The server can be connected to.
     pub fn listens(&self, socket: &str, workers: usize) {
         if self.verbose {
-            if let Ok(line) = format!(in self.alloc;
+            let _ = self.rt.eprint(format_args!(
                 "overlayd: listening on {socket}, workers: {workers}\n"
-            ) {
-                self.write(line);
-            }
+            ));
         }
     }
 
@@ -51,38 +57,23 @@ impl<'r, E: Eprint> Reports<'r, E> {
 
     /// A session began.
     pub fn begins(&self, session: u64, client: u64) {
-        if self.verbose {
-            if let Ok(line) = format!(in self.alloc;
-                "overlayd: session {session} begins as client {client}\n"
-            ) {
-                self.write(line);
-            }
-        }
+        self.put(Line::Begins { session, client });
     }
 
     /// A session's client was not attached.
     pub fn refuses(&self, session: u64, errno: Errno) {
-        if self.verbose {
-            let why = errno.text();
-            if let Ok(line) = format!(in self.alloc;
-                "overlayd: session {session} is not attached: {why}\n"
-            ) {
-                self.write(line);
-            }
-        }
+        self.put(Line::IsNotAttached { session, errno });
     }
 
-    /// A session ended.
-    pub fn ends(&self, session: u64, calls: u64, ending: Ending) {
+    /// A session ended, as it did or since its connection waited too long.
+    pub fn ends(&self, session: u64, calls: u64, ending: Ending, timed_out: bool) {
         self.calls.fetch_add(calls, Ordering::SeqCst);
-        if self.verbose {
-            let how = ending_text(ending);
-            if let Ok(line) = format!(in self.alloc;
-                "overlayd: session {session} ends after {calls} calls: {how}\n"
-            ) {
-                self.write(line);
-            }
-        }
+        self.put(Line::Ends {
+            session,
+            calls,
+            ending,
+            timed_out,
+        });
     }
 
     /// A worker can't go on. It is told once by a server.
@@ -92,41 +83,48 @@ impl<'r, E: Eprint> Reports<'r, E> {
         }
     }
 
-    /// Whether a worker could not go on.
-    pub fn has_failed(&self) -> bool {
-        self.failed.load(Ordering::SeqCst)
-    }
-
     /// All workers have ended, and the history has so many entries.
     pub fn sums_up(&self, entries: usize) {
         if self.verbose {
             let sessions = self.sessions.load(Ordering::SeqCst);
             let calls = self.calls.load(Ordering::SeqCst);
-            if let Ok(line) = format!(in self.alloc;
+            let _ = self.rt.eprint(format_args!(
                 "overlayd: served {sessions} sessions and {calls} calls; the history has {entries} entries\n"
-            ) {
-                self.write(line);
+            ));
+        }
+    }
+
+    /// Tells the lines of the workers as they come, until they are closed.
+    pub(crate) fn tell_all(&self) {
+        for _ in self.rt.forever() {
+            match self.next() {
+                Some(line) => {
+                    let _ = self.rt.eprint(line);
+                }
+                None => break,
             }
         }
     }
 
-    fn write(&self, line: String) {
-        let _ = self.rt.eprint(line);
+    /// The workers have ended.
+    pub(crate) fn close(&self) {
+        self.waiting.lock(self.rt).close();
+        self.changed.notify_one();
     }
-}
 
-// The words for how a session ended.
-fn ending_text(ending: Ending) -> &'static str {
-    match ending {
-        Ending::Detached => "detached",
-        Ending::Ended => "end of input",
-        Ending::Cut => "end of input inside a frame",
-        Ending::Frame(FrameFault::BadLength) => "bad frame: length",
-        Ending::Frame(FrameFault::BadOp) => "bad frame: op",
-        Ending::Frame(FrameFault::BadFields) => "bad frame: fields",
-        Ending::Read => "read failed",
-        Ending::Write => "write failed",
-        Ending::Memory => "out of memory",
-        Ending::Stopped => "stopped",
+    // Lets a line wait to be told.
+    fn put(&self, line: Line) {
+        if self.verbose {
+            self.waiting.lock(self.rt).put(line);
+            self.changed.notify_one();
+        }
+    }
+
+    // The next line once there is one, or none where no more come.
+    fn next(&self) -> Option<Line> {
+        let waiting = self.waiting.lock(self.rt);
+        self.changed
+            .wait_while(self.rt, waiting, |waiting| waiting.is_quiet())
+            .take()
     }
 }

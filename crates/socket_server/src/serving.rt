@@ -1,12 +1,17 @@
 // All workers of a server.
-ghost use Rattle.std.specs.Prelude.{◌≤◌, All, IfOk, length};
+ghost use Rattle.std.specs.Prelude.{◌≡◌, ◌++◌, ◌≤◌, All, IfOk, List, OnOk, filter, length, map};
+ghost use Rattle.std.specs.List.{flat_map, list_any};
+ghost use Rattle.locked_history.specs.Claims.{Claim, StandsIn, is_past_end, uncounted};
 ghost use Rattle.locked_history.specs.Entries.{history_of};
 ghost use Rattle.overlay_core.specs.LegalHistories.{Legally};
 ghost use Rattle.locked_history.specs.Names.{IsNamed};
 ghost use Rattle.locked_history.specs.Views.{core_past, entries_past};
+ghost use Rattle.socket_server.specs.Working.{IsWork, Serves, receipts_in};
+ghost use Rattle.socket_server.specs.Working as working;
 
 use crate::reports::Reports;
-use crate::worker::work;
+use crate::served::Served;
+use crate::worker::{Worked, work};
 use locked_history::{Blank, Mount, MountName, Past, Receipt};
 use std::alloc::{AllocError, Global};
 use std::io::Eprint;
@@ -26,36 +31,120 @@ pub struct ServeOptions<'a> {
     pub workers: usize,
     /// After how many sessions each worker ends; none where they never do.
     pub sessions: Option<u64>,
+    /// After how many seconds, at least one, a connection ends that sends nothing or takes nothing;
+    /// none where it never does.
+    pub idle: Option<u64>,
     /// Whether it tells what it does.
     pub verbose: bool,
 }
 
-/// How a server ended.
-#[derive(Clone, Copy, Debug, PartialEq, Eq)]
-pub enum Served {
-    /// Each worker served its sessions.
-    Done,
-    /// A worker could not go on, which was told.
-    Failed,
+// The receipts of a worker's clients go behind others.
+fn put_all<N: MountName>(
+    all: &mut Vec<Receipt<N>>,
+    clients: Vec<Vec<Receipt<N>>>,
+) -> Result<(), AllocError>
+    ensures { OnOk result (all.new.items
+        ≡ all.old.items ++ flat_map (λ receipts. receipts.items) clients.items) }
+{
+    for receipts in clients {
+        let mut receipts = receipts;
+        all.append(&mut receipts)?;
+    }
+    Ok(())
 }
 
 // All receipts of the workers.
 fn gathered<N: MountName>(
     alloc: Global,
-    workers: Vec<Vec<Vec<Receipt<N>>>>,
-) -> Result<Vec<Receipt<N>>, AllocError> {
+    workers: Vec<Worked<N>>,
+) -> Result<Vec<Receipt<N>>, AllocError>
+    ensures { IfOk result (λ all. all.items ≡ flat_map receipts_in workers.items) }
+{
     let mut all = Vec::new(alloc);
-    for clients in workers {
-        for receipts in clients {
-            let mut receipts = receipts;
-            all.append(&mut receipts)?;
-        }
+    for worked in workers {
+        let Worked {
+            clients,
+            refused: _,
+            failed: _,
+        } = worked;
+        put_all(&mut all, clients)?;
     }
     Ok(all)
 }
 
+// Whether one of the workers could not go on.
+fn has_failed<N: MountName>(workers: &[Worked<N>]) -> bool
+    ensures { result ≡ list_any (λ worked. worked.failed) workers.now }
+{
+    workers.iter().any(|worked| worked.failed)
+}
+
+// How the server ended.
+fn end_of(failed: bool) -> Served
+    ensures { result ≡ working.end_of failed }
+{
+    if failed { Served::Failed } else { Served::Done }
+}
+
+// Has the workers serve, and their lines end when all have ended.
+fn work_all<N, F, R, H>(
+    rt: &H,
+    alloc: Global,
+    listener: &UnixListener,
+    mount: &Mount<N, F, R>,
+    hooks: &[Hook<F, R>],
+    reports: &Reports<'_, H>,
+    options: &ServeOptions<'_>,
+) -> Result<Vec<Worked<N>>, AllocError>
+where
+    N: MountName + Send + Sync,
+    F: Callback + Copy + Send + Sync,
+    R: Rule + Send + Sync,
+    H: Threads + Wait + Eprint + Sync,
+    ensures count { IfOk result (λ left. length left.items ≡ options.now.workers) }
+    ensures work { IfOk result (λ left.
+        All (IsWork (map (λ h. h.tag) hooks.now) options.now.sessions) left.items) }
+{
+    let left = thread::map_indices(
+        rt,
+        alloc,
+        options.workers,
+        &|_| work(rt, alloc, listener, mount, hooks, reports, options),
+    );
+    reports.close();
+    left
+}
+
+// Has the workers serve, while a thread tells their lines.
+fn work_and_tell<N, F, R, H>(
+    rt: &H,
+    alloc: Global,
+    listener: &UnixListener,
+    mount: &Mount<N, F, R>,
+    hooks: &[Hook<F, R>],
+    reports: &Reports<'_, H>,
+    options: &ServeOptions<'_>,
+) -> Result<Vec<Worked<N>>, AllocError>
+where
+    N: MountName + Send + Sync,
+    F: Callback + Copy + Send + Sync,
+    R: Rule + Send + Sync,
+    H: Threads + Wait + Eprint + Sync,
+    ensures count { IfOk result (λ left. length left.items ≡ options.now.workers) }
+    ensures work { IfOk result (λ left.
+        All (IsWork (map (λ h. h.tag) hooks.now) options.now.sessions) left.items) }
+{
+    let ((), left) = thread::join(
+        rt,
+        || reports.tell_all(),
+        || work_all(rt, alloc, listener, mount, hooks, reports, options),
+    );
+    left
+}
+
 /// Serves the clients of a mount, each with copies of these hooks, until all workers have ended. The
-/// receipts of all that they did are handed back.
+/// receipts of all that they did are handed back, and how the server ended: `Done` only where each
+/// worker took its connections, and each of these had a client or was refused one.
 pub fn serve_mount<N, F, R, H>(
     rt: &H,
     alloc: Global,
@@ -64,28 +153,26 @@ pub fn serve_mount<N, F, R, H>(
     hooks: &[Hook<F, R>],
     reports: &Reports<'_, H>,
     options: &ServeOptions<'_>,
-) -> Result<Vec<Receipt<N>>, AllocError>
+) -> Result<(Vec<Receipt<N>>, Served), AllocError>
 where
     N: MountName + Send + Sync,
     F: Callback + Copy + Send + Sync,
     R: Rule + Send + Sync,
     H: Threads + Wait + Eprint + Sync,
+    ensures { IfOk result (λ r. Serves N (map (λ h. h.tag) hooks.now)
+        options.now.workers options.now.sessions r.0.items r.1) }
 {
     reports.listens(options.socket, options.workers);
-    let sessions = options.sessions;
-    let left = thread::map_indices(
-        rt,
-        alloc,
-        options.workers,
-        &|_| work(rt, alloc, listener, mount, hooks, reports, sessions),
-    )?;
-    gathered(alloc, left)
+    let workers = work_and_tell(rt, alloc, listener, mount, hooks, reports, options)?;
+    let end = end_of(has_failed(workers.as_slice()));
+    let receipts = gathered(alloc, workers)?;
+    Ok((receipts, end))
 }
 
 /// Serves the clients of a blank mount, each with copies of these hooks, until all workers have
-/// ended. What they did is one legal history, which ends in the state of the core, and the receipts
-/// that are handed back have a place past its end. It is called in a function that is generic in
-/// the mount's name.
+/// ended. What they did is one legal history, which ends in the state of the core; each receipt of
+/// it stands there, or is handed back since its place is past the end. It is called in a function
+/// that is generic in the mount's name.
 pub fn serve_blank<N, F, R, H>(
     rt: &H,
     alloc: Global,
@@ -94,7 +181,7 @@ pub fn serve_blank<N, F, R, H>(
     hooks: &[Hook<F, R>],
     reports: &Reports<'_, H>,
     options: &ServeOptions<'_>,
-) -> Result<(Past<N, F, R>, Vec<Receipt<N>>), AllocError>
+) -> Result<(Past<N, F, R>, Vec<Receipt<N>>, Served), AllocError>
 where
     N: MountName + Send + Sync,
     F: Callback + Copy + Send + Sync,
@@ -105,10 +192,16 @@ where
         (core_past r.0) ∥₁) }
     ensures past { IfOk result (λ r. All (λ receipt. length (entries_past r.0) ≤ receipt.place)
         r.1.items) }
+    ensures served { IfOk result (λ r. (receipts : List Claim)
+        × Serves N (map (λ h. h.tag) hooks.now)
+        options.now.workers options.now.sessions receipts r.2
+        × All (StandsIn (entries_past r.0)) receipts
+        × (r.1.items ≡ filter (is_past_end (entries_past r.0)) (map uncounted receipts))) }
 {
     let mount: Mount<N, F, R> = Mount::open(blank);
-    let receipts = serve_mount(rt, alloc, listener, &mount, hooks, reports, options)?;
-    Ok(mount.finish(receipts))
+    let (receipts, end) = serve_mount(rt, alloc, listener, &mount, hooks, reports, options)?;
+    let (past, left) = mount.finish(receipts);
+    Ok((past, left, end))
 }
 
 // The same, told of on standard error. No type of its signature names the mount.
@@ -127,18 +220,13 @@ where
     H: Threads + Wait + Eprint + Sync,
     requires { IsNamed N.cells N.name N.parts N.opening blank }
 {
-    let reports = Reports::new(rt, alloc, options.verbose);
-    let (past, _) = serve_blank::<N, F, R, H>(
+    let reports = Reports::new(rt, alloc, options.verbose)?;
+    let (past, _, end) = serve_blank::<N, F, R, H>(
         rt, alloc, listener, blank, hooks, &reports, options,
     )?;
     reports.sums_up(past.len());
-    if reports.has_failed() {
-        Ok(Served::Failed)
-    } else {
-        Ok(Served::Done)
-    }
+    Ok(end)
 }
-
 /// Serves the clients of a blank mount on a socket, each with copies of these hooks, until all
 /// workers have ended. What they did is one legal history, which ends in the state of the core.
 pub fn serve_on<F, R, H>(

@@ -1,26 +1,41 @@
 // A worker: it takes one connection after the other. The client of a connection is attached, its
 // session is run, and it is detached before its stream is closed.
-ghost use Rattle.std.specs.Prelude.{◌<◌, IfOk};
+ghost use Rattle.std.specs.Prelude.{◌≡◌, ◌+◌, ◌<◌, ◌∷◌, [], All, IfOk, MatchResult, OnErr, false, length, map, true};
 ghost use Rattle.std.specs.Vec.{vec_capacity, vec_len};
+ghost use Rattle.locked_history.specs.Claims.{Claim, IsAttachOf};
+ghost use Rattle.socket_server.specs.Working.{IsClient, IsWork};
 
+use crate::connection::Connection;
 use crate::reports::Reports;
+use crate::serving::ServeOptions;
 use locked_history::{Mount, MountName, Open, Receipt, Session};
 use mount_door::{Departure, run_session};
 use ov_base::Errno;
 use ov_devices::{CountedReader, CountedWriter};
-use ov_frames::{Answer, append_reply};
 use ov_session::SessionOutput;
 use std::alloc::{AllocError, Global};
-use std::io::{Eprint, Write};
-use std::os::unix::net::{UnixListener, UnixStream};
+use std::io;
+use std::io::Eprint;
+use std::os::unix::net::UnixListener;
 use std::sync::Wait;
 use watch_table::{Callback, Hook, Rule};
+
+/// What a worker leaves of the connections that it took: the receipts of each client that was
+/// attached, how many connections were refused a client, and whether it could not go on.
+#[derive(Drop)]
+pub(crate) struct Worked<N: MountName> {
+    pub(crate) clients: Vec<Vec<Receipt<N>>>,
+    pub(crate) refused: u64,
+    pub(crate) failed: bool,
+}
 
 // Other hooks of the same tags and callbacks.
 fn copies_of<F: Callback + Copy, R: Rule>(
     alloc: Global,
     hooks: &[Hook<F, R>],
-) -> Result<Vec<Hook<F, R>>, AllocError> {
+) -> Result<Vec<Hook<F, R>>, AllocError>
+    ensures { IfOk result (λ copies. copies.items ≡ hooks.now) }
+{
     let mut copies = Vec::with_capacity(alloc, hooks.len())?;
     for hook in hooks {
         copies.push(hook.copied())?;
@@ -36,7 +51,11 @@ fn attach<N: MountName, F: Callback + Copy, R: Rule, H: Wait>(
     mount: &Mount<N, F, R>,
     hooks: &[Hook<F, R>],
 ) -> Result<(Session, Vec<Receipt<N>>), Errno>
-    ensures { IfOk result (λ r. vec_len r.1 < vec_capacity r.1) }
+    ensures room { IfOk result (λ r. vec_len r.1 < vec_capacity r.1) }
+    ensures number { IfOk result (λ r. r.0.number ≡ 2) }
+    ensures came { IfOk result (λ r. (came : Claim) × (r.1.items ≡ came ∷ [])
+        × IsAttachOf came.entry r.0.client (map (λ h. h.tag) hooks.now)
+        × (came.counted ≡ true)) }
 {
     let Ok(mut receipts) = Vec::with_capacity(alloc, 2) else {
         return Err(Errno::ENOMEM);
@@ -53,66 +72,125 @@ fn attach<N: MountName, F: Callback + Copy, R: Rule, H: Wait>(
     }
 }
 
-// Tells a connection by one frame that no client is attached for it.
-fn refuse(alloc: Global, stream: &UnixStream, errno: Errno) {
-    let mut writer = stream;
-    let mut frame = Vec::new(alloc);
-    if append_reply(&Answer::NotTaken(errno), &mut frame).is_ok() {
-        let _ = writer.write_all(frame.as_slice());
+// Runs the session of a client that was just attached with copies of these hooks, over its
+// connection.
+fn converse<N: MountName, F: Callback + Copy, R: Rule, H: Wait>(
+    rt: &H,
+    alloc: Global,
+    mount: &Mount<N, F, R>,
+    hooks: &[Hook<F, R>],
+    connection: &Connection,
+    session: Session,
+    receipts: Vec<Receipt<N>>,
+) -> Departure<N, F, R>
+    requires room { vec_len receipts < vec_capacity receipts }
+    requires number { session.number ≡ 2 }
+    requires came { (came : Claim) × (receipts.items ≡ came ∷ [])
+        × IsAttachOf came.entry session.client (map (λ h. h.tag) hooks.now)
+        × (came.counted ≡ true) }
+    ensures { IsClient (map (λ h. h.tag) hooks.now) result.receipts.items }
+{
+    let mut input = CountedReader::new(connection);
+    let mut output = SessionOutput::new(alloc, CountedWriter::new(connection));
+    run_session(
+        rt,
+        alloc,
+        mount,
+        &Open,
+        session,
+        receipts,
+        &mut input,
+        &mut output,
+    )
+}
+
+// A connection that waits so long in a read or a write and no longer, where that is given.
+fn limited(connection: &Connection, idle: Option<u64>) -> io::Result<()> {
+    match idle {
+        Some(seconds) => connection.limit(seconds),
+        None => Ok(()),
     }
 }
 
-// Serves a connection, whose client comes with copies of these hooks. The receipts of what it did
-// are put behind those of others.
+// Serves a connection, whose client comes with copies of these hooks, or says why it has no client.
+// The receipts of what the client did are put to what the worker leaves, which can't go on where the
+// client's detach was refused.
 fn serve<N: MountName, F: Callback + Copy, R: Rule, H: Wait + Eprint>(
     rt: &H,
     alloc: Global,
     mount: &Mount<N, F, R>,
     hooks: &[Hook<F, R>],
     reports: &Reports<'_, H>,
-    stream: &UnixStream,
-    receipts: &mut Vec<Vec<Receipt<N>>>,
-) {
-    let number = reports.comes();
-    if receipts.reserve(1).is_err() {
-        refuse(alloc, stream, Errno::ENOMEM);
-        reports.refuses(number, Errno::ENOMEM);
+    connection: &Connection,
+    idle: Option<u64>,
+    worked: &mut Worked<N>,
+) -> Result<(), Errno>
+    ensures clients { All (λ receipts. IsClient (map (λ h. h.tag) hooks.now) receipts.items)
+        worked.old.clients.items
+        → All (λ receipts. IsClient (map (λ h. h.tag) hooks.now) receipts.items)
+        worked.new.clients.items }
+    ensures count { MatchResult result
+        (λ _. length worked.new.clients.items ≡ length worked.old.clients.items + 1)
+        (λ _. length worked.new.clients.items ≡ length worked.old.clients.items) }
+    ensures refused { worked.new.refused ≡ worked.old.refused }
+    ensures failed { OnErr result (worked.new.failed ≡ worked.old.failed) }
+{
+    let Ok(()) = worked.clients.reserve(1) else {
+        return Err(Errno::ENOMEM);
+    };
+    let Ok(()) = limited(connection, idle) else {
+        return Err(Errno::EINVAL);
+    };
+    let number = connection.number;
+    let (session, own) = attach(rt, alloc, mount, hooks)?;
+    reports.begins(number, session.client);
+    let Departure {
+        ending,
+        calls,
+        session: _,
+        receipts,
+        hooks: back,
+        lost: _,
+    } = converse(rt, alloc, mount, hooks, connection, session, own);
+    reports.ends(number, calls, ending, connection.timed_out());
+    worked.clients.push_reserved(receipts);
+    worked.failed = back.is_none();
+    Ok(())
+}
+
+// Takes a connection and serves it, or refuses it a client; or it can't take one.
+fn take<N: MountName, F: Callback + Copy, R: Rule, H: Wait + Eprint>(
+    rt: &H,
+    alloc: Global,
+    listener: &UnixListener,
+    mount: &Mount<N, F, R>,
+    hooks: &[Hook<F, R>],
+    reports: &Reports<'_, H>,
+    idle: Option<u64>,
+    worked: &mut Worked<N>,
+)
+    requires few { worked.old.refused < 18446744073709551615 }
+    ensures clients { All (λ receipts. IsClient (map (λ h. h.tag) hooks.now) receipts.items)
+        worked.old.clients.items
+        → All (λ receipts. IsClient (map (λ h. h.tag) hooks.now) receipts.items)
+        worked.new.clients.items }
+    ensures count { worked.new.failed ≡ false → length worked.new.clients.items + worked.new.refused
+        ≡ (length worked.old.clients.items + worked.old.refused) + 1 }
+{
+    let Ok((stream, _)) = listener.accept() else {
+        worked.failed = true;
         return;
-    }
-    match attach(rt, alloc, mount, hooks) {
-        Ok((session, own)) => {
-            reports.begins(number, session.client);
-            let mut input = CountedReader::new(stream);
-            let mut output = SessionOutput::new(alloc, CountedWriter::new(stream));
-            let Departure {
-                ending,
-                calls,
-                session: _,
-                receipts: own,
-                hooks: _,
-                lost: _,
-            } = run_session(
-                rt,
-                alloc,
-                mount,
-                &Open,
-                session,
-                own,
-                &mut input,
-                &mut output,
-            );
-            reports.ends(number, calls, ending);
-            receipts.push_reserved(own);
-        }
-        Err(errno) => {
-            refuse(alloc, stream, errno);
-            reports.refuses(number, errno);
-        }
+    };
+    let connection = Connection::new(reports.comes(), stream);
+    if let Err(errno) = serve(rt, alloc, mount, hooks, reports, &connection, idle, worked) {
+        connection.refuse(errno);
+        reports.refuses(connection.number, errno);
+        worked.refused += 1;
     }
 }
 
-/// Takes connections, so many or without an end, and serves each. It ends early where it can take
-/// none. The receipts of all that its clients did are left.
+/// Takes connections, so many or nearly without an end, and serves each. It ends early where it can
+/// take none, or a client's detach is refused, which is told.
 pub(crate) fn work<N: MountName, F: Callback + Copy, R: Rule, H: Wait + Eprint>(
     rt: &H,
     alloc: Global,
@@ -120,21 +198,31 @@ pub(crate) fn work<N: MountName, F: Callback + Copy, R: Rule, H: Wait + Eprint>(
     mount: &Mount<N, F, R>,
     hooks: &[Hook<F, R>],
     reports: &Reports<'_, H>,
-    sessions: Option<u64>,
-) -> Vec<Vec<Receipt<N>>> {
-    let mut receipts = Vec::new(alloc);
-    let mut left = sessions;
-    for _ in rt.forever() {
-        match left {
-            Some(0) => break,
-            Some(count) => left = Some(count.saturating_sub(1)),
-            None => {}
-        }
-        let Ok((stream, _)) = listener.accept() else {
+    options: &ServeOptions<'_>,
+) -> Worked<N>
+    ensures { IsWork (map (λ h. h.tag) hooks.now) options.now.sessions result }
+{
+    let mut worked = Worked {
+        clients: Vec::new(alloc),
+        refused: 0,
+        failed: false,
+    };
+    let idle = options.idle;
+    for _ in 0..options.sessions.unwrap_or(u64::MAX) {
+        take(
+            rt,
+            alloc,
+            listener,
+            mount,
+            hooks,
+            reports,
+            idle,
+            &mut worked,
+        );
+        if worked.failed {
             reports.fails();
             break;
-        };
-        serve(rt, alloc, mount, hooks, reports, &stream, &mut receipts);
+        }
     }
-    receipts
+    worked
 }

@@ -1,0 +1,88 @@
+// Connections, which end where they wait too long.
+ghost use Rattle.std.specs.Prelude.{◌≡◌};
+ghost use Rattle.ov_frames.specs.Replies.{answer_frame};
+ghost use Rattle.ov_frames.specs.declared.answer.Answer.TheVariants.{NotTaken};
+
+use ov_base::Errno;
+use std::io;
+use std::io::{ErrorKind, Read, Write};
+use std::os::unix::net::UnixStream;
+use std::sync::atomic::{AtomicBool, Ordering};
+use std::time::Duration;
+
+/// A connection that was taken, its number, and whether a read or a write of it waited too long.
+#[derive(Drop)]
+pub(crate) struct Connection {
+    pub(crate) number: u64,
+    stream: UnixStream,
+    timed_out: AtomicBool,
+}
+
+impl Connection {
+    /// A connection that waits for ever.
+    pub(crate) fn new(number: u64, stream: UnixStream) -> Connection {
+        Connection {
+            number,
+            stream,
+            timed_out: AtomicBool::new(false),
+        }
+    }
+
+    /// From now on a read or a write fails that waits longer than so many seconds. It can't be no
+    /// second.
+    pub(crate) fn limit(&self, seconds: u64) -> io::Result<()> {
+        let limit = Some(Duration::from_secs(seconds));
+        self.stream.set_read_timeout(limit)?;
+        self.stream.set_write_timeout(limit)
+    }
+
+    /// Whether a read or a write waited too long.
+    pub(crate) fn timed_out(&self) -> bool {
+        self.timed_out.load(Ordering::SeqCst)
+    }
+
+    /// Tells that no client is attached for it.
+    pub(crate) fn refuse(&self, errno: Errno) {
+        let mut writer = self;
+        let _ = writer.write_all(&refusal(errno));
+    }
+
+    // Notes where this waited too long.
+    fn note(&self, done: &io::Result<usize>) {
+        if let Err(error) = done {
+            if error.kind() == ErrorKind::WouldBlock {
+                self.timed_out.store(true, Ordering::SeqCst);
+            }
+        }
+    }
+}
+
+// The frame that tells that no client is attached. It takes no memory.
+fn refusal(errno: Errno) -> [u8; 6]
+    ensures { result ≡ answer_frame (NotTaken errno) }
+{
+    [0, 0, 0, 2, 2, errno.number()]
+}
+
+impl Read for &Connection {
+    fn read(&mut self, piece: &mut [u8]) -> io::Result<usize> {
+        let mut stream = &self.stream;
+        let read = stream.read(piece);
+        self.note(&read);
+        read
+    }
+}
+
+impl Write for &Connection {
+    fn write(&mut self, bytes: &[u8]) -> io::Result<usize> {
+        let mut stream = &self.stream;
+        let written = stream.write(bytes);
+        self.note(&written);
+        written
+    }
+
+    fn flush(&mut self) -> io::Result<()> {
+        let mut stream = &self.stream;
+        stream.flush()
+    }
+}

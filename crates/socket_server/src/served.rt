@@ -1,0 +1,8 @@
+/// How a server ended.
+#[derive(Clone, Copy, Debug, PartialEq, Eq)]
+pub enum Served {
+    /// Each worker took its connections, and served or refused each.
+    Done,
+    /// A worker could not go on, which was told.
+    Failed,
+}
