@@ -22,36 +22,36 @@ unreachable-requires g c =
     let told = c.in_ok-upper.ensures in
     let lasts = c.lasting-options.ensures in
     let within = told-length (parse_document c.args.manifest.now) c.in_ok-upper.told told.options in
-    no-fault (vec_len c.in_ok-upper.lowers) c.lasting-options.result c.in_ok-upper.upper c.in_ok-upper.lowers.items c.in-Err.field-0.fault
-    (sound-number (is_some c.in_ok-upper.upper) (vec_len c.in_ok-upper.lowers) c.lasting-options.result c.in-Err.field-0.fault told.some_lower told.two_lowers told.few_lowers (lasts.least within.0) (lasts.most within.1))
-    (λ there marks. lasts.redirects ∙ told.redirected there (sym lasts.metacopy ∙ marks)) told.unmarked (rw c.in-Err.is at c.mount_keeping.ensures.fault)
+    no-fault (vec_len c.in_ok-upper.lowers) c.lasting-options.result c.in_ok-upper.upper c.in_ok-upper.lowers.items _
+    (sound-number (is_some c.in_ok-upper.upper) (vec_len c.in_ok-upper.lowers) c.lasting-options.result _ told.some_lower told.two_lowers told.few_lowers (lasts.least within.0) (lasts.most within.1))
+    (λ there marks. lasts.redirects ∙ told.redirected there (sym lasts.metacopy ∙ marks)) told.unmarked (rw (c.in-Err-Some.is, c.in-Err-Some.enum_told_along-in-Err-Some-1-is) at c.mount_keeping.ensures.fault)
 
-pub returns-clause-count : goal.returns-clause-count
-returns-clause-count g c =
+pub returns-in-Ok-clause-count : goal.returns-in-Ok-clause-count
+returns-in-Ok-clause-count g c =
     let told = c.in_ok-upper.ensures in
     let lowers = rw c.in-Ok.is at c.mount_keeping.ensures.lowers in
     let read_only = given_upper c.in_ok-upper.upper (core_read_only c.in-Ok.core) (rw c.in-Ok.is at c.mount_keeping.ensures.read_only) in
     rw (lowers, read_only) (sym (counted c.args.manifest.now c.in_ok-upper.upper c.in_ok-upper.lowers.items c.in_ok-upper.told told.options told.upper told.spelled))
 
-pub returns-clause-manifest : goal.returns-clause-manifest
-returns-clause-manifest g c =
+pub returns-in-Ok-clause-manifest : goal.returns-in-Ok-clause-manifest
+returns-in-Ok-clause-manifest g c =
     let told = c.in_ok-upper.ensures in
     refuses_none c.args.manifest.now c.in-Ok.core c.in_ok-upper.told told.not_utf8 told.not_toml told.options
 
-pub returns-clause-places : goal.returns-clause-places
-returns-clause-places g c =
+pub returns-in-Ok-clause-places : goal.returns-in-Ok-clause-places
+returns-in-Ok-clause-places g c =
     let options : core_options c.in-Ok.core ≡ c.lasting-options.result = rw c.in-Ok.is at c.mount_keeping.ensures.options in
     let finished : core_finished c.in-Ok.core ≡ 0 = rw c.in-Ok.is at c.mount_keeping.ensures.finished in
     first_places c.in-Ok.core (rw options (bounded (is_some (option_map layer_of c.in_ok-upper.upper)) (vec_len c.in_ok-upper.lowers) c.lasting-options.result ((rw c.in-Ok.is at c.mount_keeping.ensures.mounted).0))) finished (rw c.in-Ok.is at c.mount_keeping.ensures.nobody)
 
-pub returns-clause-begins : goal.returns-clause-begins
-returns-clause-begins g c = record {
+pub returns-in-Ok-clause-begins : goal.returns-in-Ok-clause-begins
+returns-in-Ok-clause-begins g c = record {
   nobody = rw c.in-Ok.is at c.mount_keeping.ensures.nobody;
   first = rw c.in-Ok.is at c.mount_keeping.ensures.first;
 }
 
-pub returns-clause-mount : goal.returns-clause-mount
-returns-clause-mount g c =
+pub returns-in-Ok-clause-mount : goal.returns-in-Ok-clause-mount
+returns-in-Ok-clause-mount g c =
     let told = c.in_ok-upper.ensures in
     let core = c.in-Ok.core in
     let upper = c.in_ok-upper.upper in
