@@ -49,6 +49,12 @@ fn reads_what_to_serve(rt: HostRuntime) -> Result<(), Fail> {
         verbose: false,
     };
     assert!(rt; plain == Invocation::Serve(wanted));
+    Ok(())
+}
+
+#[test]
+fn reads_each_option_of_serve(rt: HostRuntime) -> Result<(), Fail> {
+    let alloc = rt.alloc();
     let words = [
         "overlayd",
         "serve",
