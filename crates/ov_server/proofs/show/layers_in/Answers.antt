@@ -10,18 +10,18 @@ returns-in_err-upper-clause-manifest c =
     let told = c.in_err-upper.ensures in
     rw (p.1, p.2) (refuses_told _ (Unit {0}) c.args.manifest.now c.in_err-upper.field-0.0 told.not_utf8 told.not_toml told.told)
 
-pub returns-clause-count : goal.returns-clause-count
-returns-clause-count c =
+pub returns-in-Ok-clause-count : goal.returns-in-Ok-clause-count
+returns-in-Ok-clause-count c =
     let told = c.in_ok-upper.ensures in
     rw (rw c.in-Ok.is at c.new.ensures.lowers) (ap (λ (l : Layering). l.1) (sym (counted c.args.manifest.now c.in_ok-upper.upper c.in_ok-upper.lowers.items c.in_ok-upper.field-0-2 told.options told.upper told.spelled)))
 
-pub returns-clause-manifest : goal.returns-clause-manifest
-returns-clause-manifest c =
+pub returns-in-Ok-clause-manifest : goal.returns-in-Ok-clause-manifest
+returns-in-Ok-clause-manifest c =
     let told = c.in_ok-upper.ensures in
     refuses_none c.args.manifest.now c.in-Ok.layers c.in_ok-upper.field-0-2 told.not_utf8 told.not_toml told.options
 
-pub returns-clause-layers : goal.returns-clause-layers
-returns-clause-layers c =
+pub returns-in-Ok-clause-layers : goal.returns-in-Ok-clause-layers
+returns-in-Ok-clause-layers c =
     let told = c.in_ok-upper.ensures in
     holds_manifest c.args.manifest.now c.in_ok-upper.upper c.in_ok-upper.lowers.items c.in-Ok.layers
     (rw (rw c.in-Ok.is at c.new.ensures.upper) c.in_ok-over.ensures.given) (ap (λ v. v.items) (rw c.in-Ok.is at c.new.ensures.lowers)) told.upper told.spelled
