@@ -99,7 +99,7 @@ fn drafted<F: Callback + Copy, R: Rule>(
     hooks: &[Hook<F, R>],
     seed: u64,
 ) -> Result<Option<String>, AllocError> {
-    let Ok(core) = core_of::<F, R>(alloc, keys, manifest.text) else {
+    let Ok(core) = core_of::<F, R>(alloc, keys, manifest.text, None) else {
         return Ok(None);
     };
     let mut draft = Draft {
