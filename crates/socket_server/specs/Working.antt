@@ -1,6 +1,6 @@
 -- What the workers of a server leave of the connections that they took.
 use Rattle.std.specs.Prelude.{◌≡◌, ℕ, ◌+◌, true, false, Bool, List, [], ◌∷◌, ◌++◌, All, length, Option, unwrap_or}
-use Rattle.std.specs.List.{flat_map}
+use Rattle.std.specs.List.{flat_map, list_any}
 use Rattle.ov_frames.specs.declared.answer.Answer.{Answer}
 use Rattle.ov_session.specs.declared.exchange.Exchange.{Exchange}
 use Rattle.ov_session.specs.declared.exchange.Exchange.TheVariants.{Departed}
@@ -47,3 +47,12 @@ pub record IsWork {N : Type 0} (tags : List ℕ) (sessions : Option ℕ) (worked
   pub clients : All (λ receipts. IsClient tags receipts.items) worked.clients.items
   pub all : worked.failed ≡ false →
       length worked.clients.items + worked.refused ≡ unwrap_or sessions 18446744073709551615
+
+-- so many workers served, and these are the receipts of all that their clients did
+pub record Serves (N : Type 0) (tags : List ℕ) (count : ℕ) (sessions : Option ℕ)
+    (receipts : List Claim) (served : Served) : Type 0 where
+  pub workers : List (Worked N)
+  pub many : length workers ≡ count
+  pub work : All (IsWork tags sessions) workers
+  pub all : receipts ≡ flat_map receipts_in workers
+  pub end : served ≡ end_of (list_any (λ worked. worked.failed) workers)

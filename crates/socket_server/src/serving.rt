@@ -1,11 +1,12 @@
 // All workers of a server.
-ghost use Rattle.std.specs.Prelude.{◌≡◌, ◌++◌, ◌≤◌, All, IfOk, OnOk, length, map};
+ghost use Rattle.std.specs.Prelude.{◌≡◌, ◌++◌, ◌≤◌, All, IfOk, List, OnOk, filter, length, map};
 ghost use Rattle.std.specs.List.{flat_map, list_any};
+ghost use Rattle.locked_history.specs.Claims.{Claim, StandsIn, is_past_end, uncounted};
 ghost use Rattle.locked_history.specs.Entries.{history_of};
 ghost use Rattle.overlay_core.specs.LegalHistories.{Legally};
 ghost use Rattle.locked_history.specs.Names.{IsNamed};
 ghost use Rattle.locked_history.specs.Views.{core_past, entries_past};
-ghost use Rattle.socket_server.specs.Working.{IsWork, receipts_in};
+ghost use Rattle.socket_server.specs.Working.{IsWork, Serves, receipts_in};
 ghost use Rattle.socket_server.specs.Working as working;
 
 use crate::reports::Reports;
@@ -114,6 +115,63 @@ where
     left
 }
 
+// What the first of two threads does, which has the workers serve, or else the second, which tells
+// their lines and leaves nothing.
+fn work_or_tell<N, F, R, H>(
+    thread: usize,
+    rt: &H,
+    alloc: Global,
+    listener: &UnixListener,
+    mount: &Mount<N, F, R>,
+    hooks: &[Hook<F, R>],
+    reports: &Reports<'_, H>,
+    options: &ServeOptions<'_>,
+) -> Result<Vec<Worked<N>>, AllocError>
+where
+    N: MountName + Send + Sync,
+    F: Callback + Copy + Send + Sync,
+    R: Rule + Send + Sync,
+    H: Threads + Wait + Eprint + Sync,
+    ensures count { thread ≡ 0 → IfOk result (λ left. length left.items ≡ options.now.workers) }
+    ensures work { IfOk result (λ left.
+        All (IsWork (map (λ h. h.tag) hooks.now) options.now.sessions) left.items) }
+{
+    if thread == 0 {
+        work_all(rt, alloc, listener, mount, hooks, reports, options)
+    } else {
+        reports.tell_all();
+        Ok(Vec::new(alloc))
+    }
+}
+
+// Has the workers serve, while a thread tells their lines.
+fn work_and_tell<N, F, R, H>(
+    rt: &H,
+    alloc: Global,
+    listener: &UnixListener,
+    mount: &Mount<N, F, R>,
+    hooks: &[Hook<F, R>],
+    reports: &Reports<'_, H>,
+    options: &ServeOptions<'_>,
+) -> Result<Vec<Worked<N>>, AllocError>
+where
+    N: MountName + Send + Sync,
+    F: Callback + Copy + Send + Sync,
+    R: Rule + Send + Sync,
+    H: Threads + Wait + Eprint + Sync,
+    ensures count { IfOk result (λ left. length left.items ≡ options.now.workers) }
+    ensures work { IfOk result (λ left.
+        All (IsWork (map (λ h. h.tag) hooks.now) options.now.sessions) left.items) }
+{
+    let mut left = thread::map_indices(
+        rt,
+        alloc,
+        2,
+        &|thread| work_or_tell(thread, rt, alloc, listener, mount, hooks, reports, options),
+    )?;
+    left.swap_remove(0)
+}
+
 /// Serves the clients of a mount, each with copies of these hooks, until all workers have ended. The
 /// receipts of all that they did are handed back, and how the server ended: `Done` only where each
 /// worker took its connections, and each of these had a client or was refused one.
@@ -131,23 +189,20 @@ where
     F: Callback + Copy + Send + Sync,
     R: Rule + Send + Sync,
     H: Threads + Wait + Eprint + Sync,
+    ensures { IfOk result (λ r. Serves N (map (λ h. h.tag) hooks.now)
+        options.now.workers options.now.sessions r.0.items r.1) }
 {
     reports.listens(options.socket, options.workers);
-    let ((), left) = thread::join(
-        rt,
-        || reports.tell_all(),
-        || work_all(rt, alloc, listener, mount, hooks, reports, options),
-    );
-    let workers = left?;
+    let workers = work_and_tell(rt, alloc, listener, mount, hooks, reports, options)?;
     let end = end_of(has_failed(workers.as_slice()));
     let receipts = gathered(alloc, workers)?;
     Ok((receipts, end))
 }
 
 /// Serves the clients of a blank mount, each with copies of these hooks, until all workers have
-/// ended. What they did is one legal history, which ends in the state of the core, and the receipts
-/// that are handed back have a place past its end. It is called in a function that is generic in
-/// the mount's name.
+/// ended. What they did is one legal history, which ends in the state of the core; each receipt of
+/// it stands there, or is handed back since its place is past the end. It is called in a function
+/// that is generic in the mount's name.
 pub fn serve_blank<N, F, R, H>(
     rt: &H,
     alloc: Global,
@@ -167,6 +222,11 @@ where
         (core_past r.0) ∥₁) }
     ensures past { IfOk result (λ r. All (λ receipt. length (entries_past r.0) ≤ receipt.place)
         r.1.items) }
+    ensures served { IfOk result (λ r. (receipts : List Claim)
+        × Serves N (map (λ h. h.tag) hooks.now)
+        options.now.workers options.now.sessions receipts r.2
+        × All (StandsIn (entries_past r.0)) receipts
+        × (r.1.items ≡ filter (is_past_end (entries_past r.0)) (map uncounted receipts))) }
 {
     let mount: Mount<N, F, R> = Mount::open(blank);
     let (receipts, end) = serve_mount(rt, alloc, listener, &mount, hooks, reports, options)?;

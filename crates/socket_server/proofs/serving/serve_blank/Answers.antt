@@ -3,3 +3,11 @@ use Rattle.socket_server.proofs.serving.serve_blank.Goals as goal
 
 pub returns-clause-past : goal.returns-clause-past
 returns-clause-past g c = rw c.finish-past.ensures.left (past_end _ _)
+
+pub returns-clause-served : goal.returns-clause-served
+returns-clause-served g c = (
+  c.in_ok-receipts.receipts.items,
+  c.in_ok-receipts.ensures,
+  c.finish-past.ensures.stand,
+  c.finish-past.ensures.left,
+)
