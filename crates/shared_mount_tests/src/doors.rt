@@ -273,7 +273,8 @@ fn all_happen<F: Callback + Copy, R: Rule, H: Wait + Abort>(
     ];
     for (manifest, scenario, entries) in scenarios {
         let blank = blank_of::<F, R>(alloc, keys, manifest)?;
-        let hooks = vec![in alloc; hook.copied()]?;
+        let mut hooks = Vec::new(alloc);
+        hooks.push(hook.copied())?;
         happens_named(rt, alloc, blank, hooks, scenario, entries)?;
     }
     Ok(())
