@@ -116,7 +116,7 @@ module _ (m : Mount) (s : State) (st : IsStateOf m s) (c : ℕ) where
       (refused-list d n ∙ good)
       (ap reply.Names (pages.next ∙ ap (take n) left) ∙ sym (law.answer n))
       (subst (IsStateOf new) (sym (law.state n))
-      (state-set m s st c d h x.1 new pages.layers pages.redirects pages.metacopy _ (listed_on s.tree n (Some h)) pages.changes (λ f g k is on. cc is)
+      (state-set m s st c d h x.1 new pages.layers pages.redirects pages.metacopy pages.limit _ (listed_on s.tree n (Some h)) pages.changes (λ f g k is on. cc is)
       (record {
         location = x.2.location;
         located = pages.changes.places c d _ x.2.location (opened-after m.clients new.clients c d _ pages.changes) x.2.located;

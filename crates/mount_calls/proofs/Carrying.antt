@@ -113,6 +113,7 @@ module _ (m : Mount) (s : State) (st : IsStateOf m s) (new : Layers) (low : new.
     arrived = st.arrived;
     redirects = st.redirects;
     metacopy = st.metacopy;
+    limit = st.limit;
   }
 
   -- other layers of the same mount, in which live files stay live

@@ -180,6 +180,7 @@ module _ (m : Mount) (s : State) (st : IsStateOf m s) (new : Layers) where
     arrived = next ∙ st.arrived;
     redirects = st.redirects;
     metacopy = st.metacopy;
+    limit = st.limit;
   }
 
   -- a call that isn't refused is served, where open directories and open files stay

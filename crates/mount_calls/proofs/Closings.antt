@@ -178,6 +178,7 @@ module _ (m : Mount) (s : State) (st : IsStateOf m s) (c d : ℕ) where
           arrived = ch.next ∙ st.arrived;
           redirects = st.redirects;
           metacopy = st.metacopy;
+          limit = st.limit;
         })
       where
         there : is_some (opened_by m.clients c d) ≡ true

@@ -83,12 +83,13 @@ module _ (U : Layer) (lowers : List Layer) (t : Tree) (clients : Clients) (ks : 
   come-fewer = fewer-but clients new ks (ks ++ free_table n ∷ []) n h.others (handles-last-other ks n) opens-none
 
 -- a mount without clients stands for the opening state of the merge
-pub begins : (m : Mount) → ((n : ℕ) → get nat_cmp m.clients.attached n ≡ None) → m.clients.next ≡ 0 → (t : Tree) → AreLayers (layers_of m.layers) → IsMerge (upper_of m.layers) (lowers_of m.layers) t → IsStateOf m (opening t (record { redirects = m.redirects; metacopy = m.metacopy; read_only = false }))
+pub begins : (m : Mount) → ((n : ℕ) → get nat_cmp m.clients.attached n ≡ None) → m.clients.next ≡ 0 → (t : Tree) → AreLayers (layers_of m.layers) → IsMerge (upper_of m.layers) (lowers_of m.layers) t → IsStateOf m (opening t (record { redirects = m.redirects; metacopy = m.metacopy; read_only = false; file_limit = m.file_limit }))
 begins m none next t a merge = record {
-  layers = law_of_beginning (upper_of m.layers) (lowers_of m.layers) t m.redirects m.metacopy a merge;
+  layers = law_of_beginning (upper_of m.layers) (lowers_of m.layers) t m.redirects m.metacopy m.file_limit a merge;
   arrived = next;
   redirects = refl;
   metacopy = refl;
+  limit = refl;
   tables = record {
     attached = λ b. sym (ap (λ (o : Option Descriptors). is_some o) (none b));
     room = λ b. sym (ap (λ (o : Option Descriptors). cond (is_some o) DESCRIPTORS_MAX 0) (none b));
@@ -158,6 +159,7 @@ module _ (m : Mount) (s : State) (st : IsStateOf m s) (new : Clients) where
           layers = record { layers = st.layers.layers; shows = st.layers.shows; kept = st.layers.kept; writable = st.layers.writable };
           redirects = st.redirects;
           metacopy = st.metacopy;
+          limit = st.limit;
           arrived = h.rises ∙ add-one n ∙ ap suc same;
           tables = subst (λ z. AreTables (Alike m.layers s new) new (s.tables ++ free_table z ∷ [])) same (come (the_upper m) (the_lowers m) s.tree m.clients s.tables st.tables new n h);
           one = subst (λ z. AreOne new (s.tables ++ free_table z ∷ [])) same (one-fewer m.clients new s.tables _ (come-fewer (the_upper m) (the_lowers m) s.tree m.clients s.tables st.tables new n h) st.one);

@@ -1,24 +1,22 @@
--- What a call lacks can be had: a parent is on a way that is shown, and a file has the bytes that its layer's limits allow.
+-- What a call lacks can be had: a parent is on a way that is shown, and a file has bytes.
 use Rattle.std.specs.Prelude.{slice_get}
-use Rattle.std.proofs.Common.{◌≡◌, ◌≢◌, map, ℕ, zero, suc, ◌<◌, ◌≤◌, Bool, true, false, cond, nat_lt, List, [], ◌∷◌, length, Option, None, Some, All, option_map, refl, sym, ap, ◌∙◌, subst, arith}
+use Rattle.std.proofs.Common.{◌≡◌, ◌≢◌, map, ℕ, zero, suc, ◌<◌, Bool, true, false, cond, nat_lt, List, [], ◌∷◌, Option, None, Some, option_map, refl, sym, ap, ◌∙◌, subst, arith}
 use Rattle.std.specs.Option.{option_and_then}
 use Rattle.std.proofs.lemmas.Bool.{ltb-true}
 use Rattle.ov_base.specs.declared.bytes.Content.{Content}
 use Rattle.ov_base.specs.declared.bytes.Content.TheVariants as content
 use Rattle.ov_base.specs.declared.call.Call.{Call}
-use Rattle.plain_model.specs.Layers.{Path, Object, Directory, Named, Whiteout, Inode, Layer, held, below, cuts, Shown, Folder, Contents, file_or, over, unless, shows}
-use Rattle.plain_model.specs.Limits.{IsContentWithin, IsWithinLimits}
+use Rattle.plain_model.specs.Layers.{Path, Inode, Layer, Shown, Folder, Contents, shows}
 use Rattle.layer_tree.specs.Tree as tree
 use Rattle.layer_tree.specs.Tree.{Tree, inode_at, layer_of}
 use Rattle.merged_lookup.specs.declared.layers.Layers.{Layers}
 use Rattle.merged_lookup.specs.declared.stack.Place.{Place}
 use Rattle.merged_lookup.specs.Lower.{file_bytes}
-use Rattle.merged_lookup.specs.Marking.{file_content, file_place, place_if}
-use Rattle.merged_lookup.specs.Merged.{upper_of, layers_of, lowers_of, parents_fault}
+use Rattle.merged_lookup.specs.Marking.{file_place}
+use Rattle.merged_lookup.specs.Merged.{layers_of, lowers_of, parents_fault}
 use Rattle.merged_lookup.proofs.Preparing.{lower-shown}
 use Rattle.copy_up.specs.Needs.{IsNeed}
 use Rattle.copy_up.proofs.OwnBytes.{has-source}
-use Rattle.work_dir.specs.declared.limits.TheConstants.{FILE_MAX}
 use Rattle.work_dir.specs.declared.next.Lack.{Lack}
 use Rattle.ov_base.specs.declared.source.Source.{Source}
 use Rattle.mount_calls.specs.declared.mount.Mount.{Mount}
@@ -26,53 +24,15 @@ use Rattle.mount_calls.specs.Lacks.{bytes_at, copied_file, data_at, file_lack, l
 use Rattle.mount_calls.proofs.Lacking.{need-lacking}
 use Rattle.mount_calls.proofs.Stating.{the_layers, the_lowers, the_upper}
 
--- what holds of each of a list holds of those after the first
-all-tail : (P : Layer → Type 0) (x : Layer) (xs : List Layer) → All P (x ∷ xs) → All P xs
-all-tail P x xs a = λ k d less. a (suc k) d (omega (arith, less))
-
--- where a layer holds or lets through what is shown, it is within the limits
-over-within : (i : ℕ) (L : Layer) (p : Path) (j k : ℕ) (x : Inode) (o : Option Object) (c : Bool) (y : Option Shown) → IsWithinLimits L → held L p ≡ o →
-    (y ≡ Some (Contents j k (Some x)) → IsContentWithin x.content) → over i L.inodes o (unless c y) ≡ Some (Contents j k (Some x)) → IsContentWithin x.content
-over-within i L p j k x None true y w is rest h = cc
-over-within i L p j k x None false y w is rest h = rest h
-over-within i L p j k x (Some Whiteout) c y w is rest h = cc
-over-within i L p j k x (Some (Directory m a u r)) c y w is rest h = cc
-over-within i L p j k x (Some (Named m)) c y w is rest h = let there : L.inodes m ≡ Some x = cc in w.contents p m x is there
-
--- what a file or link holds that is shown is within the limits of layers that are
-shown-within : (i : ℕ) (Ls : List Layer) → All IsWithinLimits Ls → (p : Path) (j k : ℕ) (x : Inode) → shows i Ls p ≡ Some (Contents j k (Some x)) → IsContentWithin x.content
-shown-within i [] a p j k x h = cc
-shown-within i (L ∷ Ls) a p j k x h =
-    over-within i L p j k x (held L p) (cuts L p) (shows (suc i) Ls (below L p)) (a 0 L (omega arith)) refl
-    (shown-within (suc i) Ls (all-tail IsWithinLimits L Ls a) (below L p) j k x) h
-
--- what is shown of a lower layer comes through the upper
-low-through : (inodes : ℕ → Option Inode) (o : Option Object) (c : Bool) (y : Option Shown) (j k : ℕ) (x : Option Inode) → over 0 inodes o (unless c y) ≡ Some (Contents (suc j) k x) → y ≡ Some (Contents (suc j) k x)
-low-through inodes None true y j k x h = cc
-low-through inodes None false y j k x h = h
-low-through inodes (Some Whiteout) c y j k x h = cc
-low-through inodes (Some (Directory m a u r)) c y j k x h = cc
-low-through inodes (Some (Named m)) c y j k x h = let e : 0 ≡ suc j = cc in absurd (omega (arith, e))
-
--- the bytes of a file are within the limits where it is
-bytes-within : (c : Content) (b : List ℕ) → c ≡ content.File b → IsContentWithin c → length b ≤ FILE_MAX
-bytes-within c b is w = subst IsContentWithin is w
-
--- a lower file has bytes, no more than its layer's limits allow
+-- a lower file has bytes
 abbrev pub HasBytes : List Layer → Source → Type 0
-HasBytes lowers d = (b : List ℕ) × (bytes_at lowers d ≡ Some b) × (All IsWithinLimits lowers → length b ≤ FILE_MAX)
+HasBytes lowers d = (b : List ℕ) × (bytes_at lowers d ≡ Some b)
 
 low-bytes : (l : Layers) (p : Path) (j k : ℕ) (i : Inode) (b : List ℕ) → i.content ≡ content.File b → shows 0 (layers_of l) p ≡ Some (Contents j k (Some i)) → 0 < j →
     HasBytes (lowers_of l) (record { layer = j; key = k })
 low-bytes l p zero k i b is shown lower = absurd (omega (arith, lower))
 low-bytes l p (suc j) k i b is shown lower =
-    let U = upper_of l in (
-      b,
-      ap (option_and_then (λ (x : Inode). file_bytes x.content)) (lower-shown l p j k (Some i) shown) ∙ ap file_bytes is,
-      λ a. bytes-within i.content b is
-          (shown-within 1 (lowers_of l) a (below U p) (suc j) k i
-          (low-through U.inodes (held U p) (cuts U p) (shows 1 (lowers_of l) (below U p)) j k (Some i) shown)),
-    )
+    (b, ap (option_and_then (λ (x : Inode). file_bytes x.content)) (lower-shown l p j k (Some i) shown) ∙ ap file_bytes is)
 
 -- a lower file that is shown is there
 record IsLowFile (s : Option Shown) (d : Source) : Type 0 where
@@ -98,13 +58,6 @@ is-low-file (Some (Folder j k a)) d h = cc
 is-low-file (Some (Contents j k None)) d h = cc
 is-low-file (Some (Contents j k (Some i))) d h = low-file-in j k i d (nat_lt 0 j) i.content refl refl h
 
--- a file is shown at this place
-record IsPlaced (s : Option Shown) (d : Place) : Type 0 where
-  pub inode : Inode
-  pub bytes : List ℕ
-  pub content : inode.content ≡ content.File bytes
-  pub shown : s ≡ Some (Contents d.layer d.key (Some inode))
-
 -- each file that is lacking has bytes
 abbrev pub IsOfBytes : Mount → Option Source → Type 0
 IsOfBytes m file = (d : Source) → file ≡ Some d → HasBytes (the_lowers m) d
@@ -125,36 +78,13 @@ copied-bytes m p = by m.metacopy
     by true = none-bytes m
     by false = shown-bytes m p
 
--- the file at a place that is shown
-placed-in : (e : Place) (x : Inode) (d : Place) (c : Content) → x.content ≡ c → place_if e (file_content (Some (record x { content = c }))) ≡ Some d → IsPlaced (Some (Contents e.layer e.key (Some x))) d
-placed-in e x d (content.File b) is h =
-    let same : e ≡ d = cc in
-    subst (λ z. IsPlaced (Some (Contents e.layer e.key (Some x))) z) same (record { inode = x; bytes = b; content = is; shown = refl })
-placed-in e x d (content.SymbolicLink target) is h = cc
-
-of-place : (s : Option Shown) (d : Place) → file_place s ≡ Some d → IsPlaced s d
-of-place None d h = cc
-of-place (Some (Folder j k a)) d h = cc
-of-place (Some (Contents j k None)) d h = cc
-of-place (Some (Contents j k (Some x))) d h = placed-in (record { layer = j; key = k }) x d x.content refl h
-
 -- so has a marked file, by the lower file that is shown at its mark
 marked-bytes : (l : Layers) (m : Option Path) (d : Source) → marked_file (lowers_of l) m ≡ Some d → HasBytes (lowers_of l) d
 marked-bytes l None d h = cc
 marked-bytes l (Some q) d h = by (file_place (shows 1 (lowers_of l) q)) refl h
   where
     placed : (e : Place) → file_place (shows 1 (lowers_of l) q) ≡ Some e → HasBytes (lowers_of l) (source_in e)
-    placed e at =
-        let x = of-place (shows 1 (lowers_of l) q) e at in
-        let s = has-source l q e (sym at) in
-        let both : content.File s.bytes ≡ content.File x.bytes =
-        sym (s.shown []) ∙ ap (file_or (content.File [])) x.shown
-        ∙ ap (λ z. file_or (content.File []) (Some (Contents e.layer e.key (Some (record x.inode { content = z }))))) x.content in
-        let one : s.bytes ≡ x.bytes = cc in (
-          x.bytes,
-          s.there ∙ ap Some one,
-          λ a. bytes-within x.inode.content x.bytes x.content (shown-within 1 (lowers_of l) a q e.layer e.key x.inode x.shown),
-        )
+    placed e at = let s = has-source l q e (sym at) in (s.bytes, s.there)
 
     by : (o : Option Place) → file_place (shows 1 (lowers_of l) q) ≡ o → option_map source_in o ≡ Some d → HasBytes (lowers_of l) d
     by None at h = cc

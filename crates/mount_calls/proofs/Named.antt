@@ -165,17 +165,17 @@ change-paths f mild t o (n ∷ q) = ap (λ z. entry (change f t o) z n) (change-
     entries (Some x) = (change-like f mild t o x).names n
 
 -- a write at a place changes no names
-wrote-mild : (at : ℕ) (bytes : List ℕ) → IsMild (wrote at bytes)
-wrote-mild at bytes x = bytes-mild (written (bytes_of_node (Some x)) at (fitting at bytes)) x
+wrote-mild : (limit at : ℕ) (bytes : List ℕ) → IsMild (wrote limit at bytes)
+wrote-mild limit at bytes x = bytes-mild (written (bytes_of_node (Some x)) at (fitting limit at bytes)) x
 
 -- so after one, or none, paths lead where they led
-wrote-paths : (t : Tree) (o : Option NodeId) (at : ℕ) (bytes : List ℕ) (q : Path) (none : Bool) → node_at (cond none t (change (wrote at bytes) t o)) q ≡ node_at t q
-wrote-paths t o at bytes q true = refl
-wrote-paths t o at bytes q false = change-paths (wrote at bytes) (wrote-mild at bytes) t o q
+wrote-paths : (limit : ℕ) (t : Tree) (o : Option NodeId) (at : ℕ) (bytes : List ℕ) (q : Path) (none : Bool) → node_at (cond none t (change (wrote limit at bytes) t o)) q ≡ node_at t q
+wrote-paths limit t o at bytes q true = refl
+wrote-paths limit t o at bytes q false = change-paths (wrote limit at bytes) (wrote-mild limit at bytes) t o q
 
 -- as they do after each write
 pub write-paths : (s : State) (c fd : ℕ) (bytes : List ℕ) (q : Path) → node_at (after s c (call.Write fd bytes)).tree q ≡ node_at s.tree q
-write-paths s c fd bytes q = wrote-paths s.tree (node_of_handle (handle_of s.tables c fd)) (write_place s.tree (handle_of s.tables c fd)) bytes q (nat_eq (length bytes) 0)
+write-paths s c fd bytes q = wrote-paths s.options.file_limit s.tree (node_of_handle (handle_of s.tables c fd)) (write_place s.tree (handle_of s.tables c fd)) bytes q (nat_eq (length bytes) 0)
 
 -- after a truncation
 pub truncate-paths : (s : State) (c fd size : ℕ) (q : Path) → node_at (after s c (call.Truncate fd size)).tree q ≡ node_at s.tree q

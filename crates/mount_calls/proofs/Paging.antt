@@ -37,6 +37,7 @@ module _ (m : Mount) (new : Clients) (c d : ℕ) (o : OpenDirectory) (was : open
           layers = refl;
           redirects = refl;
           metacopy = refl;
+          limit = refl;
         }
 
     -- the names come from the listing that is kept
@@ -61,6 +62,7 @@ module _ (m : Mount) (new : Clients) (c d : ℕ) (o : OpenDirectory) (was : open
       layers = refl;
       redirects = refl;
       metacopy = refl;
+      limit = refl;
     }
       where
         by : (l : Option (List Name)) → is_some l ≡ false → AreLeft (layers_of m.layers) (path_of m.clients o) l left

@@ -185,6 +185,7 @@ module _ (m : Mount) (s : State) (st : IsStateOf m s) where
             arrived = follows.next ∙ st.arrived;
             redirects = st.redirects;
             metacopy = st.metacopy;
+            limit = st.limit;
           })
 
 -- a rename is prepared, and each open directory stands where it stood

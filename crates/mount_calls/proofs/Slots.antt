@@ -91,9 +91,9 @@ module _ (m : Mount) (s : State) (st : IsStateOf m s) where
 
     module _ (h : Handle) (on : handle_of s.tables c d ≡ Some h) where
       -- a descriptor is set on both sides, alike, and to a file of the upper only where it led to the same
-      pub state-set : (new : Mount) → new.layers ≡ m.layers → new.redirects ≡ m.redirects → new.metacopy ≡ m.metacopy → (o : Option handles.Handle) (x : Option Handle) → ChangesClient m.clients new.clients c (λ b y. SetsSlot b y d o) → ((f : OpenFile) (z : Handle) (k : ℕ) → o ≡ Some (File f) → x ≡ Some z → f.source ≡ Upper k → IsOpenOn m.clients s.tables k z.node) → IsSlot (Alike m.layers s new.clients) o x → IsStateOf new (record s { tables = with_handle s.tables c d x })
-      state-set new same redirects metacopy o x ch again like =
-          with-tables m s st new (with_handle s.tables c d x) same redirects metacopy ch.next
+      pub state-set : (new : Mount) → new.layers ≡ m.layers → new.redirects ≡ m.redirects → new.metacopy ≡ m.metacopy → new.file_limit ≡ m.file_limit → (o : Option handles.Handle) (x : Option Handle) → ChangesClient m.clients new.clients c (λ b y. SetsSlot b y d o) → ((f : OpenFile) (z : Handle) (k : ℕ) → o ≡ Some (File f) → x ≡ Some z → f.source ≡ Upper k → IsOpenOn m.clients s.tables k z.node) → IsSlot (Alike m.layers s new.clients) o x → IsStateOf new (record s { tables = with_handle s.tables c d x })
+      state-set new same redirects metacopy limit o x ch again like =
+          with-tables m s st new (with_handle s.tables c d x) same redirects metacopy limit ch.next
           (tables-set alike m.clients s.tables st.tables new.clients (Alike m.layers s new.clients) c d o x ch inside
           (λ b i p z opens was is l. placed (the_upper m) (the_lowers m) s.tree m.clients.directories new.clients.directories p z (λ e q is_e at. ch.places b i e q (opens ∙ ap Some is_e) at) l)
           like)

@@ -26,8 +26,8 @@ Alike l s clients = IsOpenAs (upper_of l) (lowers_of l) s.tree clients.directori
 
 module _ (m : Mount) (s : State) (st : IsStateOf m s) where
   -- the state with other tables, of a mount of the same layers
-  pub with-tables : (new : Mount) (ks : List Table) → new.layers ≡ m.layers → new.redirects ≡ m.redirects → new.metacopy ≡ m.metacopy → new.clients.next ≡ m.clients.next → AreTables (Alike m.layers s new.clients) new.clients ks → AreOne new.clients ks → IsStateOf new (record s { tables = ks })
-  with-tables new ks same redirects metacopy next a one = grind arith
+  pub with-tables : (new : Mount) (ks : List Table) → new.layers ≡ m.layers → new.redirects ≡ m.redirects → new.metacopy ≡ m.metacopy → new.file_limit ≡ m.file_limit → new.clients.next ≡ m.clients.next → AreTables (Alike m.layers s new.clients) new.clients ks → AreOne new.clients ks → IsStateOf new (record s { tables = ks })
+  with-tables new ks same redirects metacopy limit next a one = grind arith
 
   -- the same clients with the same descriptors
   pub keep-same : (new : Clients) → SameClients m.clients new → IsStateOf (record m { clients = new }) s

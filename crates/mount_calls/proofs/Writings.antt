@@ -11,7 +11,7 @@ use Rattle.ov_base.specs.declared.source.Source.{Source}
 use Rattle.plain_model.specs.Layers.{IsLayer}
 use Rattle.plain_model.specs.Tree.{IsThin}
 use Rattle.plain_model.specs.Machine.{bytes_of_node}
-use Rattle.plain_model.specs.Refusals.{FILE_MAX, TRANSFER_MAX}
+use Rattle.plain_model.specs.Refusals.{TRANSFER_MAX}
 use Rattle.plain_model.specs.Changes.{fitting, wrote}
 use Rattle.plain_model.proofs.Uppers.{agree-where, under-agree}
 use Rattle.layer_tree.specs.Tree.{own_at, SameObjects, SameTree, written}
@@ -84,28 +84,28 @@ unrefused-write : (f : OpenFile) (count : ℕ) → write_fault (Some (File f)) c
 unrefused-write f count h = grind arith
 
 -- and so is a truncation
-unrefused-truncation : (f : OpenFile) (size : ℕ) → truncate_fault (Some (File f)) size ≡ None → is_none (written_key f) ≡ false
-unrefused-truncation f size h = grind arith
+unrefused-truncation : (limit : ℕ) (f : OpenFile) (size : ℕ) → truncate_fault limit (Some (File f)) size ≡ None → is_none (written_key f) ≡ false
+unrefused-truncation limit f size h = grind arith
 
 -- why a write of so many bytes is refused at its place: none of them fits
-abbrev room_fault : ℕ → ℕ → Option Errno
-room_fault n start = when (nat_lt 0 n && not (nat_lt start FILE_MAX)) errno.EFBIG
+abbrev room_fault : ℕ → ℕ → ℕ → Option Errno
+room_fault limit n start = when (nat_lt 0 n && not (nat_lt start limit)) errno.EFBIG
 
 -- so is a count of those that fit
-unfitting : (n start : ℕ) (e : Errno) → count_fitting start n ≡ Err e → room_fault n start ≡ Some e
-unfitting n start e h = grind arith
+unfitting : (limit n start : ℕ) (e : Errno) → count_fitting limit start n ≡ Err e → room_fault limit n start ≡ Some e
+unfitting limit n start e h = grind arith
 
 -- or they are as many as there is room for
-fits : (n start count : ℕ) → count_fitting start n ≡ Ok count → (room_fault n start ≡ None) × (count ≡ min (FILE_MAX - start) n)
-fits n start count h = grind arith
+fits : (limit n start count : ℕ) → count_fitting limit start n ≡ Ok count → (room_fault limit n start ≡ None) × (count ≡ min (limit - start) n)
+fits limit n start count h = grind arith
 
 -- bytes that aren't none
 some-there : (bytes : List ℕ) → nat_eq (length bytes) 0 ≡ false → bytes ≢ []
 some-there bytes h e = false≢true (sym h ∙ ap (λ z. nat_eq (length z) 0) e)
 
 -- of nothing, nothing fits
-none-fits : (start : ℕ) → length (fitting start []) ≡ 0
-none-fits start = grind arith
+none-fits : (limit start : ℕ) → length (fitting limit start []) ≡ 0
+none-fits limit start = grind arith
 
 -- a change of a file is that of its bytes
 change-bytes : (t : Tree) (d : NodeId) (f : Node → Node) (x : Node) (bytes : List ℕ) → t d ≡ Some x → f x ≡ with_bytes bytes x → change f t (Some d) ≡ rewritten t d bytes
@@ -166,19 +166,19 @@ module _ (m : Mount) (s : State) (st : IsStateOf m s) (c d : ℕ) where
     Truncates r new = Serves (refusal s c (call.Truncate d size)) s c (call.Truncate d size) r new
 
     -- why a truncation is refused
-    truncate-refusal : refusal s c (call.Truncate d size) ≡ truncate_fault (opened_by m.clients c d) size
+    truncate-refusal : refusal s c (call.Truncate d size) ≡ truncate_fault m.file_limit (opened_by m.clients c d) size
     truncate-refusal =
-        by-opened m s st c d (λ o. refusal s c (call.Truncate d size) ≡ truncate_fault o size)
+        by-opened m s st c d (λ o. refusal s c (call.Truncate d size) ≡ truncate_fault m.file_limit o size)
         (λ none. (law_of_unopened s c d none).sizing size)
-        (λ f h on is. (law_of_truncate s c d h on).refused size ∙ ap (λ b. or_else (when b errno.EINVAL) (when (nat_lt FILE_MAX size) errno.EFBIG)) (not-writing (the_upper m) (the_lowers m) s.tree f h is))
+        (λ f h on is. (law_of_truncate s c d h on).refused size ∙ ap (λ b. or_else (when b errno.EINVAL) (when (nat_lt s.options.file_limit size) errno.EFBIG)) (not-writing (the_upper m) (the_lowers m) s.tree f h is) ∙ ap (λ (k : ℕ). or_else (when (is_none (written_key f)) errno.EINVAL) (when (nat_lt k size) errno.EFBIG)) st.limit)
         (λ o h on is. (law_of_directory_handle s c d h on is.directory).sizing (ap (λ (z : Handle). z.writes) is.access) size)
 
     -- it is refused so
-    pub truncate-refused : (e : Errno) → truncate_fault (opened_by m.clients c d) size ≡ Some e → Truncates (reply.Refused e) m
+    pub truncate-refused : (e : Errno) → truncate_fault m.file_limit (opened_by m.clients c d) size ≡ Some e → Truncates (reply.Refused e) m
     truncate-refused e h = serve-refused _ s c _ e m (truncate-refusal ∙ h) st
 
     -- else the file gets the size
-    pub truncate-done : (f : OpenFile) → file_by m.clients c d ≡ Some f → truncate_fault (opened_by m.clients c d) size ≡ None → (new : Layers) → StaysLayers m.layers new → ((k : ℕ) (old : List ℕ) → f.source ≡ Upper k → own_at m.layers.upper k ≡ Some old → SetsFile m.layers new k (sized old size)) → Truncates reply.Done (record m { layers = new })
+    pub truncate-done : (f : OpenFile) → file_by m.clients c d ≡ Some f → truncate_fault m.file_limit (opened_by m.clients c d) size ≡ None → (new : Layers) → StaysLayers m.layers new → ((k : ℕ) (old : List ℕ) → f.source ≡ Upper k → own_at m.layers.upper k ≡ Some old → SetsFile m.layers new k (sized old size)) → Truncates reply.Done (record m { layers = new })
     truncate-done f is good new keeps sets =
         serve-done _ s c _ _ (record m { layers = new }) (truncate-refusal ∙ good) (sym (law.answer size))
         (subst (IsStateOf (record m { layers = new })) (ap (λ (t : Tree). record s { tree = t }) (sym same) ∙ sym (law.state size))
@@ -188,7 +188,7 @@ module _ (m : Mount) (s : State) (st : IsStateOf m s) (c d : ℕ) where
         opens = file-open (opened_by m.clients c d) f is
 
         found : (h : Handle) × IsWriting m s c d f h
-        found = writing f opens (unrefused-truncation f size (sym (ap (λ o. truncate_fault o size) opens) ∙ good))
+        found = writing f opens (unrefused-truncation m.file_limit f size (sym (ap (λ o. truncate_fault m.file_limit o size) opens) ∙ good))
 
         h : Handle
         h = found.0
@@ -212,7 +212,7 @@ module _ (m : Mount) (s : State) (st : IsStateOf m s) (c d : ℕ) where
     Writes r new = Serves (refusal s c (call.Write d bytes)) s c (call.Write d bytes) r new
 
     -- why a write by a handle on an open file is refused: for its count, for want of access, or for its place
-    faults : (f : OpenFile) (h : Handle) → handle_of s.tables c d ≡ Some h → IsFile (the_upper m) (the_lowers m) s.tree f h → refusal s c (call.Write d bytes) ≡ or_else (when (nat_lt TRANSFER_MAX (length bytes)) errno.EINVAL) (or_else (when (is_none (written_key f)) errno.EBADF) (room_fault (length bytes) (write_start s h)))
+    faults : (f : OpenFile) (h : Handle) → handle_of s.tables c d ≡ Some h → IsFile (the_upper m) (the_lowers m) s.tree f h → refusal s c (call.Write d bytes) ≡ or_else (when (nat_lt TRANSFER_MAX (length bytes)) errno.EINVAL) (or_else (when (is_none (written_key f)) errno.EBADF) (room_fault s.options.file_limit (length bytes) (write_start s h)))
     faults f h on file = grind arith
 
     -- a write is refused so before its place is asked for
@@ -244,8 +244,8 @@ module _ (m : Mount) (s : State) (st : IsStateOf m s) (c d : ℕ) where
       law = law_of_write s c d h w.on
 
       -- so it is refused only for its place
-      write-refusal : refusal s c (call.Write d bytes) ≡ room_fault (length bytes) (write_start s h)
-      write-refusal = faults f h w.on w.file ∙ last-of (when (nat_lt TRANSFER_MAX (length bytes)) errno.EINVAL) (when (is_none (written_key f)) errno.EBADF) (room_fault (length bytes) (write_start s h)) good-file
+      write-refusal : refusal s c (call.Write d bytes) ≡ room_fault s.options.file_limit (length bytes) (write_start s h)
+      write-refusal = faults f h w.on w.file ∙ last-of (when (nat_lt TRANSFER_MAX (length bytes)) errno.EINVAL) (when (is_none (written_key f)) errno.EBADF) (room_fault s.options.file_limit (length bytes) (write_start s h)) good-file
 
       -- a write of nothing changes nothing
       pub write-nothing : nat_eq (length bytes) 0 ≡ true → Writes (reply.Written 0) m
@@ -260,43 +260,43 @@ module _ (m : Mount) (s : State) (st : IsStateOf m s) (c d : ℕ) where
             begins s.tree h w.file.append w.file.place (ap (λ o. length (bytes_of_node o)) w.live.node ∙ sym (ap length (reads _ inode)))
 
         -- so the place is refused alike
-        placed-refusal : refusal s c (call.Write d bytes) ≡ room_fault (length bytes) start
-        placed-refusal = write-refusal ∙ ap (room_fault (length bytes)) (sym begin)
+        placed-refusal : refusal s c (call.Write d bytes) ≡ room_fault m.file_limit (length bytes) start
+        placed-refusal = write-refusal ∙ ap (room_fault s.options.file_limit (length bytes)) (sym begin) ∙ ap (λ (k : ℕ). room_fault k (length bytes) start) st.limit
 
         -- where no byte fits the write is refused
-        pub write-unfitting : (e : Errno) → count_fitting start (length bytes) ≡ Err e → Writes (reply.Refused e) m
-        write-unfitting e none = serve-refused _ s c _ e m (placed-refusal ∙ unfitting (length bytes) start e none) st
+        pub write-unfitting : (e : Errno) → count_fitting m.file_limit start (length bytes) ≡ Err e → Writes (reply.Refused e) m
+        write-unfitting e none = serve-refused _ s c _ e m (placed-refusal ∙ unfitting m.file_limit (length bytes) start e none) st
 
         -- else what fits is written, and the handle's place is after it
-        pub write-done : nat_eq (length bytes) 0 ≡ false → (count : ℕ) → count_fitting start (length bytes) ≡ Ok count → (given : List ℕ) → given ≡ fitting start bytes → (new : Layers) → StaysLayers m.layers new → ((k : ℕ) (old : List ℕ) → f.source ≡ Upper k → own_at m.layers.upper k ≡ Some old → SetsFile m.layers new k (written old start given)) → (clients : Clients) → ChangesClient m.clients clients c (λ x y. ChangesSlot x y d (with_place (start + count))) → Writes (reply.Written count) (record m { layers = new; clients = clients })
+        pub write-done : nat_eq (length bytes) 0 ≡ false → (count : ℕ) → count_fitting m.file_limit start (length bytes) ≡ Ok count → (given : List ℕ) → given ≡ fitting m.file_limit start bytes → (new : Layers) → StaysLayers m.layers new → ((k : ℕ) (old : List ℕ) → f.source ≡ Upper k → own_at m.layers.upper k ≡ Some old → SetsFile m.layers new k (written old start given)) → (clients : Clients) → ChangesClient m.clients clients c (λ x y. ChangesSlot x y d (with_place (start + count))) → Writes (reply.Written count) (record m { layers = new; clients = clients })
         write-done full count fit given fitted new keeps sets clients moves =
             serve-done _ s c _ _ (record m { layers = new; clients = clients })
-            (placed-refusal ∙ (fits (length bytes) start count fit).0)
+            (placed-refusal ∙ (fits m.file_limit (length bytes) start count fit).0)
             (ap reply.Written counted ∙ sym (law.answer bytes))
             (subst (IsStateOf (record m { layers = new; clients = clients })) (steps ∙ sym (law.state bytes (some-there bytes full)))
             (place-moved (record m { layers = new }) (record s { tree = rewritten s.tree h.node now }) made c d h w.on f opens (start + count) clients moves))
           where
             now : List ℕ
-            now = written w.live.bytes start (fitting start bytes)
+            now = written w.live.bytes start (fitting s.options.file_limit start bytes)
 
             -- the upper has the bytes
             sets_now : SetsFile m.layers new w.key now
-            sets_now = subst (λ z. SetsFile m.layers new w.key (written w.live.bytes start z)) fitted (sets w.key w.live.bytes w.source (bytes-there f h w))
+            sets_now = subst (λ z. SetsFile m.layers new w.key (written w.live.bytes start z)) (fitted ∙ ap (λ (k : ℕ). fitting k start bytes) (sym st.limit)) (sets w.key w.live.bytes w.source (bytes-there f h w))
 
             -- the state before the place moves
             made : IsStateOf (record m { layers = new }) (record s { tree = rewritten s.tree h.node now })
             made = state-rewritten m s st new w.key h.node now (open-on f h w) keeps sets_now
 
             -- the machine writes as many
-            counted : count ≡ length (fitting (write_start s h) bytes)
-            counted = (fits (length bytes) start count fit).1 ∙ sym (length-take (FILE_MAX - start) bytes) ∙ ap (λ z. length (fitting z bytes)) begin
+            counted : count ≡ length (fitting s.options.file_limit (write_start s h) bytes)
+            counted = (fits m.file_limit (length bytes) start count fit).1 ∙ sym (length-take (m.file_limit - start) bytes) ∙ ap (λ (k : ℕ). length (fitting k start bytes)) (sym st.limit) ∙ ap (λ z. length (fitting s.options.file_limit z bytes)) begin
 
             -- and makes the same tree
-            tree : rewritten s.tree h.node now ≡ change (wrote (write_start s h) bytes) s.tree (Some h.node)
+            tree : rewritten s.tree h.node now ≡ change (wrote s.options.file_limit (write_start s h) bytes) s.tree (Some h.node)
             tree =
                 let leaf : Node = Leaf (content.File w.live.bytes) w.live.attributes (Own (is_some w.live.mark)) w.live.links in
-                sym (change-bytes s.tree h.node (wrote start bytes) leaf now w.live.node refl) ∙ ap (λ z. change (wrote z bytes) s.tree (Some h.node)) begin
+                sym (change-bytes s.tree h.node (wrote s.options.file_limit start bytes) leaf now w.live.node refl) ∙ ap (λ z. change (wrote s.options.file_limit z bytes) s.tree (Some h.node)) begin
 
             -- so its state is the same
-            steps : record s { tree = rewritten s.tree h.node now; tables = with_handle s.tables c d (Some (record h { place = start + count })) } ≡ record s { tree = change (wrote (write_start s h) bytes) s.tree (Some h.node); tables = with_handle s.tables c d (Some (record h { place = write_start s h + length (fitting (write_start s h) bytes) })) }
+            steps : record s { tree = rewritten s.tree h.node now; tables = with_handle s.tables c d (Some (record h { place = start + count })) } ≡ record s { tree = change (wrote s.options.file_limit (write_start s h) bytes) s.tree (Some h.node); tables = with_handle s.tables c d (Some (record h { place = write_start s h + length (fitting s.options.file_limit (write_start s h) bytes) })) }
             steps = λ i. record s { tree = tree i; tables = with_handle s.tables c d (Some (record h { place = begin i + counted i })) }

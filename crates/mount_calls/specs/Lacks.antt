@@ -1,8 +1,8 @@
 -- What a call lacks in the upper before it can be made there: a directory on the way to a path that
 -- it changes, and then the bytes of a file of a lower layer (overlayfs.rst, "Non-directories": a
 -- file is copied up as it is first changed, and its parents with it).
-use Rattle.std.specs.Prelude.{◌≡◌, ◌↔◌, ℕ, zero, nat_lt, ◌≤◌, Bool, true, false, ◌||◌, ◌&&◌, cond}
-use Rattle.std.specs.Prelude.{List, [], ◌∷◌, length, All, Option, None, Some, is_none, unwrap_or}
+use Rattle.std.specs.Prelude.{◌≡◌, ◌↔◌, ℕ, zero, nat_lt, Bool, true, false, ◌||◌, ◌&&◌, cond}
+use Rattle.std.specs.Prelude.{List, [], ◌∷◌, length, Option, None, Some, is_none, unwrap_or}
 use Rattle.std.specs.Prelude.{option_map, Result, IfErr, IfOk, OnOk}
 use Rattle.std.specs.Option.{option_or}
 use Rattle.ov_base.specs.declared.bytes.Content.{Content}
@@ -11,7 +11,6 @@ use Rattle.ov_base.specs.declared.call.Call.{Call}
 use Rattle.ov_base.specs.declared.call.Call.TheVariants as call
 use Rattle.ov_base.specs.declared.errno.Errno.{Errno}
 use Rattle.plain_model.specs.Layers.{Path, Layer, held, holds_directory, Shown, Contents, shows}
-use Rattle.plain_model.specs.Limits.{IsWithinLimits}
 use Rattle.plain_model.specs.Machine.{State}
 use Rattle.plain_model.specs.Refusals.{refusal}
 use Rattle.layer_tree.specs.Tree.{layer_of}
@@ -23,7 +22,6 @@ use Rattle.mount_laws.specs.Renaming.{is_one}
 use Rattle.copy_up.specs.declared.needs.Need.{Need}
 use Rattle.copy_up.specs.declared.needs.Need.TheVariants as need
 use Rattle.copy_up.specs.Needs.{IsNeed}
-use Rattle.work_dir.specs.declared.limits.TheConstants.{FILE_MAX}
 use Rattle.work_dir.specs.declared.next.Lack.{Lack}
 use Rattle.work_dir.specs.declared.next.Lack.TheVariants as lacks
 use Rattle.ov_base.specs.declared.source.Source.{Source}
@@ -191,17 +189,14 @@ OpensToChange Ls (call.Open p f mode) = (f.writes || (f.create && is_none (shows
 OpensToChange Ls _ = Unit {0}
 
 -- What is lacking can be had. A directory is on the way to a path of the call, which is shown, and
--- is the topmost that the upper lacks there. A file is one of a lower layer, and no greater than
--- its layer's files may be.
+-- is the topmost that the upper lacks there. A file is one of a lower layer.
 abbrev pub CanBeHad : Mount → Call → Lack → Type 0
 CanBeHad m k lacks.Nothing = Unit {0}
 CanBeHad m k (lacks.Parent second count) =
     (p : Path) × (path_of_call k second ≡ Some p) × (parents_fault (layers_of m.layers) p ≡ None)
     × IsNeed (layer_of m.layers.upper) p (need.Directory count)
     × OpensToChange (layers_of m.layers) k
-CanBeHad m k (lacks.File d) =
-    (b : List ℕ) × (bytes_at (lowers_of m.layers) d ≡ Some b)
-    × (All IsWithinLimits (lowers_of m.layers) → length b ≤ FILE_MAX)
+CanBeHad m k (lacks.File d) = (b : List ℕ) × (bytes_at (lowers_of m.layers) d ≡ Some b)
 
 -- A call of a client is refused as the machine refuses it, or the machine doesn't and this is what
 -- it lacks, which can be had.

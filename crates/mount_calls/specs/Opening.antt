@@ -15,7 +15,7 @@ use Rattle.mount_calls.specs.Attaching.{ChangesClient, located}
 use Rattle.open_handles.specs.declared.open_file.FileSource.TheVariants.{Upper, Lower}
 use Rattle.open_handles.specs.declared.open_file.OpenFile.{OpenFile}
 use Rattle.open_handles.specs.Places.{base_of, sought_from}
-use Rattle.plain_model.specs.Refusals.{FILE_MAX, when}
+use Rattle.plain_model.specs.Refusals.{when}
 use Rattle.mount_laws.specs.Looks.{or_else, shows_link}
 
 -- why a seek is refused that is told by what is open alone: nothing is open, or it isn't to the start of a directory
@@ -49,10 +49,10 @@ write_fault (Some (Directory o)) count = or_else (when (nat_lt TRANSFER_MAX coun
 write_fault (Some (File f)) count = or_else (when (nat_lt TRANSFER_MAX count) EINVAL) (when (is_none (written_key f)) EBADF)
 
 -- why a truncation is refused: nothing is open, no write access, or a size over the most bytes of a file
-abbrev pub truncate_fault : Option handles.Handle → ℕ → Option Errno
-truncate_fault None size = Some EBADF
-truncate_fault (Some (Directory o)) size = Some EINVAL
-truncate_fault (Some (File f)) size = or_else (when (is_none (written_key f)) EINVAL) (when (nat_lt FILE_MAX size) EFBIG)
+abbrev pub truncate_fault : ℕ → Option handles.Handle → ℕ → Option Errno
+truncate_fault limit None size = Some EBADF
+truncate_fault limit (Some (Directory o)) size = Some EINVAL
+truncate_fault limit (Some (File f)) size = or_else (when (is_none (written_key f)) EINVAL) (when (nat_lt limit size) EFBIG)
 
 -- why a list is refused: nothing is open, or a file, or it asks for no names or too many
 abbrev pub list_fault : Option handles.Handle → ℕ → Option Errno

@@ -84,6 +84,7 @@ pub record IsStateOf (m : Mount) (s : State) : Type 0 where
   pub arrived : m.clients.next ≡ s.arrived
   pub redirects : s.options.redirects ≡ m.redirects
   pub metacopy : s.options.metacopy ≡ m.metacopy
+  pub limit : s.options.file_limit ≡ m.file_limit
 
 -- some state is one that the mount stands for
 abbrev pub HasStateOf : Mount → Type 0
@@ -119,3 +120,4 @@ pub record Pages (old new : Mount) (c d count : ℕ) (given : List Name) : Type 
   pub layers : new.layers ≡ old.layers
   pub redirects : new.redirects ≡ old.redirects
   pub metacopy : new.metacopy ≡ old.metacopy
+  pub limit : new.file_limit ≡ old.file_limit

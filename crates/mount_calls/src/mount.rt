@@ -32,6 +32,7 @@ pub struct Mount {
     pub(crate) clients: Clients,
     pub(crate) redirects: bool,
     pub(crate) metacopy: bool,
+    pub(crate) file_limit: u64,
     pub(crate) alloc: Global,
 }
 
@@ -65,14 +66,16 @@ impl Mount {
         layers: Layers,
         redirects: bool,
         metacopy: bool,
+        file_limit: u64,
     ) -> Result<Mount, Layers>
         ensures layers { IfOk result (λ mount. mount.layers ≡ layers) }
         ensures back { IfErr result (λ back. back ≡ layers) }
         ensures redirects { IfOk result (λ mount. mount.redirects ≡ redirects) }
         ensures metacopy { IfOk result (λ mount. mount.metacopy ≡ metacopy) }
+        ensures limit { IfOk result (λ mount. mount.file_limit ≡ file_limit) }
         ensures none { IfOk result (λ mount. (n : ℕ) → get nat_cmp mount.clients.attached n ≡ None) }
         ensures first { IfOk result (λ mount. mount.clients.next ≡ 0) }
-        ensures begins { IfOk result (λ mount. (t : Tree) → AreLayers (layers_of layers) → IsMerge (upper_of layers) (lowers_of layers) t → IsStateOf mount (machine.opening t (record { redirects = redirects; metacopy = metacopy; read_only = false }))) }
+        ensures begins { IfOk result (λ mount. (t : Tree) → AreLayers (layers_of layers) → IsMerge (upper_of layers) (lowers_of layers) t → IsStateOf mount (machine.opening t (record { redirects = redirects; metacopy = metacopy; read_only = false; file_limit = file_limit }))) }
     {
         let Ok(clients) = Clients::new(alloc, keys) else {
             return Err(layers);
@@ -82,6 +85,7 @@ impl Mount {
             clients,
             redirects,
             metacopy,
+            file_limit,
             alloc,
         })
     }

@@ -7,7 +7,7 @@ ghost use Rattle.mount_calls.specs.Opening.{write_fault, truncate_fault, written
 use crate::file_bytes::{resize_file, write_file};
 use crate::files::bytes_in;
 use crate::mount::Mount;
-use open_handles::{FILE_MAX, FileSource, Handle, OpenFile, fitting};
+use open_handles::{FileSource, Handle, OpenFile, fitting};
 use ov_base::{Bytes, Call, Errno, Reply};
 use std::alloc::AllocError;
 
@@ -33,7 +33,7 @@ impl Mount {
             return Ok(Reply::Written(0));
         }
         let start = file.write_place(bytes_in(&self.layers, file).len());
-        let count = match fitting(start, bytes.len()) {
+        let count = match fitting(self.file_limit, start, bytes.len()) {
             Ok(count) => count,
             Err(errno) => return Ok(Reply::Refused(errno)),
         };
@@ -80,13 +80,13 @@ impl Mount {
 
     // The open file that is to get this size.
     fn file_to_truncate(&self, client: u64, descriptor: u32, size: u64) -> Result<OpenFile, Errno>
-        ensures file { IfOk result (λ f. (file_by self.now.clients client descriptor ≡ Some f) × (truncate_fault (opened_by self.now.clients client descriptor) size ≡ None)) }
-        ensures refused { IfErr result (λ e. truncate_fault (opened_by self.now.clients client descriptor) size ≡ Some e) }
+        ensures file { IfOk result (λ f. (file_by self.now.clients client descriptor ≡ Some f) × (truncate_fault self.now.file_limit (opened_by self.now.clients client descriptor) size ≡ None)) }
+        ensures refused { IfErr result (λ e. truncate_fault self.now.file_limit (opened_by self.now.clients client descriptor) size ≡ Some e) }
     {
         match self.clients.opened(client, descriptor) {
             None => Err(Errno::EBADF),
             Some(Handle::File(file)) if writes_upper(*file) => {
-                if size > FILE_MAX {
+                if size > self.file_limit {
                     return Err(Errno::EFBIG);
                 }
                 Ok(*file)

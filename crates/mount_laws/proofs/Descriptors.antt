@@ -9,7 +9,7 @@ use Rattle.ov_base.specs.declared.errno.Errno.TheVariants.{EBADF, EISDIR, EINVAL
 use Rattle.ov_base.specs.declared.reply.Reply.TheVariants as reply
 use Rattle.plain_model.specs.Tree.{node_at, node_of, is_folder}
 use Rattle.plain_model.specs.Machine.{Handle, State, look, handle_of, handle_node, place_of, write_place, seek_base}
-use Rattle.plain_model.specs.Refusals.{◌or_else◌, TRANSFER_MAX, FILE_MAX, PLACE_MAX, when, path_of, descriptor_of, path_refusal, descriptor_refusal, writes, refusal}
+use Rattle.plain_model.specs.Refusals.{◌or_else◌, TRANSFER_MAX, PLACE_MAX, when, path_of, descriptor_of, path_refusal, descriptor_refusal, writes, refusal}
 use Rattle.plain_model.specs.Changes.{change, wrote, settled, fitting, read_bytes, sought, moved_to, rewound, node_of_handle, with_handle, after}
 use Rattle.plain_model.specs.Replies.{stat_of_handle, stat_seen}
 use Rattle.plain_model.proofs.Looking.{refusal-reading}
@@ -47,7 +47,7 @@ law_of_read s c fd h on file = record {
 
 -- why a write is refused where no byte fits
 abbrev no-room : State → Handle → List ℕ → Option Errno
-no-room s h bytes = when (nat_lt 0 (length bytes) && not (nat_lt (write_start s h) FILE_MAX)) EFBIG
+no-room s h bytes = when (nat_lt 0 (length bytes) && not (nat_lt (write_start s h) s.options.file_limit)) EFBIG
 
 -- a write
 pub law_of_write : LawOfWrite
@@ -55,23 +55,23 @@ law_of_write s c fd h on = record {
   refused = λ bytes.
       by-handle s c (Write fd bytes) (Some h) on refl refl
       ∙ three (when (nat_lt TRANSFER_MAX (length bytes)) EINVAL) (when (not h.writes) EBADF) (no-room s h bytes);
-  answer = λ bytes. ap (λ o. reply.Written (length (fitting (write_place s.tree o) bytes))) on;
+  answer = λ bytes. ap (λ o. reply.Written (length (fitting s.options.file_limit (write_place s.tree o) bytes))) on;
   nothing = refl;
   state = λ bytes some. by bytes some;
 }
   where
     written : List ℕ → Option Handle → Option Handle
-    written bytes o = moved_to (write_place s.tree o + length (fitting (write_place s.tree o) bytes)) o
+    written bytes o = moved_to (write_place s.tree o + length (fitting s.options.file_limit (write_place s.tree o) bytes)) o
 
     by : (bytes : List ℕ) → bytes ≢ [] → after s c (Write fd bytes) ≡ record s {
-      tree = change (wrote (write_start s h) bytes) s.tree (Some h.node);
-      tables = with_handle s.tables c fd (Some (record h { place = write_start s h + length (fitting (write_start s h) bytes) }));
+      tree = change (wrote s.options.file_limit (write_start s h) bytes) s.tree (Some h.node);
+      tables = with_handle s.tables c fd (Some (record h { place = write_start s h + length (fitting s.options.file_limit (write_start s h) bytes) }));
     }
     by [] some = absurd (some refl)
     by (b ∷ bytes) some =
         let filled : nat_eq (length (b ∷ bytes)) 0 ≡ false = grind (arith, nat_tests) in
         λ i. record s {
-          tree = cond (filled i) s.tree (change (wrote (write_place s.tree (on i)) (b ∷ bytes)) s.tree (node_of_handle (on i)));
+          tree = cond (filled i) s.tree (change (wrote s.options.file_limit (write_place s.tree (on i)) (b ∷ bytes)) s.tree (node_of_handle (on i)));
           tables = cond (filled i) s.tables (with_handle s.tables c fd (written (b ∷ bytes) (on i)));
         }
 
@@ -112,7 +112,7 @@ pub law_of_truncate : LawOfTruncate
 law_of_truncate s c fd h on = record {
   refused = λ size.
       by-handle s c (Truncate fd size) (Some h) on refl refl
-      ∙ two (when (not h.writes) EINVAL) (when (nat_lt FILE_MAX size) EFBIG);
+      ∙ two (when (not h.writes) EINVAL) (when (nat_lt s.options.file_limit size) EFBIG);
   answer = λ size. refl;
   state = λ size i. record s { tree = change (resized size) s.tree (node_of_handle (on i)) };
 }
@@ -157,7 +157,7 @@ law_of_directory_handle s c fd h on folder = record {
       ∙ two (when (nat_lt TRANSFER_MAX (length bytes)) EINVAL) (Some EBADF);
   sizing = λ bare size.
       by-handle s c (Truncate fd size) (Some h) on refl refl
-      ∙ ap (λ b. when (not b) EINVAL or_else when (nat_lt FILE_MAX size) EFBIG) bare;
+      ∙ ap (λ b. when (not b) EINVAL or_else when (nat_lt s.options.file_limit size) EFBIG) bare;
   status = λ live. ap (stat_of_handle s.tree) on ∙ ap (λ v. stat_seen v (s.tree h.node)) live;
 }
 

@@ -178,7 +178,7 @@ open-goes s c p f mode ks = by (node_at s.tree p)
 
 -- a write, also of no bytes
 write-goes : (s : State) (c fd : ℕ) (bytes : List ℕ) (ks : List Table) → Goes s.tree (tree_after s c (Write fd bytes)) None 1 ks
-write-goes s c fd bytes ks = by (nat_eq (length bytes) 0) (wrote (write_place s.tree (handle_of s.tables c fd)) bytes) (node_of_handle (handle_of s.tables c fd))
+write-goes s c fd bytes ks = by (nat_eq (length bytes) 0) (wrote s.options.file_limit (write_place s.tree (handle_of s.tables c fd)) bytes) (node_of_handle (handle_of s.tables c fd))
   where
     by : (b : Bool) (f : Node → Node) (o : Option NodeId) → Goes s.tree (cond b s.tree (change f s.tree o)) None 1 ks
     by true f o = goes-same s.tree 1 ks

@@ -382,9 +382,9 @@ rename-leads s c (n1 ∷ q1) (n2 ∷ q2) a r = by (same_found (look s.tree (n1 �
 write-leads : (s : State) (c fd : ℕ) (bytes : List ℕ) → LeadsSame s.tree (tree_after s c (Write fd bytes))
 write-leads s c fd bytes = by (nat_eq (length bytes) 0) (write_place s.tree (handle_of s.tables c fd))
   where
-    by : (b : Bool) (at : ℕ) → LeadsSame s.tree (cond b s.tree (change (wrote at bytes) s.tree (node_of_handle (handle_of s.tables c fd))))
+    by : (b : Bool) (at : ℕ) → LeadsSame s.tree (cond b s.tree (change (wrote s.options.file_limit at bytes) s.tree (node_of_handle (handle_of s.tables c fd))))
     by true at = λ q. refl
-    by false at = mild-same (wrote at bytes) (λ x. bytes-mild (written (bytes_of_node (Some x)) at (fitting at bytes)) x) s.tree (node_of_handle (handle_of s.tables c fd))
+    by false at = mild-same (wrote s.options.file_limit at bytes) (λ x. bytes-mild (written (bytes_of_node (Some x)) at (fitting s.options.file_limit at bytes)) x) s.tree (node_of_handle (handle_of s.tables c fd))
 
 -- where paths lead after each call that is not refused
 pub law_of_paths : LawOfPaths

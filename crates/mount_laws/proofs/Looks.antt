@@ -265,4 +265,4 @@ law_of_mkdir U lowers s m c p mode =
 
 -- a mount begins as one of its layers
 pub law_of_beginning : LawOfBeginning
-law_of_beginning U lowers t redirects metacopy a m = record { layers = a; shows = merge-remounts U lowers t m; kept = m.kept; writable = refl }
+law_of_beginning U lowers t redirects metacopy limit a m = record { layers = a; shows = merge-remounts U lowers t m; kept = m.kept; writable = refl }

@@ -126,9 +126,9 @@ rename-one s c old new one = by (same_found (look s.tree old) (look s.tree new))
 write-one : (s : State) (c fd : ℕ) (bytes : List ℕ) → HaveOneName s.tree → HaveOneName (tree_after s c (Write fd bytes))
 write-one s c fd bytes one = by (nat_eq (length bytes) 0) (write_place s.tree (handle_of s.tables c fd)) (node_of_handle (handle_of s.tables c fd))
   where
-    by : (b : Bool) (at : ℕ) (o : Option NodeId) → HaveOneName (cond b s.tree (change (wrote at bytes) s.tree o))
+    by : (b : Bool) (at : ℕ) (o : Option NodeId) → HaveOneName (cond b s.tree (change (wrote s.options.file_limit at bytes) s.tree o))
     by true at o = one
-    by false at o = one-mild (wrote at bytes) (λ x. bytes-mild (written (bytes_of_node (Some x)) at (fitting at bytes)) x) s.tree o one
+    by false at o = one-mild (wrote s.options.file_limit at bytes) (λ x. bytes-mild (written (bytes_of_node (Some x)) at (fitting s.options.file_limit at bytes)) x) s.tree o one
 
 -- each call keeps that a directory has at most one name
 pub law_of_one_name_kept : LawOfOneNameKept
@@ -187,7 +187,7 @@ at-most-one (v ∷ w ∷ es) once same = absurd (both_ways (same_entry v w) (IsD
 -- a directory of a merge
 module _ (U : Layer) (lowers : List Layer) (t : Tree) (layers : AreLayers (U ∷ lowers)) (m : IsMerge U lowers t) (d : NodeId) (folder : is_folder (t d) ≡ true) where
   alone : HaveOnePath t
-  alone = (law_of_one_path U lowers _ (law_of_beginning U lowers t false false layers m)).directories
+  alone = (law_of_one_path U lowers _ (law_of_beginning U lowers t false false 0 layers m)).directories
 
   names : AreNames t d (count_of (t d))
   names = m.kept.counted d

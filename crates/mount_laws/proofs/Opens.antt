@@ -171,7 +171,7 @@ law_of_open U lowers s m c p mode = record {
 
 -- a directory of a merge is named by its own path
 pub law_of_directories : LawOfDirectories
-law_of_directories U lowers t a m p h = by (node_at t p) refl (at-some U lowers (opening t (record { redirects = false; metacopy = false; read_only = false })) (law_of_beginning U lowers t false false a m) p ∙ is-shown (shows 0 (U ∷ lowers) p) h)
+law_of_directories U lowers t a m p h = by (node_at t p) refl (at-some U lowers (opening t (record { redirects = false; metacopy = false; read_only = false; file_limit = 0 })) (law_of_beginning U lowers t false false 0 a m) p ∙ is-shown (shows 0 (U ∷ lowers) p) h)
   where
     is-shown : (s : Option Shown) → is_directory s ≡ true → is_some s ≡ true
     is-shown None h = h

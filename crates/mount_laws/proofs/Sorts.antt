@@ -244,11 +244,11 @@ drop-sorts s p =
 write-sorts : (s : State) (c fd : ℕ) (bytes : List ℕ) → KeepsSorts s.tree (tree_after s c (Write fd bytes)) None
 write-sorts s c fd bytes = by (nat_eq (length bytes) 0) (write_place s.tree (handle_of s.tables c fd)) (node_of_handle (handle_of s.tables c fd))
   where
-    by : (b : Bool) (at : ℕ) (o : Option NodeId) → KeepsSorts s.tree (cond b s.tree (change (wrote at bytes) s.tree o)) None
+    by : (b : Bool) (at : ℕ) (o : Option NodeId) → KeepsSorts s.tree (cond b s.tree (change (wrote s.options.file_limit at bytes) s.tree o)) None
     by true at o = sorts-same s.tree
     by false at o =
-        sorts-kept (wrote at bytes) (λ y. bytes-fold (written (bytes_of_node (Some y)) at (fitting at bytes)) y)
-        (λ y. bytes-same (written (bytes_of_node (Some y)) at (fitting at bytes)) y) s.tree o
+        sorts-kept (wrote s.options.file_limit at bytes) (λ y. bytes-fold (written (bytes_of_node (Some y)) at (fitting s.options.file_limit at bytes)) y)
+        (λ y. bytes-same (written (bytes_of_node (Some y)) at (fitting s.options.file_limit at bytes)) y) s.tree o
 
 -- each call keeps sorts
 pub law_of_sorts : LawOfSorts

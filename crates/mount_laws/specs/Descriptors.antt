@@ -6,7 +6,7 @@ use Rattle.ov_base.specs.declared.errno.Errno.TheVariants as errno
 use Rattle.ov_base.specs.declared.reply.Reply.TheVariants as reply
 use Rattle.plain_model.specs.Tree.{Node, is_folder}
 use Rattle.plain_model.specs.Machine.{Live, Handle, State, bytes_of_node, bytes_seen, handle_of}
-use Rattle.plain_model.specs.Refusals.{FILE_MAX, TRANSFER_MAX, PLACE_MAX, when, refusal}
+use Rattle.plain_model.specs.Refusals.{TRANSFER_MAX, PLACE_MAX, when, refusal}
 use Rattle.plain_model.specs.Changes.{with_bytes, change, sized, fitting, wrote, settled, with_handle, after}
 use Rattle.plain_model.specs.Replies.{stat_of, stat_seen, reply_of}
 use Rattle.mount_laws.specs.Looks.{or_else}
@@ -49,13 +49,13 @@ pub record WritesFile (s : State) (c fd : ℕ) (h : Handle) : Type 0 where
       (bytes : List ℕ) → refusal s c (call.Write fd bytes) ≡
       or_else (when (nat_lt TRANSFER_MAX (length bytes)) errno.EINVAL)
       (or_else (when (not h.writes) errno.EBADF)
-      (when (nat_lt 0 (length bytes) && not (nat_lt (write_start s h) FILE_MAX)) errno.EFBIG))
-  pub answer : (bytes : List ℕ) → reply_of s c (call.Write fd bytes) ≡ reply.Written (length (fitting (write_start s h) bytes))
+      (when (nat_lt 0 (length bytes) && not (nat_lt (write_start s h) s.options.file_limit)) errno.EFBIG))
+  pub answer : (bytes : List ℕ) → reply_of s c (call.Write fd bytes) ≡ reply.Written (length (fitting s.options.file_limit (write_start s h) bytes))
   pub nothing : after s c (call.Write fd []) ≡ s
   pub state :
       (bytes : List ℕ) → bytes ≢ [] → after s c (call.Write fd bytes) ≡ record s {
-        tree = change (wrote (write_start s h) bytes) s.tree (Some h.node);
-        tables = with_handle s.tables c fd (Some (record h { place = write_start s h + length (fitting (write_start s h) bytes) }));
+        tree = change (wrote s.options.file_limit (write_start s h) bytes) s.tree (Some h.node);
+        tables = with_handle s.tables c fd (Some (record h { place = write_start s h + length (fitting s.options.file_limit (write_start s h) bytes) }));
       }
 
 abbrev pub LawOfWrite : Type 0
@@ -89,7 +89,7 @@ resized size x = with_bytes (sized (bytes_of_node (Some x)) size) x
 pub record TruncatesFile (s : State) (c fd : ℕ) (h : Handle) : Type 0 where
   pub refused :
       (size : ℕ) → refusal s c (call.Truncate fd size) ≡
-      or_else (when (not h.writes) errno.EINVAL) (when (nat_lt FILE_MAX size) errno.EFBIG)
+      or_else (when (not h.writes) errno.EINVAL) (when (nat_lt s.options.file_limit size) errno.EFBIG)
   pub answer : (size : ℕ) → reply_of s c (call.Truncate fd size) ≡ reply.Done
   pub state : (size : ℕ) → after s c (call.Truncate fd size) ≡ record s { tree = change (resized size) s.tree (Some h.node) }
 

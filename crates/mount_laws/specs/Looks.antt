@@ -70,7 +70,7 @@ pub record IsMountOf (U : Layer) (lowers : List Layer) (s : State) : Type 0 wher
 
 -- a mount begins so, with the merge of its layers
 abbrev pub LawOfBeginning : Type 0
-LawOfBeginning = (U : Layer) (lowers : List Layer) (t : Tree) (redirects metacopy : Bool) → AreLayers (U ∷ lowers) → IsMerge U lowers t → IsMountOf U lowers (opening t (record { redirects = redirects; metacopy = metacopy; read_only = false }))
+LawOfBeginning = (U : Layer) (lowers : List Layer) (t : Tree) (redirects metacopy : Bool) (limit : ℕ) → AreLayers (U ∷ lowers) → IsMerge U lowers t → IsMountOf U lowers (opening t (record { redirects = redirects; metacopy = metacopy; read_only = false; file_limit = limit }))
 
 -- a directory of a merge is named by its own path
 abbrev pub LawOfDirectories : Type 0

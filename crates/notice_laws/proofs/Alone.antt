@@ -146,9 +146,9 @@ module _ (d : NodeId) where
     link-write fd bytes =
         by (nat_eq (length bytes) 0) (write_place s.tree (handle_of s.tables c fd)) (node_of_handle (handle_of s.tables c fd))
       where
-        by : (b : Bool) (at : ℕ) (o : Option NodeId) → SameLink s.tree (cond b s.tree (change (wrote at bytes) s.tree o))
+        by : (b : Bool) (at : ℕ) (o : Option NodeId) → SameLink s.tree (cond b s.tree (change (wrote s.options.file_limit at bytes) s.tree o))
         by true at o = refl
-        by false at o = link-change (wrote at bytes) (λ x. bytes-link (written (bytes_of_node (Some x)) at (fitting at bytes)) x) s.tree o
+        by false at o = link-change (wrote s.options.file_limit at bytes) (λ x. bytes-link (written (bytes_of_node (Some x)) at (fitting s.options.file_limit at bytes)) x) s.tree o
 
     -- each call leaves whether a node that stays there is a link
     link-after : (call : Call) → is_some (tree_after s c call d) ≡ true → SameLink s.tree (tree_after s c call)

@@ -122,9 +122,9 @@ module _ (d : NodeId) where
     bare-write fd bytes =
         by (nat_eq (length bytes) 0) (write_place s.tree (handle_of s.tables c fd)) (node_of_handle (handle_of s.tables c fd))
       where
-        by : (b : Bool) (at : ℕ) (o : Option NodeId) → IsBare (cond b s.tree (change (wrote at bytes) s.tree o))
+        by : (b : Bool) (at : ℕ) (o : Option NodeId) → IsBare (cond b s.tree (change (wrote s.options.file_limit at bytes) s.tree o))
         by true at o = h
-        by false at o = bare-mild (wrote at bytes) (λ x. bytes-mild (written (bytes_of_node (Some x)) at (fitting at bytes)) x) s.tree o h
+        by false at o = bare-mild (wrote s.options.file_limit at bytes) (λ x. bytes-mild (written (bytes_of_node (Some x)) at (fitting s.options.file_limit at bytes)) x) s.tree o h
 
     -- by each call, where no path leads to it
     bare-after : IsHidden s.tree d → (call : Call) → IsBare (tree_after s c call)

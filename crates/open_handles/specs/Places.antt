@@ -6,7 +6,7 @@ use Rattle.ov_base.specs.declared.errno.Errno.TheVariants.{EINVAL, EFBIG, EOVERF
 use Rattle.plain_model.specs.Tree.{Tree}
 use Rattle.plain_model.specs.Machine.{Handle, place_of, bytes_of, bytes_of_node, seek_base, write_place}
 use Rattle.plain_model.specs.Changes.{fitting}
-use Rattle.plain_model.specs.Refusals.{FILE_MAX, PLACE_MAX}
+use Rattle.plain_model.specs.Refusals.{PLACE_MAX}
 use Rattle.open_handles.specs.declared.open_file.OpenFile.{OpenFile}
 
 -- where a seek leads from a base: over the greatest place is EOVERFLOW, before the start EINVAL
@@ -35,9 +35,9 @@ IsWritePlace f size at =
     → at ≡ write_place t (Some h)
 
 -- how many of so many bytes fit into a file from a place on; where none fits, any are EFBIG
-abbrev pub count_fitting : ℕ → ℕ → Result ℕ Errno
-count_fitting at count = cond (nat_lt 0 count && not (nat_lt at FILE_MAX)) (Err EFBIG) (Ok (min (FILE_MAX - at) count))
+abbrev pub count_fitting : ℕ → ℕ → ℕ → Result ℕ Errno
+count_fitting limit at count = cond (nat_lt 0 count && not (nat_lt at limit)) (Err EFBIG) (Ok (min (limit - at) count))
 
 -- these are as many as the machine writes, whatever so many bytes are
-abbrev pub AreFitting : ℕ → ℕ → ℕ → Type 0
-AreFitting at count n = (bytes : List ℕ) → length bytes ≡ count → take n bytes ≡ fitting at bytes
+abbrev pub AreFitting : ℕ → ℕ → ℕ → ℕ → Type 0
+AreFitting limit at count n = (bytes : List ℕ) → length bytes ≡ count → take n bytes ≡ fitting limit at bytes

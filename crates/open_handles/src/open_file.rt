@@ -4,9 +4,6 @@ ghost use Rattle.open_handles.specs.Places.{sought_from, base_of, write_begin, c
 
 use ov_base::{Errno, Source};
 
-/// The most bytes of a file.
-pub const FILE_MAX: u64 = 1_048_576;
-
 /// The greatest place in a file, in bytes: 2^63 - 1, as `off_t` has it.
 pub const PLACE_MAX: u64 = 0x7fff_ffff_ffff_ffff;
 
@@ -68,14 +65,14 @@ pub fn sought(base: u64, offset: i64) -> Result<u64, Errno>
     }
 }
 
-/// How many of so many bytes fit into a file from a place on. EFBIG where there are any and the
-/// place is at its most bytes or over (write(2)).
-pub fn fitting(at: u64, count: usize) -> Result<usize, Errno>
-    ensures count { result ≡ count_fitting at count }
+/// How many of so many bytes fit into a file of at most `limit` bytes from a place on. EFBIG where
+/// there are any and the place is there or over (write(2)).
+pub fn fitting(limit: u64, at: u64, count: usize) -> Result<usize, Errno>
+    ensures count { result ≡ count_fitting limit at count }
     ensures within { IfOk result (λ n. n ≤ count) }
-    ensures machine { IfOk result (AreFitting at count) }
+    ensures machine { IfOk result (AreFitting limit at count) }
 {
-    let room = FILE_MAX.saturating_sub(at) as usize;
+    let room = limit.saturating_sub(at) as usize;
     if count > 0 && room == 0 {
         return Err(Errno::EFBIG);
     }

@@ -33,7 +33,7 @@ pub use mode::Mode;
 pub use name::{NAME_MAX, Name, NameList, copy_names};
 pub use node_id::NodeId;
 pub use notice::{Event, Notice, Notices};
-pub use options::Options;
+pub use options::{FILE_LIMIT, Options};
 pub use path::{PATH_MAX, Path};
 pub use redirect::Redirect;
 pub use reply::{ObjectKind, Reply, Stat};

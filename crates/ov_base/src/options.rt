@@ -1,6 +1,9 @@
 // The options of a mount.
 
-/// `redirect_dir`, `metacopy` and the length of the history.
+/// The most bytes of a file where a manifest doesn't say otherwise: 1 MiB.
+pub const FILE_LIMIT: u64 = 1_048_576;
+
+/// `redirect_dir`, `metacopy`, the length of the history and the most bytes of a file.
 #[derive(Clone, Copy, Debug, PartialEq, Eq)]
 pub struct Options {
     /// Whether a rename of a merged directory makes a redirect (overlayfs.rst, `redirect_dir`); existing ones are always followed.
@@ -10,4 +13,7 @@ pub struct Options {
     pub metacopy: bool,
     /// How many attaches, calls and detaches the mount's history has room for.
     pub history: u32,
+    /// The most bytes that a write or a truncate may give a file (EFBIG); a longer file of a layer is
+    /// read and copied up as any.
+    pub file_limit: u64,
 }

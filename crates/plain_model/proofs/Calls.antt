@@ -142,13 +142,13 @@ module _ (s : State) (c : ℕ) (k : IsKept s.tree s.serial) (apart : IsDistinct 
   write-lasts : (fd : ℕ) (bytes : List ℕ) → AllLast (tree_after s c (Write fd bytes)) (tables_after s c (Write fd bytes))
   write-lasts fd bytes = by (nat_eq (length bytes) 0)
     where
-      by : (b : Bool) → AllLast (cond b s.tree (change (wrote (write_place s.tree (handle_of s.tables c fd)) bytes) s.tree (node_of_handle (handle_of s.tables c fd)))) (cond b s.tables (with_handle s.tables c fd (moved_to (write_place s.tree (handle_of s.tables c fd) + length (fitting (write_place s.tree (handle_of s.tables c fd)) bytes)) (handle_of s.tables c fd))))
+      by : (b : Bool) → AllLast (cond b s.tree (change (wrote s.options.file_limit (write_place s.tree (handle_of s.tables c fd)) bytes) s.tree (node_of_handle (handle_of s.tables c fd)))) (cond b s.tables (with_handle s.tables c fd (moved_to (write_place s.tree (handle_of s.tables c fd) + length (fitting s.options.file_limit (write_place s.tree (handle_of s.tables c fd)) bytes)) (handle_of s.tables c fd))))
       by true = l
       by false =
           let at = write_place s.tree (handle_of s.tables c fd) in
-          mild-lasts (wrote at bytes) (λ x. bytes-mild (written (bytes_of_node (Some x)) at (fitting at bytes)) x) s.tables
-          (with_handle s.tables c fd (moved_to (at + length (fitting at bytes)) (handle_of s.tables c fd)))
-          (stays fd (moved_to (at + length (fitting at bytes)) (handle_of s.tables c fd)) (λ x. moved-holds x (at + length (fitting at bytes)) (handle_of s.tables c fd)))
+          mild-lasts (wrote s.options.file_limit at bytes) (λ x. bytes-mild (written (bytes_of_node (Some x)) at (fitting s.options.file_limit at bytes)) x) s.tables
+          (with_handle s.tables c fd (moved_to (at + length (fitting s.options.file_limit at bytes)) (handle_of s.tables c fd)))
+          (stays fd (moved_to (at + length (fitting s.options.file_limit at bytes)) (handle_of s.tables c fd)) (λ x. moved-holds x (at + length (fitting s.options.file_limit at bytes)) (handle_of s.tables c fd)))
           s.tree (node_of_handle (handle_of s.tables c fd)) l
 
   -- a place moves

@@ -323,9 +323,9 @@ law_of_names s c (Rename (n1 ∷ q1) (n2 ∷ q2)) k r = rename-kept s c n1 q1 n2
 law_of_names s c (Read fd n) k r = k
 law_of_names s c (Write fd bytes) k r = by (nat_eq (length bytes) 0)
   where
-    by : (b : Bool) → IsKept (cond b s.tree (change (wrote (write_place s.tree (handle_of s.tables c fd)) bytes) s.tree (node_of_handle (handle_of s.tables c fd)))) s.serial
+    by : (b : Bool) → IsKept (cond b s.tree (change (wrote s.options.file_limit (write_place s.tree (handle_of s.tables c fd)) bytes) s.tree (node_of_handle (handle_of s.tables c fd)))) s.serial
     by true = k
-    by false = change-kept (wrote (write_place s.tree (handle_of s.tables c fd)) bytes) (λ x. bytes-mild (written (bytes_of_node (Some x)) (write_place s.tree (handle_of s.tables c fd)) (fitting (write_place s.tree (handle_of s.tables c fd)) bytes)) x) s.tree s.serial (node_of_handle (handle_of s.tables c fd)) k
+    by false = change-kept (wrote s.options.file_limit (write_place s.tree (handle_of s.tables c fd)) bytes) (λ x. bytes-mild (written (bytes_of_node (Some x)) (write_place s.tree (handle_of s.tables c fd)) (fitting s.options.file_limit (write_place s.tree (handle_of s.tables c fd)) bytes)) x) s.tree s.serial (node_of_handle (handle_of s.tables c fd)) k
 law_of_names s c (Seek fd offset whence) k r = k
 law_of_names s c (Truncate fd size) k r = change-kept (λ x. with_bytes (sized (bytes_of_node (Some x)) size) x) (λ x. bytes-mild (sized (bytes_of_node (Some x)) size) x) s.tree s.serial (node_of_handle (handle_of s.tables c fd)) k
 law_of_names s c (Fstat fd) k r = k

@@ -86,7 +86,7 @@ same-once = refl
 
 -- a rename over a file, with its six subjects
 abbrev some_state : State
-some_state = record { tree = λ x. Some (Leaf (File []) (fresh 0o644) (Own false) 1); serial = 0; renames = 0; arrived = 0; options = record { redirects = true; metacopy = false; read_only = false }; tables = []; instances = [] }
+some_state = record { tree = λ x. Some (Leaf (File []) (fresh 0o644) (Own false) 1); serial = 0; renames = 0; arrived = 0; options = record { redirects = true; metacopy = false; read_only = false; file_limit = 1048576 }; tables = []; instances = [] }
 
 replaced : rename_subjects some_state (Some (New 1)) (Some (New 2)) (Some (New 3, 102 ∷ [])) (Some (New 4, 103 ∷ [])) (λ x. None) ≡
     record { aim = On (New 3); bits = 0x40; cookie = 1; name = Some (102 ∷ []) } ∷ record { aim = On (New 4); bits = 0x80; cookie = 1; name = Some (103 ∷ []) }

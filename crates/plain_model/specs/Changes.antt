@@ -17,7 +17,6 @@ use Rattle.plain_model.specs.Layers.{Name, Path, is_file, same_name}
 use Rattle.plain_model.specs.Tree.{same_id, Node, Branch, Leaf, Origin, Own, Untouched, Tree, node_at, node_of, put, lead, is_folder}
 use Rattle.plain_model.specs.Watching.{EVENTS, MASK_ADD, ONESHOT, has_bit, Watch, Instance}
 use Rattle.plain_model.specs.Machine.{View, Live, Kept, Frozen, Handle, DESCRIPTORS_MAX, Table, MountOptions, State, look, same_found, bytes_of_node, handle_of, handle_node, lowest_free, bytes_of, place_of, write_place, seek_base, watch_on}
-use Rattle.plain_model.specs.Refusals.{FILE_MAX}
 
 -- the name n in the directory d
 abbrev pub on_way : Option NodeId → Name → Option (NodeId × Name)
@@ -133,12 +132,12 @@ abbrev pub written : List ℕ → ℕ → List ℕ → List ℕ
 written bytes at new = sized bytes at ++ new ++ drop (at + length new) bytes
 
 -- what of a write fits
-abbrev pub fitting : ℕ → List ℕ → List ℕ
-fitting at bytes = take (FILE_MAX - at) bytes
+abbrev pub fitting : ℕ → ℕ → List ℕ → List ℕ
+fitting limit at bytes = take (limit - at) bytes
 
 -- a file after a write at a place
-abbrev pub wrote : ℕ → List ℕ → Node → Node
-wrote at new x = with_bytes (written (bytes_of_node (Some x)) at (fitting at new)) x
+abbrev pub wrote : ℕ → ℕ → List ℕ → Node → Node
+wrote limit at new x = with_bytes (written (bytes_of_node (Some x)) at (fitting limit at new)) x
 
 -- the identity of a handle's node
 abbrev pub node_of_handle : Option Handle → Option NodeId
@@ -169,7 +168,7 @@ tree_after s c (Unlink p) = dropped s.tables s.tree p
 tree_after s c (Rmdir p) = dropped s.tables s.tree p
 tree_after s c (Hardlink old new) = lead_way (change (one_more s.options) s.tree (node_at s.tree old)) (way_of s.tree new) (node_at s.tree old)
 tree_after s c (Rename old new) = cond (same_found (look s.tree old) (look s.tree new)) s.tree (settled s.tables (renamed s.options s.tree old new) (node_at s.tree new))
-tree_after s c (Write fd bytes) = cond (nat_eq (length bytes) 0) s.tree (change (wrote (write_place s.tree (handle_of s.tables c fd)) bytes) s.tree (node_of_handle (handle_of s.tables c fd)))
+tree_after s c (Write fd bytes) = cond (nat_eq (length bytes) 0) s.tree (change (wrote s.options.file_limit (write_place s.tree (handle_of s.tables c fd)) bytes) s.tree (node_of_handle (handle_of s.tables c fd)))
 tree_after s c (Truncate fd size) = change (λ x. with_bytes (sized (bytes_of_node (Some x)) size) x) s.tree (node_of_handle (handle_of s.tables c fd))
 tree_after s c (Close fd) = settled (with_handle s.tables c fd None) s.tree (node_of_handle (handle_of s.tables c fd))
 tree_after s c _ = s.tree
@@ -242,7 +241,7 @@ tables_after s c (Open p f mode) = with_handle s.tables c (unwrap_or (lowest_fre
 tables_after s c (Read fd n) = with_handle s.tables c fd (moved_to (place_of (handle_of s.tables c fd) + length (read_bytes s.tree (handle_of s.tables c fd) n)) (handle_of s.tables c fd))
 tables_after s c (Write fd bytes) =
     cond (nat_eq (length bytes) 0) s.tables
-    (with_handle s.tables c fd (moved_to (write_place s.tree (handle_of s.tables c fd) + length (fitting (write_place s.tree (handle_of s.tables c fd)) bytes)) (handle_of s.tables c fd)))
+    (with_handle s.tables c fd (moved_to (write_place s.tree (handle_of s.tables c fd) + length (fitting s.options.file_limit (write_place s.tree (handle_of s.tables c fd)) bytes)) (handle_of s.tables c fd)))
 tables_after s c (Seek fd offset whence) = with_handle s.tables c fd (rewound (is_folder (handle_node s.tree (handle_of s.tables c fd))) (moved_to (sought s c fd offset whence) (handle_of s.tables c fd)))
 tables_after s c (ListNames fd n) = with_handle s.tables c fd (listed_on s.tree n (handle_of s.tables c fd))
 tables_after s c (Close fd) = with_handle s.tables c fd None

@@ -10,7 +10,7 @@ use Rattle.ov_base.specs.declared.bytes.Content.TheVariants.{File, SymbolicLink}
 use Rattle.ov_base.specs.declared.redirect.Redirect.{Redirect}
 use Rattle.ov_base.specs.declared.redirect.Redirect.TheVariants.{Absolute, Single}
 use Rattle.plain_model.specs.Layers.{Path, Directory, Named, Inode, Layer, held}
-use Rattle.plain_model.specs.Refusals.{FILE_MAX, has_nul, bad_attribute}
+use Rattle.plain_model.specs.Refusals.{has_nul, bad_attribute}
 
 -- the attributes of an object
 pub record AreAttributesWithin (a : Attributes) : Type 0 where
@@ -34,10 +34,10 @@ pub record IsTargetWithin (target : List ℕ) : Type 0 where
   pub short : length target ≤ 4095
   pub plain : has_nul target ≡ false
 
--- a file has at most 1,048,576 bytes, a symbolic link a target
-abbrev pub IsContentWithin : Content → Type 0
-IsContentWithin (File bytes) = length bytes ≤ FILE_MAX
-IsContentWithin (SymbolicLink target) = IsTargetWithin target
+-- a file has at most so many bytes, a symbolic link a target
+abbrev pub IsContentWithin : ℕ → Content → Type 0
+IsContentWithin limit (File bytes) = length bytes ≤ limit
+IsContentWithin limit (SymbolicLink target) = IsTargetWithin target
 
 -- each name of a path is one
 abbrev pub IsOfNames : Path → Type 0
@@ -48,8 +48,8 @@ abbrev pub IsRedirectWithin : Redirect → Type 0
 IsRedirectWithin (Single n) = IsTrue (is_name n)
 IsRedirectWithin (Absolute q) = (q ≢ []) × IsOfNames q
 
--- WHAT A LAYER OF A MOUNT MAY BE, but for the length of its paths
-pub record IsWithinLimits (L : Layer) : Type 0 where
+-- WHAT A LAYER OF A MOUNT MAY BE whose files have at most so many bytes, but for the length of its paths
+pub record IsWithinLimits (limit : ℕ) (L : Layer) : Type 0 where
   -- a path that it holds consists of names
   pub names : (p : Path) → is_some (held L p) ≡ true → IsOfNames p
   -- the attributes of its directories, the root's among them
@@ -58,7 +58,7 @@ pub record IsWithinLimits (L : Layer) : Type 0 where
   pub redirects : (p : Path) (k : ℕ) (a : Attributes) (o : Bool) (r : Redirect) → held L p ≡ Some (Directory k a o (Some r)) → IsRedirectWithin r
   -- the attributes of each inode that has a name, and what it holds
   pub attributes : (p : Path) (k : ℕ) (i : Inode) → held L p ≡ Some (Named k) → L.inodes k ≡ Some i → AreAttributesWithin i.attributes
-  pub contents : (p : Path) (k : ℕ) (i : Inode) → held L p ≡ Some (Named k) → L.inodes k ≡ Some i → IsContentWithin i.content
+  pub contents : (p : Path) (k : ℕ) (i : Inode) → held L p ≡ Some (Named k) → L.inodes k ≡ Some i → IsContentWithin limit i.content
 
 -- how many bytes the names of a path take in its text, each with the `/` before it
 abbrev pub text_length : Path → ℕ

@@ -45,11 +45,13 @@ abbrev pub free_table : ℕ → Table
 free_table c = record { client = c; handles = replicate DESCRIPTORS_MAX None }
 
 -- What a mount was told as it began: whether renames of directories that lower layers have make redirects, whether files are copied up
--- without their bytes where these don't change, and whether nothing may be written.
+-- without their bytes where these don't change, whether nothing may be written, and the most bytes that a write or a truncate may give a
+-- file.
 pub record MountOptions : Type 0 where
   pub redirects : Bool
   pub metacopy : Bool
   pub read_only : Bool
+  pub file_limit : ℕ
 
 -- The state: the tree, the next new node's serial, how many renames moved something, the next client's number, the mount's options, and
 -- for each attached client, in the order of their numbers, its descriptors and its inotify instance.

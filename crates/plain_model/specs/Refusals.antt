@@ -38,10 +38,6 @@ there (Fails e) = Some e
 there (Absent d) = Some ENOENT
 there (Found d) = None
 
--- the most bytes of a file
-abbrev pub FILE_MAX : ℕ
-FILE_MAX = 1048576
-
 -- the most bytes of one read or write
 abbrev pub TRANSFER_MAX : ℕ
 TRANSFER_MAX = 65536
@@ -163,14 +159,14 @@ descriptor_refusal s h x c (Write fd bytes) =
     when (is_none h) EBADF
     or_else when (nat_lt TRANSFER_MAX (length bytes)) EINVAL
     or_else when (not (can_write h)) EBADF
-    or_else when (nat_lt 0 (length bytes) && not (nat_lt (write_place s.tree h) FILE_MAX)) EFBIG
+    or_else when (nat_lt 0 (length bytes) && not (nat_lt (write_place s.tree h) s.options.file_limit)) EFBIG
 descriptor_refusal s h x c (Seek fd offset whence) =
     when (is_none h) EBADF
     or_else when (nat_lt 2 whence) EINVAL
     or_else when (is_folder x && not (nat_eq (nat_abs offset) 0 && nat_eq whence 0)) EINVAL
     or_else when (int_lt PLACE_MAX (pos (seek_base s.tree h whence) +ℤ offset)) EOVERFLOW
     or_else when (int_lt (pos (seek_base s.tree h whence) +ℤ offset) (pos 0)) EINVAL
-descriptor_refusal s h x c (Truncate fd size) = when (is_none h) EBADF or_else when (not (can_write h)) EINVAL or_else when (nat_lt FILE_MAX size) EFBIG
+descriptor_refusal s h x c (Truncate fd size) = when (is_none h) EBADF or_else when (not (can_write h)) EINVAL or_else when (nat_lt s.options.file_limit size) EFBIG
 descriptor_refusal s h x c (Fstat fd) = when (is_none h) EBADF
 descriptor_refusal s h x c (Close fd) = when (is_none h) EBADF
 descriptor_refusal s h x c (ListNames fd n) = when (is_none h) EBADF or_else when (not (is_folder x)) ENOTDIR or_else when (nat_eq n 0 || nat_lt 256 n) EINVAL

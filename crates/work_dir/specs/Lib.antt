@@ -1,3 +1,4 @@
+pub mod Chunks
 pub mod Beginnings
 pub mod NextSteps
 pub mod OpenJobs

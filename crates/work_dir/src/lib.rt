@@ -7,7 +7,7 @@ mod next;
 mod table;
 mod temp;
 
-pub use limits::{BEGINS_MAX, CHUNK, CHUNKS_MAX, FILE_MAX, PLACINGS_MAX, STEPS_MAX};
+pub use limits::{BEGINS_MAX, CHUNK, CHUNKS_MAX, PLACINGS_MAX, SMALL_MAX, STEPS_MAX, chunk_of};
 pub use next::{Lack, Next, next_after};
 pub use ov_base::Source;
 pub use table::{OpenJob, WorkDir};

@@ -1,9 +1,9 @@
 // A beginning of a lower file's bytes.
 ghost use Rattle.std.specs.Prelude.{◌≡◌, ◌<◌, ◌≤◌, length, IfOk, OnOk, OnErr};
 ghost use Rattle.work_dir.specs.Beginnings.{IsBeginning, empty_beginning, longer_beginning, is_whole};
-ghost use Rattle.work_dir.specs.declared.limits.TheConstants.{FILE_MAX, CHUNKS_MAX};
+ghost use Rattle.work_dir.specs.declared.limits.TheConstants.{CHUNKS_MAX};
 
-use crate::limits::CHUNK;
+use crate::limits::chunk_of;
 use ov_base::{Bytes, Source};
 use std::alloc::{AllocError, Global};
 use std::marker::Model;
@@ -72,10 +72,10 @@ impl Temp {
         ensures ok { OnOk result (self.new ≡ longer_beginning whole.now self.old) }
         ensures err { OnErr result (self.new ≡ self.old) }
         ensures full { OnErr result (self.old.room < length whole.now) }
-        ensures few { length whole.now ≤ FILE_MAX → self.old.chunks < CHUNKS_MAX }
+        ensures few { self.old.chunks < CHUNKS_MAX }
     {
         let rest = &whole[self.bytes.len()..];
-        let len = CHUNK.min(rest.len());
+        let len = chunk_of(whole.len()).min(rest.len());
         self.bytes.extend_from_slice(&rest[..len])?;
         self.chunks += 1;
         Ok(())
