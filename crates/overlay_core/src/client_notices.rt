@@ -44,15 +44,16 @@ impl<F: Callback, R: Rule> Watched<F, R> {
         layers: Layers,
         redirects: bool,
         metacopy: bool,
+        file_limit: u64,
     ) -> Result<Watched<F, R>, Layers>
         requires { AreLayers (layers_of layers) }
         ensures layers { IfOk result (λ watched. watched.mount.layers ≡ layers) }
         ensures back { IfErr result (λ back. back ≡ layers) }
         ensures nobody { IfOk result (λ watched. (n : ℕ) → get nat_cmp watched.mount.clients.attached n ≡ None) }
         ensures first { IfOk result (λ watched. watched.mount.clients.next ≡ 0) }
-        ensures begins { IfOk result (λ watched. BeginsWith layers (record { redirects = redirects; metacopy = metacopy; read_only = false }) watched.mount watched.notifier) }
+        ensures begins { IfOk result (λ watched. BeginsWith layers (record { redirects = redirects; metacopy = metacopy; read_only = false; file_limit = file_limit }) watched.mount watched.notifier) }
     {
-        let mount = Mount::new(alloc, keys, layers, redirects, metacopy)?;
+        let mount = Mount::new(alloc, keys, layers, redirects, metacopy, file_limit)?;
         let Ok(notifier) = Notifier::new(alloc, keys) else {
             return Err(mount.into_layers());
         };
