@@ -211,7 +211,7 @@ impl<F: Callback, R: Rule> Core<F, R> {
         ensures begins { IfOk result (λ core. CoreBegins core options) }
         ensures idle { IfOk result (λ core. core_work core ≡ []) }
     {
-        let watched = Watched::new(alloc, keys, layers, options.redirects, options.metacopy, options.file_limit)?;
+        let watched = Watched::new(alloc, keys, layers, options)?;
         let work = WorkDir::new(alloc);
         Ok(Core {
             watched,
