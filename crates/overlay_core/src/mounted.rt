@@ -366,6 +366,7 @@ impl<F: Callback, R: Rule> Core<F, R> {
     }
 
     // The one step of a job where nothing may be written.
+    #[inline(always)]
     fn answer(&mut self, job: &mut Job) -> Turn
         requires read_only { core_read_only self.old ≡ true }
         requires open { job.old.standing ≡ Standing.Open }
