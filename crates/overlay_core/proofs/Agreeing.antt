@@ -1,5 +1,5 @@
 -- What clients do to a mount leaves some state that agrees, and a mount begins with the merges of its layers as long as nothing was done.
-use Rattle.std.proofs.Common.{arith, ◌≡◌, ℕ, ◌+◌, ◌<◌, ◌≤◌, Bool, true, false, ◌||◌, List, [], ◌∷◌, suc, Option, Some, None, All, map, cond, nat_eq, nat_lt, refl, sym, subst}
+use Rattle.std.proofs.Common.{arith, ◌≡◌, ℕ, ◌+◌, ◌<◌, ◌≤◌, Bool, true, false, ◌||◌, List, [], ◌∷◌, Option, Some, None, map, cond, nat_lt, refl, sym, subst}
 use Rattle.std.proofs.lemmas.Bool.{ltb-false}
 use Rattle.ov_base.specs.declared.options.Options.{Options}
 use Rattle.overlay_core.specs.Mounting.{mount_fault}
@@ -7,7 +7,6 @@ use Rattle.overlay_core.specs.declared.mount_faults.MountFault.TheVariants.{NoLo
 use Rattle.std.proofs.lemmas.Grind.{merely}
 use mathlib.Core.Logic.{∥∥₁_map}
 use Rattle.plain_model.specs.Layers.{AreLayers, Layer, filled}
-use Rattle.plain_model.specs.Limits.{IsWithinLimits}
 use Rattle.work_dir.specs.declared.table.OpenJob.{OpenJob}
 use Rattle.overlay_core.specs.Temps.{AreTemps}
 use Rattle.plain_model.specs.Tree.{Tree}

@@ -1,11 +1,10 @@
 -- Which objects bear a mark that leads to no file, which layers have one, and which layers are a mount.
-use Rattle.std.proofs.Common.{◌≡◌, ◌<◌, ℕ, zero, suc, List, [], ◌∷◌, true, false, Option, None, Some, All, Any, arith, refl, sym, ap, ◌∙◌, subst, length, map, get_or}
+use Rattle.std.proofs.Common.{◌≡◌, ◌<◌, ℕ, zero, suc, List, [], ◌∷◌, true, false, Option, None, Some, Any, arith, refl, sym, ap, ◌∙◌, subst, length, map, get_or}
 use Rattle.std.proofs.lemmas.Bool.{false≢true, not-true}
 use Rattle.std.specs.Option.{option_and_then}
 use Rattle.slab.specs.Slab.{get}
 use Rattle.plain_model.specs.Layers.{Inode, Layer, Path, shows}
-use Rattle.plain_model.specs.Limits.{IsWithinLimits}
-use Rattle.layer_tree.specs.Tree.{Tree, inode_of, layer_of, layers_given}
+use Rattle.layer_tree.specs.Tree.{Tree, inode_of, layer_of}
 use Rattle.layer_tree.specs.declared.node.Node.{Node}
 use Rattle.overlay_core.specs.Marks.{astray, goes_astray}
 use Rattle.overlay_core.specs.Mounting.{IsAstray, shows_file}
