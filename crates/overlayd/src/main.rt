@@ -3,9 +3,10 @@
 
 mod listening;
 
-ghost use Rattle.std.specs.Prelude.{IfOk, length, ◌≤◌};
+ghost use Rattle.std.specs.Prelude.{◌≡◌, IfOk, length, ◌≤◌};
 ghost use Rattle.locked_history.specs.Names.{blank_core};
 ghost use Rattle.ov_server.specs.Mounts.{IsMountOf};
+ghost use Rattle.overlay_core.specs.Views.{core_options};
 
 use crate::listening::listen;
 use locked_history::Blank;
@@ -129,11 +130,12 @@ where
     R: Runtime + AllocGlobal + Net + Threads + Wait + Sync,
 {
     let manifest = bytes_of(rt, serving.manifest, serving.manifest_limit)?;
-    let blank = blank_of(rt.alloc(), keys, manifest.as_slice(), serving.history)?;
+    let (blank, places) = blank_of(rt.alloc(), keys, manifest.as_slice(), serving.history)?;
     let listener = listen(rt, serving)?;
     let options = ServeOptions {
         socket: serving.socket,
         workers: serving.workers as usize,
+        history: places as usize,
         sessions: serving.sessions,
         idle: serving.idle,
         verbose: serving.verbose,
@@ -144,19 +146,21 @@ where
     }
 }
 
-// A mount of a manifest's layers on which nothing was done. Its history is as long as is told, or
-// else as the manifest says.
+// A mount of a manifest's layers on which nothing was done, and how many places its history has: as
+// many as are told, or else as the manifest says.
 fn blank_of<F: Callback + Drop, H: Rule>(
     alloc: Global,
     keys: RandomState,
     manifest: &[u8],
     history: Option<HistoryLength>,
-) -> Result<Blank<F, H>, Fault>
-    ensures mount { IfOk result (λ blank. IsMountOf manifest.now history (blank_core blank)) }
+) -> Result<(Blank<F, H>, u32), Fault>
+    ensures mount { IfOk result (λ r. IsMountOf manifest.now history (blank_core r.0)) }
+    ensures places { IfOk result (λ r. r.1 ≡ (core_options (blank_core r.0)).history) }
 {
     let core = core_of(alloc, keys, manifest, history)?;
+    let places = core.history();
     match Blank::new(alloc, core) {
-        Ok(blank) => Ok(blank),
+        Ok(blank) => Ok((blank, places)),
         Err(_) => Err(Fault::Memory),
     }
 }

@@ -202,6 +202,7 @@ where
         let options = ServeOptions {
             socket: path,
             workers: 1,
+            history: 100_000,
             sessions: Some(sessions),
             idle,
             verbose: true,

@@ -142,6 +142,7 @@ where
     let options = ServeOptions {
         socket: path,
         workers: 2,
+        history: 100_000,
         sessions: Some(1),
         idle: None,
         verbose: false,

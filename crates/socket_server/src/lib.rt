@@ -3,10 +3,13 @@
 #![tactic(auto)]
 
 mod connection;
+mod guard;
+mod history_marks;
 mod lines;
 mod reports;
 mod served;
 mod serving;
+mod threads;
 mod worker;
 
 pub use reports::Reports;

@@ -11,6 +11,7 @@ ghost use Rattle.socket_server.specs.Working as working;
 
 use crate::reports::Reports;
 use crate::served::Served;
+use crate::threads::threads_to_be_had;
 use crate::worker::{Worked, work};
 use locked_history::{Blank, Mount, MountName, Past, Receipt};
 use std::alloc::{AllocError, Global};
@@ -29,6 +30,8 @@ pub struct ServeOptions<'a> {
     pub socket: &'a str,
     /// How many connections it serves at once.
     pub workers: usize,
+    /// How many places the history of its mount has; it tells when they are used.
+    pub history: usize,
     /// After how many sessions each worker ends; none where they never do.
     pub sessions: Option<u64>,
     /// After how many seconds, at least one, a connection ends that sends nothing or takes nothing;
@@ -115,8 +118,9 @@ where
     left
 }
 
-// What the first of two threads does, which has the workers serve, or else the second, which tells
-// their lines and leaves nothing.
+// What the second of two threads does, which has the workers serve, or else the first, which tells
+// their lines and leaves nothing. Where the system gives no thread more, the second is done first, in
+// the thread that asks for both.
 fn work_or_tell<N, F, R, H>(
     thread: usize,
     rt: &H,
@@ -132,11 +136,11 @@ where
     F: Callback + Copy + Send + Sync,
     R: Rule + Send + Sync,
     H: Threads + Wait + Eprint + Sync,
-    ensures count { thread ≡ 0 → IfOk result (λ left. length left.items ≡ options.now.workers) }
+    ensures count { thread ≡ 1 → IfOk result (λ left. length left.items ≡ options.now.workers) }
     ensures work { IfOk result (λ left.
         All (IsWork (map (λ h. h.tag) hooks.now) options.now.sessions) left.items) }
 {
-    if thread == 0 {
+    if thread == 1 {
         work_all(rt, alloc, listener, mount, hooks, reports, options)
     } else {
         reports.tell_all();
@@ -169,7 +173,23 @@ where
         2,
         &|thread| work_or_tell(thread, rt, alloc, listener, mount, hooks, reports, options),
     )?;
-    left.swap_remove(0)
+    left.swap_remove(1)
+}
+
+// Tells where fewer workers serve than were asked for, for want of threads: this one is a worker's,
+// and one of those that can be had tells the lines.
+fn tell_of_threads<H: Threads + Wait + Eprint + Sync>(
+    rt: &H,
+    reports: &Reports<'_, H>,
+    workers: usize,
+) {
+    if !reports.is_verbose() {
+        return;
+    }
+    let serving = threads_to_be_had(rt, workers).max(1);
+    if serving < workers {
+        reports.lacks(serving, workers);
+    }
 }
 
 /// Serves the clients of a mount, each with copies of these hooks, until all workers have ended. The
@@ -193,6 +213,7 @@ where
         options.now.workers options.now.sessions r.0.items r.1) }
 {
     reports.listens(options.socket, options.workers);
+    tell_of_threads(rt, reports, options.workers);
     let workers = work_and_tell(rt, alloc, listener, mount, hooks, reports, options)?;
     let end = end_of(has_failed(workers.as_slice()));
     let receipts = gathered(alloc, workers)?;

@@ -6,9 +6,10 @@ ghost use Rattle.locked_history.specs.Claims.{Claim, IsAttachOf};
 ghost use Rattle.socket_server.specs.Working.{IsClient, IsWork};
 
 use crate::connection::Connection;
+use crate::guard::Guard;
 use crate::reports::Reports;
 use crate::serving::ServeOptions;
-use locked_history::{Mount, MountName, Open, Receipt, Session};
+use locked_history::{Mount, MountName, Receipt, Session};
 use mount_door::{Departure, run_session};
 use ov_base::Errno;
 use ov_devices::{CountedReader, CountedWriter};
@@ -74,10 +75,10 @@ fn attach<N: MountName, F: Callback + Copy, R: Rule, H: Wait>(
 
 // Runs the session of a client that was just attached with copies of these hooks, over its
 // connection.
-fn converse<N: MountName, F: Callback + Copy, R: Rule, H: Wait>(
+fn converse<N: MountName, F: Callback + Copy, R: Rule, H: Wait + Eprint>(
     rt: &H,
     alloc: Global,
-    mount: &Mount<N, F, R>,
+    guard: &Guard<'_, '_, N, F, R, H>,
     hooks: &[Hook<F, R>],
     connection: &Connection,
     session: Session,
@@ -95,8 +96,8 @@ fn converse<N: MountName, F: Callback + Copy, R: Rule, H: Wait>(
     run_session(
         rt,
         alloc,
-        mount,
-        &Open,
+        guard.mount,
+        guard,
         session,
         receipts,
         &mut input,
@@ -118,9 +119,8 @@ fn limited(connection: &Connection, idle: Option<u64>) -> io::Result<()> {
 fn serve<N: MountName, F: Callback + Copy, R: Rule, H: Wait + Eprint>(
     rt: &H,
     alloc: Global,
-    mount: &Mount<N, F, R>,
+    guard: &Guard<'_, '_, N, F, R, H>,
     hooks: &[Hook<F, R>],
-    reports: &Reports<'_, H>,
     connection: &Connection,
     idle: Option<u64>,
     worked: &mut Worked<N>,
@@ -142,8 +142,8 @@ fn serve<N: MountName, F: Callback + Copy, R: Rule, H: Wait + Eprint>(
         return Err(Errno::EINVAL);
     };
     let number = connection.number;
-    let (session, own) = attach(rt, alloc, mount, hooks)?;
-    reports.begins(number, session.client);
+    let (session, own) = attach(rt, alloc, guard.mount, hooks)?;
+    guard.reports.begins(number, session.client);
     let Departure {
         ending,
         calls,
@@ -151,8 +151,10 @@ fn serve<N: MountName, F: Callback + Copy, R: Rule, H: Wait + Eprint>(
         receipts,
         hooks: back,
         lost: _,
-    } = converse(rt, alloc, mount, hooks, connection, session, own);
-    reports.ends(number, calls, ending, connection.timed_out());
+    } = converse(rt, alloc, guard, hooks, connection, session, own);
+    guard
+        .reports
+        .ends(number, calls, ending, connection.timed_out());
     worked.clients.push_reserved(receipts);
     worked.failed = back.is_none();
     Ok(())
@@ -163,9 +165,8 @@ fn take<N: MountName, F: Callback + Copy, R: Rule, H: Wait + Eprint>(
     rt: &H,
     alloc: Global,
     listener: &UnixListener,
-    mount: &Mount<N, F, R>,
+    guard: &Guard<'_, '_, N, F, R, H>,
     hooks: &[Hook<F, R>],
-    reports: &Reports<'_, H>,
     idle: Option<u64>,
     worked: &mut Worked<N>,
 )
@@ -181,12 +182,13 @@ fn take<N: MountName, F: Callback + Copy, R: Rule, H: Wait + Eprint>(
         worked.failed = true;
         return;
     };
-    let connection = Connection::new(reports.comes(), stream);
-    if let Err(errno) = serve(rt, alloc, mount, hooks, reports, &connection, idle, worked) {
+    let connection = Connection::new(guard.reports.comes(), stream);
+    if let Err(errno) = serve(rt, alloc, guard, hooks, &connection, idle, worked) {
         connection.refuse(errno);
-        reports.refuses(connection.number, errno);
+        guard.reports.refuses(connection.number, errno);
         worked.refused += 1;
     }
+    guard.look();
 }
 
 /// Takes connections, so many or nearly without an end, and serves each. It ends early where it can
@@ -207,18 +209,14 @@ pub(crate) fn work<N: MountName, F: Callback + Copy, R: Rule, H: Wait + Eprint>(
         refused: 0,
         failed: false,
     };
+    let guard = Guard {
+        mount,
+        places: options.history,
+        reports,
+    };
     let idle = options.idle;
     for _ in 0..options.sessions.unwrap_or(u64::MAX) {
-        take(
-            rt,
-            alloc,
-            listener,
-            mount,
-            hooks,
-            reports,
-            idle,
-            &mut worked,
-        );
+        take(rt, alloc, listener, &guard, hooks, idle, &mut worked);
         if worked.failed {
             reports.fails();
             break;
