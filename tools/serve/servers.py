@@ -134,7 +134,7 @@ class Server:
     """A server on a socket of its own, which is to end by itself."""
 
     def __init__(self, program, folder, workers, sessions, manifest=MANIFEST, more=(), files=None,
-                 stack=None, closed=()):
+                 stack=None, closed=(), stdin=subprocess.DEVNULL):
         self.socket = folder / "socket"
         (folder / "manifest.toml").write_text(manifest)
         words = [program, "serve", "manifest.toml", "socket", "--workers", str(workers)]
@@ -151,7 +151,7 @@ class Server:
             for number in closed:
                 os.close(number)
 
-        self.run = subprocess.Popen(words + list(more), cwd=folder, stdin=subprocess.DEVNULL,
+        self.run = subprocess.Popen(words + list(more), cwd=folder, stdin=stdin,
                                     stdout=subprocess.PIPE, stderr=subprocess.PIPE, bufsize=0,
                                     preexec_fn=begin)
         self.wait_until_it_listens()
@@ -168,6 +168,11 @@ class Server:
 
     def peer(self):
         return Peer(self.socket)
+
+    def peer_at_once(self):
+        """Connects, or fails where nobody listens."""
+        with socket.socket(socket.AF_UNIX) as link:
+            link.connect(str(self.socket))
 
     def first_line(self):
         """The line that it tells first on standard error."""

@@ -205,6 +205,7 @@ where
             history: 100_000,
             sessions: Some(sessions),
             idle,
+            closing: None,
             verbose: true,
         };
         let blank = blank_of::<F, R>(alloc, keys, EMPTY)?;

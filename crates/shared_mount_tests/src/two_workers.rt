@@ -145,6 +145,7 @@ where
         history: 100_000,
         sessions: Some(1),
         idle: None,
+        closing: None,
         verbose: false,
     };
     let blank = blank_of::<F, R>(alloc, keys, EMPTY)?;

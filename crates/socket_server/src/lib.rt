@@ -2,6 +2,7 @@
 //! time as a client of the mount.
 #![tactic(auto)]
 
+mod closing;
 mod connection;
 mod guard;
 mod history_marks;
@@ -12,6 +13,7 @@ mod serving;
 mod threads;
 mod worker;
 
+pub use closing::Closing;
 pub use reports::Reports;
 pub use served::Served;
 pub use serving::{ServeOptions, serve_blank, serve_mount, serve_on};

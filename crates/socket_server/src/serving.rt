@@ -1,5 +1,5 @@
 // All workers of a server.
-ghost use Rattle.std.specs.Prelude.{◌≡◌, ◌++◌, ◌≤◌, All, IfOk, List, OnOk, filter, length, map};
+ghost use Rattle.std.specs.Prelude.{◌≡◌, ◌≢◌, ◌++◌, ◌≤◌, All, IfOk, List, None, OnOk, false, filter, length, map};
 ghost use Rattle.std.specs.List.{flat_map, list_any};
 ghost use Rattle.locked_history.specs.Claims.{Claim, StandsIn, is_past_end, uncounted};
 ghost use Rattle.locked_history.specs.Entries.{history_of};
@@ -9,6 +9,7 @@ ghost use Rattle.locked_history.specs.Views.{core_past, entries_past};
 ghost use Rattle.socket_server.specs.Working.{IsWork, Serves, receipts_in};
 ghost use Rattle.socket_server.specs.Working as working;
 
+use crate::closing::Closing;
 use crate::reports::Reports;
 use crate::served::Served;
 use crate::threads::threads_to_be_had;
@@ -24,7 +25,7 @@ use std::thread::Threads;
 use watch_table::{Callback, Hook, Rule};
 
 /// How a server serves.
-#[derive(Clone, Copy, Debug, PartialEq, Eq)]
+#[derive(Clone, Copy)]
 pub struct ServeOptions<'a> {
     /// The path of its socket, which is told where it listens.
     pub socket: &'a str,
@@ -37,6 +38,8 @@ pub struct ServeOptions<'a> {
     /// After how many seconds, at least one, a connection ends that sends nothing or takes nothing;
     /// none where it never does.
     pub idle: Option<u64>,
+    /// What ends it before; none where nothing does.
+    pub closing: Option<&'a Closing>,
     /// Whether it tells what it does.
     pub verbose: bool,
 }
@@ -69,6 +72,7 @@ fn gathered<N: MountName>(
             clients,
             refused: _,
             failed: _,
+            stopped: _,
         } = worked;
         put_all(&mut all, clients)?;
     }
@@ -82,11 +86,24 @@ fn has_failed<N: MountName>(workers: &[Worked<N>]) -> bool
     workers.iter().any(|worked| worked.failed)
 }
 
-// How the server ended.
-fn end_of(failed: bool) -> Served
-    ensures { result ≡ working.end_of failed }
+// Whether one of the workers was stopped.
+fn was_stopped<N: MountName>(workers: &[Worked<N>]) -> bool
+    ensures { result ≡ list_any (λ worked. worked.stopped) workers.now }
 {
-    if failed { Served::Failed } else { Served::Done }
+    workers.iter().any(|worked| worked.stopped)
+}
+
+// How the server ended.
+fn end_of(failed: bool, stopped: bool) -> Served
+    ensures { result ≡ working.end_of failed stopped }
+{
+    if failed {
+        Served::Failed
+    } else if stopped {
+        Served::Stopped
+    } else {
+        Served::Done
+    }
 }
 
 // Has the workers serve, and their lines end when all have ended.
@@ -107,12 +124,14 @@ where
     ensures count { IfOk result (λ left. length left.items ≡ options.now.workers) }
     ensures work { IfOk result (λ left.
         All (IsWork (map (λ h. h.tag) hooks.now) options.now.sessions) left.items) }
+    ensures stopped { options.now.closing ≡ None
+        → IfOk result (λ left. All (λ worked. worked.stopped ≡ false) left.items) }
 {
     let left = thread::map_indices(
         rt,
         alloc,
         options.workers,
-        &|_| work(rt, alloc, listener, mount, hooks, reports, options),
+        &|worker| work(worker, rt, alloc, listener, mount, hooks, reports, options),
     );
     reports.close();
     left
@@ -139,6 +158,8 @@ where
     ensures count { thread ≡ 1 → IfOk result (λ left. length left.items ≡ options.now.workers) }
     ensures work { IfOk result (λ left.
         All (IsWork (map (λ h. h.tag) hooks.now) options.now.sessions) left.items) }
+    ensures stopped { options.now.closing ≡ None
+        → IfOk result (λ left. All (λ worked. worked.stopped ≡ false) left.items) }
 {
     if thread == 1 {
         work_all(rt, alloc, listener, mount, hooks, reports, options)
@@ -166,6 +187,8 @@ where
     ensures count { IfOk result (λ left. length left.items ≡ options.now.workers) }
     ensures work { IfOk result (λ left.
         All (IsWork (map (λ h. h.tag) hooks.now) options.now.sessions) left.items) }
+    ensures stopped { options.now.closing ≡ None
+        → IfOk result (λ left. All (λ worked. worked.stopped ≡ false) left.items) }
 {
     let mut left = thread::map_indices(
         rt,
@@ -194,7 +217,8 @@ fn tell_of_threads<H: Threads + Wait + Eprint + Sync>(
 
 /// Serves the clients of a mount, each with copies of these hooks, until all workers have ended. The
 /// receipts of all that they did are handed back, and how the server ended: `Done` only where each
-/// worker took its connections, and each of these had a client or was refused one.
+/// worker took its connections, and each of these had a client or was refused one, and `Stopped` only
+/// where something ends it.
 pub fn serve_mount<N, F, R, H>(
     rt: &H,
     alloc: Global,
@@ -209,13 +233,16 @@ where
     F: Callback + Copy + Send + Sync,
     R: Rule + Send + Sync,
     H: Threads + Wait + Eprint + Sync,
-    ensures { IfOk result (λ r. Serves N (map (λ h. h.tag) hooks.now)
+    ensures served { IfOk result (λ r. Serves N (map (λ h. h.tag) hooks.now)
         options.now.workers options.now.sessions r.0.items r.1) }
+    ensures stopped { IfOk result (λ r. options.now.closing ≡ None → r.1 ≢ Served.Stopped) }
 {
     reports.listens(options.socket, options.workers);
     tell_of_threads(rt, reports, options.workers);
     let workers = work_and_tell(rt, alloc, listener, mount, hooks, reports, options)?;
-    let end = end_of(has_failed(workers.as_slice()));
+    let failed = has_failed(workers.as_slice());
+    let stopped = was_stopped(workers.as_slice());
+    let end = end_of(failed, stopped);
     let receipts = gathered(alloc, workers)?;
     Ok((receipts, end))
 }
@@ -248,6 +275,7 @@ where
         options.now.workers options.now.sessions receipts r.2
         × All (StandsIn (entries_past r.0)) receipts
         × (r.1.items ≡ filter (is_past_end (entries_past r.0)) (map uncounted receipts))) }
+    ensures stopped { IfOk result (λ r. options.now.closing ≡ None → r.2 ≢ Served.Stopped) }
 {
     let mount: Mount<N, F, R> = Mount::open(blank);
     let (receipts, end) = serve_mount(rt, alloc, listener, &mount, hooks, reports, options)?;
@@ -278,6 +306,7 @@ where
     reports.sums_up(past.len());
     Ok(end)
 }
+
 /// Serves the clients of a blank mount on a socket, each with copies of these hooks, until all
 /// workers have ended. What they did is one legal history, which ends in the state of the core.
 pub fn serve_on<F, R, H>(

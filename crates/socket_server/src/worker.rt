@@ -1,6 +1,6 @@
 // A worker: it takes one connection after the other. The client of a connection is attached, its
 // session is run, and it is detached before its stream is closed.
-ghost use Rattle.std.specs.Prelude.{◌≡◌, ◌+◌, ◌<◌, ◌∷◌, [], All, IfOk, MatchResult, OnErr, false, length, map, true};
+ghost use Rattle.std.specs.Prelude.{◌≡◌, ◌+◌, ◌<◌, ◌∷◌, [], All, IfOk, MatchResult, None, OnErr, false, length, map, true};
 ghost use Rattle.std.specs.Vec.{vec_capacity, vec_len};
 ghost use Rattle.locked_history.specs.Claims.{Claim, IsAttachOf};
 ghost use Rattle.socket_server.specs.Working.{IsClient, IsWork};
@@ -22,12 +22,14 @@ use std::sync::Wait;
 use watch_table::{Callback, Hook, Rule};
 
 /// What a worker leaves of the connections that it took: the receipts of each client that was
-/// attached, how many connections were refused a client, and whether it could not go on.
+/// attached, how many connections were refused a client, whether it could not go on, and whether it
+/// was stopped since the server was closed.
 #[derive(Drop)]
 pub(crate) struct Worked<N: MountName> {
     pub(crate) clients: Vec<Vec<Receipt<N>>>,
     pub(crate) refused: u64,
     pub(crate) failed: bool,
+    pub(crate) stopped: bool,
 }
 
 // Other hooks of the same tags and callbacks.
@@ -134,12 +136,16 @@ fn serve<N: MountName, F: Callback + Copy, R: Rule, H: Wait + Eprint>(
         (λ _. length worked.new.clients.items ≡ length worked.old.clients.items) }
     ensures refused { worked.new.refused ≡ worked.old.refused }
     ensures failed { OnErr result (worked.new.failed ≡ worked.old.failed) }
+    ensures stopped { worked.new.stopped ≡ worked.old.stopped }
 {
     let Ok(()) = worked.clients.reserve(1) else {
         return Err(Errno::ENOMEM);
     };
     let Ok(()) = limited(connection, idle) else {
         return Err(Errno::EINVAL);
+    };
+    let Ok(()) = guard.enters(rt, connection.stream()) else {
+        return Err(Errno::EMFILE);
     };
     let number = connection.number;
     let (session, own) = attach(rt, alloc, guard.mount, hooks)?;
@@ -160,7 +166,8 @@ fn serve<N: MountName, F: Callback + Copy, R: Rule, H: Wait + Eprint>(
     Ok(())
 }
 
-// Takes a connection and serves it, or refuses it a client; or it can't take one.
+// Takes a connection and serves it, or refuses it a client; or it can't take one, or takes none since
+// the server is closed.
 fn take<N: MountName, F: Callback + Copy, R: Rule, H: Wait + Eprint>(
     rt: &H,
     alloc: Global,
@@ -175,10 +182,17 @@ fn take<N: MountName, F: Callback + Copy, R: Rule, H: Wait + Eprint>(
         worked.old.clients.items
         → All (λ receipts. IsClient (map (λ h. h.tag) hooks.now) receipts.items)
         worked.new.clients.items }
-    ensures count { worked.new.failed ≡ false → length worked.new.clients.items + worked.new.refused
+    ensures count { worked.new.failed ≡ false → worked.new.stopped ≡ false
+        → length worked.new.clients.items + worked.new.refused
         ≡ (length worked.old.clients.items + worked.old.refused) + 1 }
+    ensures stopped { guard.now.closing ≡ None → worked.new.stopped ≡ worked.old.stopped }
 {
-    let Ok((stream, _)) = listener.accept() else {
+    let outcome = listener.accept();
+    if guard.is_closed() {
+        worked.stopped = true;
+        return;
+    }
+    let Ok((stream, _)) = outcome else {
         worked.failed = true;
         return;
     };
@@ -188,12 +202,14 @@ fn take<N: MountName, F: Callback + Copy, R: Rule, H: Wait + Eprint>(
         guard.reports.refuses(connection.number, errno);
         worked.refused += 1;
     }
+    guard.leaves(rt);
     guard.look();
 }
 
 /// Takes connections, so many or nearly without an end, and serves each. It ends early where it can
-/// take none, or a client's detach is refused, which is told.
+/// take none, or a client's detach is refused, which is told, and where the server is closed.
 pub(crate) fn work<N: MountName, F: Callback + Copy, R: Rule, H: Wait + Eprint>(
+    worker: usize,
     rt: &H,
     alloc: Global,
     listener: &UnixListener,
@@ -202,23 +218,29 @@ pub(crate) fn work<N: MountName, F: Callback + Copy, R: Rule, H: Wait + Eprint>(
     reports: &Reports<'_, H>,
     options: &ServeOptions<'_>,
 ) -> Worked<N>
-    ensures { IsWork (map (λ h. h.tag) hooks.now) options.now.sessions result }
+    ensures work { IsWork (map (λ h. h.tag) hooks.now) options.now.sessions result }
+    ensures stopped { options.now.closing ≡ None → result.stopped ≡ false }
 {
     let mut worked = Worked {
         clients: Vec::new(alloc),
         refused: 0,
         failed: false,
+        stopped: false,
     };
     let guard = Guard {
         mount,
         places: options.history,
         reports,
+        closing: options.closing,
+        worker,
     };
     let idle = options.idle;
     for _ in 0..options.sessions.unwrap_or(u64::MAX) {
         take(rt, alloc, listener, &guard, hooks, idle, &mut worked);
         if worked.failed {
             reports.fails();
+        }
+        if worked.failed || worked.stopped {
             break;
         }
     }

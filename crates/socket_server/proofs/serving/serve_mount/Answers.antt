@@ -1,11 +1,16 @@
 use Rattle.std.proofs.Common.{rules}
+use Rattle.socket_server.proofs.Ends.{not-stopped}
 use Rattle.socket_server.proofs.serving.serve_mount.Goals as goal
 
-pub returns : goal.returns
-returns g c = record {
+pub returns-clause-served : goal.returns-clause-served
+returns-clause-served g c = record {
   workers = c.in_ok-workers.workers.items;
   many = c.in_ok-workers.ensures.count;
   work = c.in_ok-workers.ensures.work;
   all = search rules;
   end = search rules;
 }
+
+pub returns-clause-stopped : goal.returns-clause-stopped
+returns-clause-stopped g c none =
+    not-stopped c.in_ok-workers.workers.items _ (c.in_ok-workers.ensures.stopped none)
