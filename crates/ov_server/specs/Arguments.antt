@@ -81,6 +81,13 @@ unlink_rule = flag_rule (codes "unlink")
 abbrev pub until_eof_rule : Rule
 until_eof_rule = flag_rule (codes "until-eof")
 
+-- `--save FILE`
+abbrev pub save_rule : Rule
+save_rule = record (new_rule (codes "save")) {
+  long = Some (codes "save");
+  value_names = 1;
+}
+
 -- `--verbose`, or `-v`
 abbrev pub verbose_rule : Rule
 verbose_rule = record (flag_rule (codes "verbose")) { short = Some 118 }
@@ -88,8 +95,8 @@ verbose_rule = record (flag_rule (codes "verbose")) { short = Some 118 }
 -- the subcommand that serves
 abbrev pub serve_app : App
 serve_app = with_rule (with_rule (with_rule (with_rule (with_rule (with_rule (with_rule (with_rule
-    (app_named (codes "serve")) socket_rule) workers_rule) sessions_rule) history_rule) idle_rule)
-    unlink_rule) until_eof_rule) verbose_rule
+    (with_rule (app_named (codes "serve")) socket_rule) workers_rule) sessions_rule) history_rule)
+    idle_rule) unlink_rule) until_eof_rule) save_rule) verbose_rule
 
 -- THE COMMAND LINE: `overlayd show MANIFEST`, `overlayd play MANIFEST`, `overlayd serve MANIFEST
 -- SOCKET` with its options, `overlayd --version` or `overlayd --help`
@@ -152,6 +159,7 @@ pub record AsksServe (rows : List Row) (asked : Serving) : Type 0 where
   pub idle_told : Spells (one_of (codes "idle") rows) asked.idle
   pub unlinks : TellsFlag rows (codes "unlink") asked.unlink
   pub ends : TellsFlag rows (codes "until-eof") asked.until_eof
+  pub saves : first_of (codes "save") rows ≡ option_map (λ file. file.now) asked.save
   pub tells : TellsFlag rows (codes "verbose") asked.verbose
 
 -- what a parse says beside the manifest

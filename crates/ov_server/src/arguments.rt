@@ -10,7 +10,7 @@ ghost use Rattle.ov_server.specs.Arguments.{IsAskedBy, IsLoneWord, IsRefusedBy, 
 ghost use Rattle.ov_server.specs.Arguments.{Spells, TellsLimit, app_named, overlayd_app, places_in, serve_app};
 ghost use Rattle.ov_server.specs.Arguments.{flag_rule, manifest_limit_rule, manifest_rule, number_rule};
 ghost use Rattle.ov_server.specs.Arguments.{history_rule, idle_rule, sessions_rule, socket_rule, unlink_rule};
-ghost use Rattle.ov_server.specs.Arguments.{until_eof_rule, verbose_rule, workers_rule};
+ghost use Rattle.ov_server.specs.Arguments.{save_rule, until_eof_rule, verbose_rule, workers_rule};
 
 use crate::history_length::HistoryLength;
 use clap::builder::ValueParser;
@@ -62,6 +62,8 @@ pub struct Serving<'a> {
     pub unlink: bool,
     /// Whether it ends with standard input.
     pub until_eof: bool,
+    /// The file to which the upper is written at the end; none where it isn't.
+    pub save: Option<&'a str>,
     /// Whether it is told what is served.
     pub verbose: bool,
 }
@@ -117,6 +119,7 @@ fn serve<'a>(alloc: Global) -> Result<Command<'a>, AllocError>
     .arg(idle(alloc))?
     .arg(unlink(alloc))?
     .arg(until_eof(alloc))?
+    .arg(save(alloc))?
     .arg(verbose(alloc))
 }
 
@@ -174,6 +177,15 @@ fn until_eof<'a>(alloc: Global) -> Arg<'a>
     ensures local { result.global ≡ false }
 {
     flag(alloc, "until-eof", "End when standard input does")
+}
+
+fn save<'a>(alloc: Global) -> Arg<'a>
+    ensures rule { rule_of result ≡ save_rule }
+    ensures local { result.global ≡ false }
+{
+    Arg::new(alloc, "save").long("save").value_name("FILE").help(
+        "Write the upper layer to FILE when the server ends [default: never]",
+    )
 }
 
 fn verbose<'a>(alloc: Global) -> Arg<'a>
@@ -286,6 +298,7 @@ fn serving_of<'a>(
     let idle = matches.try_get_one("idle").ok()?;
     let unlink = matches.get_flag("unlink");
     let until_eof = matches.get_flag("until-eof");
+    let save = matches.get_str("save");
     let verbose = matches.get_flag("verbose");
     Some(Serving {
         manifest,
@@ -297,6 +310,7 @@ fn serving_of<'a>(
         idle,
         unlink,
         until_eof,
+        save,
         verbose,
     })
 }

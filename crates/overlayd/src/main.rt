@@ -3,6 +3,7 @@
 
 mod ending;
 mod listening;
+mod saving;
 
 ghost use Rattle.std.specs.Prelude.{◌≡◌, IfOk, length, ◌≤◌};
 ghost use Rattle.locked_history.specs.Names.{blank_core};
@@ -11,6 +12,7 @@ ghost use Rattle.overlay_core.specs.Views.{core_options};
 
 use crate::ending::{closing_in, ending_of};
 use crate::listening::listen;
+use crate::saving::Saver;
 use locked_history::Blank;
 use ov_devices::{CountedReader, CountedWriter};
 use ov_server::{
@@ -113,6 +115,9 @@ fn serve<R: Runtime + AllocGlobal + Net + Threads + Wait + Send + Sync + 'static
     keys: RandomState,
     serving: &Serving<'_>,
 ) -> Result<u8, Fault> {
+    if serving.save.is_some() && serving.sessions.is_none() && !serving.until_eof {
+        return Err(Fault::SaveWithoutEnd);
+    }
     let hooks = hooks_by_slot(rt.alloc())?;
     serve_with(rt, keys, hooks.as_slice(), serving)
 }
@@ -132,6 +137,7 @@ where
 {
     let manifest = bytes_of(rt, serving.manifest, serving.manifest_limit)?;
     let (blank, places) = blank_of(rt.alloc(), keys, manifest.as_slice(), serving)?;
+    let mut saver = Saver::new(rt, serving)?;
     let listener = listen(rt, serving)?;
     let ending = ending_of(rt, &listener, serving)?;
     let options = ServeOptions {
@@ -143,14 +149,24 @@ where
         closing: closing_in(&ending),
         verbose: serving.verbose,
     };
-    match serve_on(rt, rt.alloc(), &listener, blank, hooks, &options)? {
+    let served = serve_on(
+        rt,
+        rt.alloc(),
+        &listener,
+        blank,
+        hooks,
+        &options,
+        &mut saver,
+    )?;
+    saver.outcome?;
+    match served {
         Served::Done | Served::Stopped => Ok(0),
         Served::Failed => Ok(Fault::Socket.status()),
     }
 }
 
 // A mount of a manifest's layers on which nothing was done, and how many places its history has: as
-// many as are told, or else as the manifest says.
+// many as are told, or else as the manifest says. It has an upper where that is to be saved.
 fn blank_of<F: Callback + Drop, H: Rule>(
     alloc: Global,
     keys: RandomState,
@@ -161,6 +177,9 @@ fn blank_of<F: Callback + Drop, H: Rule>(
     ensures places { IfOk result (λ r. r.1 ≡ (core_options (blank_core r.0)).history) }
 {
     let core = core_of(alloc, keys, manifest, serving.history)?;
+    if serving.save.is_some() && !core.has_upper() {
+        return Err(Fault::NoUpper);
+    }
     let places = core.history();
     match Blank::new(alloc, core) {
         Ok(blank) => Ok((blank, places)),

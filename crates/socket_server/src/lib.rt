@@ -6,6 +6,7 @@ mod closing;
 mod connection;
 mod guard;
 mod history_marks;
+mod keeper;
 mod lines;
 mod reports;
 mod served;
@@ -14,6 +15,7 @@ mod threads;
 mod worker;
 
 pub use closing::Closing;
+pub use keeper::Keeper;
 pub use reports::Reports;
 pub use served::Served;
 pub use serving::{ServeOptions, serve_blank, serve_mount, serve_on};

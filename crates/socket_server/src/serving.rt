@@ -10,6 +10,7 @@ ghost use Rattle.socket_server.specs.Working.{IsWork, Serves, receipts_in};
 ghost use Rattle.socket_server.specs.Working as working;
 
 use crate::closing::Closing;
+use crate::keeper::Keeper;
 use crate::reports::Reports;
 use crate::served::Served;
 use crate::threads::threads_to_be_had;
@@ -283,20 +284,23 @@ where
     Ok((past, left, end))
 }
 
-// The same, told of on standard error. No type of its signature names the mount.
-fn serve_named<N, F, R, H>(
+// The same, told of on standard error; the core is lent to a keeper then. No type of its signature
+// names the mount.
+fn serve_named<N, F, R, H, K>(
     rt: &H,
     alloc: Global,
     listener: &UnixListener,
     blank: Blank<F, R>,
     hooks: &[Hook<F, R>],
     options: &ServeOptions<'_>,
+    keeper: &mut K,
 ) -> Result<Served, AllocError>
 where
     N: MountName + Send + Sync,
     F: Callback + Copy + Send + Sync,
     R: Rule + Send + Sync,
     H: Threads + Wait + Eprint + Sync,
+    K: Keeper,
     requires { IsNamed N.cells N.name N.parts N.opening blank }
 {
     let reports = Reports::new(rt, alloc, options.verbose)?;
@@ -304,23 +308,27 @@ where
         rt, alloc, listener, blank, hooks, &reports, options,
     )?;
     reports.sums_up(past.len());
+    keeper.keep(past.core());
     Ok(end)
 }
 
 /// Serves the clients of a blank mount on a socket, each with copies of these hooks, until all
-/// workers have ended. What they did is one legal history, which ends in the state of the core.
-pub fn serve_on<F, R, H>(
+/// workers have ended. What they did is one legal history, which ends in the state of the core that
+/// the keeper is lent then.
+pub fn serve_on<F, R, H, K>(
     rt: &H,
     alloc: Global,
     listener: &UnixListener,
     blank: Blank<F, R>,
     hooks: &[Hook<F, R>],
     options: &ServeOptions<'_>,
+    keeper: &mut K,
 ) -> Result<Served, AllocError>
 where
     F: Callback + Copy + Send + Sync,
     R: Rule + Send + Sync,
     H: Threads + Wait + Eprint + Sync,
+    K: Keeper,
 {
-    serve_named::<Brand, F, R, H>(rt, alloc, listener, blank, hooks, options)
+    serve_named::<Brand, F, R, H, K>(rt, alloc, listener, blank, hooks, options, keeper)
 }
