@@ -137,7 +137,7 @@ fn workers<'a>(alloc: Global) -> Arg<'a>
     ensures local { result.global ≡ false }
 {
     let help = "Serve N connections at once, 1 to 64; further ones wait";
-    number(alloc, "workers", "N", help, (1, 64)).default_value("8")
+    number(alloc, "workers", "N", help, 1, 64).default_value("8")
 }
 
 fn sessions<'a>(alloc: Global) -> Arg<'a>
@@ -145,7 +145,7 @@ fn sessions<'a>(alloc: Global) -> Arg<'a>
     ensures local { result.global ≡ false }
 {
     let help = "End each worker after K sessions, 1 to 1000000 [default: never]";
-    number(alloc, "sessions", "K", help, (1, 1_000_000))
+    number(alloc, "sessions", "K", help, 1, 1_000_000)
 }
 
 fn history<'a>(alloc: Global) -> Arg<'a>
@@ -153,7 +153,7 @@ fn history<'a>(alloc: Global) -> Arg<'a>
     ensures local { result.global ≡ false }
 {
     let help = "Give the history N places, 2 to 1000000 [default: the manifest's]";
-    number(alloc, "history", "N", help, (2, 1_000_000))
+    number(alloc, "history", "N", help, 2, 1_000_000)
 }
 
 fn idle<'a>(alloc: Global) -> Arg<'a>
@@ -161,7 +161,7 @@ fn idle<'a>(alloc: Global) -> Arg<'a>
     ensures local { result.global ≡ false }
 {
     let help = "End a connection that does nothing so long, 1 to 86400 [default: never]";
-    number(alloc, "idle", "SECONDS", help, (1, 86_400))
+    number(alloc, "idle", "SECONDS", help, 1, 86_400)
 }
 
 fn unlink<'a>(alloc: Global) -> Arg<'a>
@@ -201,7 +201,8 @@ fn number<'a>(
     id: &'a str,
     value_name: &'a str,
     help: &'a str,
-    (least, most): (u64, u64),
+    least: u64,
+    most: u64,
 ) -> Arg<'a>
     ensures rule { rule_of result ≡ number_rule id.entry.now least most }
     ensures local { result.global ≡ false }
@@ -249,8 +250,8 @@ fn manifest_limit<'a>(alloc: Global) -> Arg<'a>
     ensures local { result.global ≡ false }
 {
     let help = "Refuse a manifest of more than BYTES bytes, 1 to 1099511627776";
-    let range = (1, 1_099_511_627_776);
-    number(alloc, "manifest-limit", "BYTES", help, range).default_value("1073741824")
+    let most = 1_099_511_627_776;
+    number(alloc, "manifest-limit", "BYTES", help, 1, most).default_value("1073741824")
 }
 
 fn invocation_of<'a>(matches: &ArgMatches<'a>) -> Option<Invocation<'a>>
