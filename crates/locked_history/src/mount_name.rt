@@ -24,6 +24,6 @@ impl MountName for Brand {
         inodes = λ _. None;
       };
       lowers = [];
-      options = record { redirects = false; metacopy = false; read_only = false };
+      options = record { redirects = false; metacopy = false; read_only = false; file_limit = 0 };
     } };
 }

@@ -8,7 +8,7 @@ use Rattle.ov_base.specs.declared.redirect.Redirect.{Redirect}
 use Rattle.ov_base.specs.declared.reply.Reply.{Reply}
 use Rattle.ov_base.specs.declared.reply.Reply.TheVariants.{Done, Refused}
 use Rattle.plain_model.specs.Laws as laws
-use Rattle.plain_model.specs.Layers.{Layer, Path, held}
+use Rattle.plain_model.specs.Layers.{Layer, Path}
 use Rattle.layer_tree.specs.Tree.{SameObjects}
 use Rattle.merged_lookup.specs.declared.layers.Layers.{Layers}
 use Rattle.merged_lookup.specs.Merged.{upper_of, lowers_of}

@@ -145,8 +145,8 @@ impl<F: Callback, R: Rule> Notifier<F, R> {
         self.objects.is_lost(number)
     }
 
-    // Tells the object of a number to those who watch it, and lets go what the watches held that end by it. What nobody watches takes one
-    // look-up.
+    // Tells the object of a number to those who watch it, and lets go what the watches held that end
+    // by it. Where nobody watches it only its place among the watched objects is read.
     pub(crate) fn tell(&mut self, object: u64, bits: u32, cookie: u32, name: Option<&EventName>)
         requires { IsSubject (record { aim = plain.On (New object); bits = bits; cookie = cookie; name = option_copied name }) }
         ensures { IsTold R.shows self.old self.new (record { aim = plain.On (New object); bits = bits; cookie = cookie; name = option_copied name.entry } ∷ []) }

@@ -1,5 +1,5 @@
 -- What clients do to a mount leaves some state that agrees, and a mount begins with the merges of its layers as long as nothing was done.
-use Rattle.std.proofs.Common.{arith, ◌≡◌, ℕ, ◌+◌, ◌<◌, ◌≤◌, Bool, true, false, ◌||◌, List, [], ◌∷◌, suc, Option, Some, None, All, map, cond, nat_eq, nat_lt, refl, sym, subst}
+use Rattle.std.proofs.Common.{arith, ◌≡◌, ℕ, ◌+◌, ◌<◌, ◌≤◌, Bool, true, false, ◌||◌, List, [], ◌∷◌, Option, Some, None, map, cond, nat_lt, refl, sym, subst}
 use Rattle.std.proofs.lemmas.Bool.{ltb-false}
 use Rattle.ov_base.specs.declared.options.Options.{Options}
 use Rattle.overlay_core.specs.Mounting.{mount_fault}
@@ -7,7 +7,6 @@ use Rattle.overlay_core.specs.declared.mount_faults.MountFault.TheVariants.{NoLo
 use Rattle.std.proofs.lemmas.Grind.{merely}
 use mathlib.Core.Logic.{∥∥₁_map}
 use Rattle.plain_model.specs.Layers.{AreLayers, Layer, filled}
-use Rattle.plain_model.specs.Limits.{IsWithinLimits}
 use Rattle.work_dir.specs.declared.table.OpenJob.{OpenJob}
 use Rattle.overlay_core.specs.Temps.{AreTemps}
 use Rattle.plain_model.specs.Tree.{Tree}
@@ -92,17 +91,10 @@ not-long false false false false e = refl
 pub bounded : (has_upper : Bool) (lowers : ℕ) (o : Options) → mount_fault has_upper lowers o ≡ None → o.history ≤ 1000000
 bounded has_upper lowers o e = ltb-false 1000000 o.history (not-long (nat_lt lowers (cond has_upper 1 2)) (nat_lt 16 lowers) (nat_lt o.history 2) (nat_lt 1000000 o.history) e)
 
--- temps stay beginnings of their files, and lower layers within limits, where the lower layers stay
+-- temps stay beginnings of their files where the lower layers stay
 pub temps-on : (work : List (Option OpenJob)) (old new : Layers) → new.lowers ≡ old.lowers → AreTemps (lowers_of old) work → AreTemps (lowers_of new) work
 temps-on work old new same temps = subst (λ ls. AreTemps (map layer_of ls.items) work) (sym same) temps
-
-pub limits-on : (old new : Layers) → new.lowers ≡ old.lowers → ∥ All IsWithinLimits (lowers_of old) ∥₁ → ∥ All IsWithinLimits (lowers_of new) ∥₁
-limits-on old new same limits = subst (λ ls. ∥ All IsWithinLimits (map layer_of ls.items) ∥₁) (sym same) limits
 
 -- no open job has no temp
 pub no-temps : (lowers : List Layer) (work : List (Option OpenJob)) → work ≡ [] → AreTemps lowers work
 no-temps lowers work none = subst (AreTemps lowers) (sym none) (λ n t e. absurd (cc))
-
--- lower layers are within limits where all are
-pub all-below : (L : Layer) (Ls : List Layer) → All IsWithinLimits (L ∷ Ls) → All IsWithinLimits Ls
-all-below L Ls all k d less = all (suc k) d (omega (arith, less))

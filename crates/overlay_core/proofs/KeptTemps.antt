@@ -8,7 +8,7 @@ use Rattle.plain_model.specs.Watching.{Rule}
 use Rattle.merged_lookup.specs.Merged.{lowers_of}
 use Rattle.work_dir.specs.Beginnings.{Beginning}
 use Rattle.work_dir.specs.OpenJobs.{closed, closed_any, held, is_of, job_at, of_chunks, of_client, temp_of, unless_of, with_chunk, Changes}
-use Rattle.work_dir.specs.declared.limits.TheConstants.{CHUNK}
+use Rattle.work_dir.specs.Chunks.{chunk_of}
 use Rattle.work_dir.specs.declared.next.Next.TheVariants.{Copy}
 use Rattle.work_dir.specs.declared.table.OpenJob.{OpenJob}
 use Rattle.work_dir.proofs.Jobs.{own_within, set_changes}
@@ -62,9 +62,9 @@ held-entry work j t n number e =
     (subst (λ m. held work m j.client j.chunks ≡ Some t) number (held-under work j t e))
 
 -- a file of which there are first bytes has bytes
-bytes-of : (o : Option (List ℕ)) (n : ℕ) (x : List ℕ) → option_map (take n) o ≡ Some x → (b : List ℕ) × (o ≡ Some b)
-bytes-of None n x h = cc
-bytes-of (Some b) n x h = (b, refl)
+bytes-of : (o : Option (List ℕ)) (f : List ℕ → List ℕ) (x : List ℕ) → option_map f o ≡ Some x → (b : List ℕ) × (o ≡ Some b)
+bytes-of None f x h = cc
+bytes-of (Some b) f x h = (b, refl)
 
 module _ {F G : Type 0} (shows : Rule) (m : Watched F G) (work w : List (Option OpenJob)) (j k : Job) (n : ℕ)
     (number : j.number ≡ Some n) (t : Beginning) (holds : held_by work j ≡ Some t)
@@ -95,7 +95,7 @@ module _ {F G : Type 0} (shows : Rule) (m : Watched F G) (work w : List (Option 
 
   -- of bytes that its file has
   whole : (b : List ℕ) × (bytes_at the_lowers t.source ≡ Some b)
-  whole = bytes-of (bytes_at the_lowers t.source) (CHUNK * t.chunks) t.bytes fits.0
+  whole = bytes-of (bytes_at the_lowers t.source) (λ b. take (chunk_of (length b) * t.chunks) b) t.bytes fits.0
 
   module _ (changes : Changes work w n (with_chunk (unwrap_or (bytes_at the_lowers t.source) []) (job_at work n))) where
     -- what stands under the number now

@@ -1,13 +1,11 @@
 -- Which objects bear a mark that leads to no file, which layers have one, and which layers are a mount.
-use Rattle.std.proofs.Common.{◌≡◌, ◌<◌, ℕ, zero, suc, List, [], ◌∷◌, true, false, Option, None, Some, All, Any, arith, refl, sym, ap, ◌∙◌, subst, length, map, get_or}
+use Rattle.std.proofs.Common.{◌≡◌, ◌<◌, ℕ, zero, suc, List, [], ◌∷◌, true, false, Option, None, Some, Any, arith, refl, sym, ap, ◌∙◌, subst, length, map, get_or}
 use Rattle.std.proofs.lemmas.Bool.{false≢true, not-true}
 use Rattle.std.specs.Option.{option_and_then}
 use Rattle.slab.specs.Slab.{get}
 use Rattle.plain_model.specs.Layers.{Inode, Layer, Path, shows}
-use Rattle.plain_model.specs.Limits.{IsWithinLimits}
-use Rattle.layer_tree.specs.Tree.{Tree, inode_of, layer_of, layers_given}
+use Rattle.layer_tree.specs.Tree.{Tree, inode_of, layer_of}
 use Rattle.layer_tree.specs.declared.node.Node.{Node}
-use Rattle.overlay_core.proofs.Agreeing.{all-below}
 use Rattle.overlay_core.specs.Marks.{astray, goes_astray}
 use Rattle.overlay_core.specs.Mounting.{IsAstray, shows_file}
 
@@ -41,8 +39,3 @@ pub any-layer : (P : Layer → Type 0) (ts : List Tree) (k : ℕ) (t : Tree) →
 any-layer P [] k t within is p = absurd (omega (arith, within))
 any-layer P (s ∷ ts) zero t within is p = (0, layer_of s, omega arith, refl, subst (λ t. P (layer_of t)) (sym is) p)
 any-layer P (s ∷ ts) (suc k) t within is p = let m = any-layer P ts k t (omega (arith, within)) is p in (suc m.0, m.1, omega (arith, m.2), m.3, m.4)
-
--- the lower layers are within limits where all that are given are
-pub given-below : (u : Option Tree) (ts : List Tree) → All IsWithinLimits (layers_given u ts) → All IsWithinLimits (map layer_of ts)
-given-below None ts all = all
-given-below (Some t) ts all = all-below (layer_of t) (map layer_of ts) all

@@ -8,7 +8,7 @@ use Rattle.ov_base.specs.declared.errno.Errno.{Errno}
 use Rattle.ov_base.specs.declared.reply.Reply.{Reply}
 use Rattle.plain_model.specs.Machine.{Handle, MountOptions, State, handles_of, writable}
 use Rattle.plain_model.specs.Refusals.{refusal, writes}
-use Rattle.plain_model.specs.Runs.{Answered, Attached, Called, Closes, Deed, Detached, Does, Leaves, Step, without_instance, without_table}
+use Rattle.plain_model.specs.Runs.{Answered, Attached, Called, Closes, Deed, Detached, Does, Leaves, Step, without_instance}
 use Rattle.plain_model.specs.Watching.{Rule}
 use Rattle.plain_model.proofs.Writable.{step-reads}
 use Rattle.ov_base.specs.declared.attributes.Attributes.{Attributes}

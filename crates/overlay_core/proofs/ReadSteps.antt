@@ -1,5 +1,5 @@
 -- The one step of a job where nothing may be written.
-use Rattle.std.proofs.Common.{◌≡◌, ◌≢◌, ℕ, Bool, true, false, ◌||◌, ◌&&◌, cond, IsTrue, is_none, is_some, List, [], ◌∷◌, Option, None, Some, refl, sym, ap, ◌∙◌, subst}
+use Rattle.std.proofs.Common.{◌≡◌, ◌≢◌, Bool, true, false, ◌||◌, ◌&&◌, cond, is_none, List, [], ◌∷◌, Option, None, Some, refl, sym, ap, ◌∙◌, subst}
 use Rattle.std.proofs.lemmas.Bool.{false≢true}
 use Rattle.ov_base.specs.declared.call.Call.{Call}
 use Rattle.ov_base.specs.declared.call.Call.TheVariants as call
@@ -17,14 +17,12 @@ use Rattle.merged_lookup.specs.Merged.{upper_of, lowers_of}
 use Rattle.mount_laws.specs.Renaming.{is_one}
 use Rattle.ov_base.specs.declared.source.Source.{Source}
 use Rattle.work_dir.specs.NextSteps.{next_of}
-use Rattle.work_dir.specs.declared.next.Lack.{Lack}
 use Rattle.work_dir.specs.declared.next.Lack.TheVariants.{Nothing}
 use Rattle.work_dir.specs.declared.next.Next.TheVariants.{Finish}
-use Rattle.mount_calls.specs.Attaching.{is_attached, KeepsAttached}
+use Rattle.mount_calls.specs.Attaching.{is_attached}
 use Rattle.mount_calls.specs.Keeping.{KeepsLayers}
 use Rattle.mount_calls.specs.Lacks.{changed_paths, copied_file, data_at, lack_among, lack_of, lack_size, may_lack}
 use Rattle.mount_calls.specs.States.{IsStateOf}
-use Rattle.mount_calls.specs.declared.clients.Clients.{Clients}
 use Rattle.mount_calls.specs.declared.mount.Mount.{Mount}
 use Rattle.mount_calls.proofs.Frames.{same-layers}
 use Rattle.overlay_core.specs.declared.job.Job.{Job}

@@ -1,5 +1,5 @@
 -- What the steps of a job leave: temps that are beginnings of their files, and the mount as it was.
-use Rattle.std.proofs.Common.{arith, ◌≡◌, ℕ, ◌+◌, ◌*◌, ◌<◌, ◌≤◌, ◌⊎◌, inl, inr, Bool, true, false, cond, nat_lt, List, [], length, take, Option, None, Some, option_map, unwrap_or, refl, sym, ap, ◌∙◌, subst}
+use Rattle.std.proofs.Common.{arith, mul-zero, ◌≡◌, ℕ, ◌+◌, ◌*◌, ◌<◌, ◌≤◌, ◌⊎◌, inl, inr, Bool, true, false, cond, nat_lt, List, [], length, take, Option, None, Some, option_map, unwrap_or, refl, sym, ap, ◌∙◌, subst}
 use Rattle.std.specs.Option.{ForSome}
 use Rattle.std.proofs.lemmas.Bool.{ltb-true}
 use Rattle.std.proofs.lemmas.Option.{same_Some}
@@ -7,7 +7,7 @@ use Rattle.std.proofs.lemmas.List.{take_all, length-take}
 use Rattle.plain_model.specs.Layers.{Layer}
 use Rattle.work_dir.specs.Beginnings.{Beginning, IsBeginning}
 use Rattle.work_dir.specs.OpenJobs.{job_at, temp_of, of_client, unless_of, of_chunks, is_of, held, closed_any, Changes, Same}
-use Rattle.work_dir.specs.declared.limits.TheConstants.{CHUNK, FILE_MAX}
+use Rattle.work_dir.specs.Chunks.{chunk_of}
 use Rattle.work_dir.specs.declared.next.Lack.TheVariants.{File}
 use Rattle.ov_base.specs.declared.source.Source.{Source}
 use Rattle.work_dir.specs.declared.table.OpenJob.{OpenJob}
@@ -105,10 +105,9 @@ held-fits lowers work j temps t e = by (nat_lt 0 j.begins) e
 
 module _ (lowers : List Layer) where
   -- a temp without a byte is one
-  pub begun-fits : (d : Source) (b : List ℕ) → bytes_at lowers d ≡ Some b → length b ≤ FILE_MAX →
-      IsTemp lowers (begun lowers d)
-  begun-fits d b is few =
-      (ap (option_map (take (CHUNK * 0))) is, (λ x e. subst (λ y. length y ≤ FILE_MAX) (same_Some b x (sym is ∙ e)) few), room)
+  pub begun-fits : (d : Source) (b : List ℕ) → bytes_at lowers d ≡ Some b → IsTemp lowers (begun lowers d)
+  begun-fits d b is =
+      (ap (option_map (λ y. take (chunk_of (length y) * 0) y)) is ∙ ap (λ n. Some (take n b)) (mul-zero (chunk_of (length b))), room)
     where
       size : lack_size lowers (File d) ≡ length b
       size = ap (λ o. unwrap_or (option_map length o) 0) is
@@ -117,28 +116,29 @@ module _ (lowers : List Layer) where
       room x e = subst (λ n. length x ≤ n) (sym size) (subst (λ y. length y ≤ length b) (same_Some b x (sym is ∙ e)) (omega arith))
 
   module _ (t : Beginning) (b : List ℕ) (fits : IsTemp lowers t) (is : bytes_at lowers t.source ≡ Some b) where
+    -- so many bytes have its chunks
+    copied : ℕ
+    copied = chunk_of (length b) * t.chunks
+
     -- its bytes are the file's first ones
     pub temp-begins : IsBeginning b t
     temp-begins =
-        sym (same_Some (take (CHUNK * t.chunks) b) t.bytes (ap (option_map (take (CHUNK * t.chunks))) (sym is) ∙ fits.0))
-
-    -- the file is no greater than a file may be
-    pub temp-within : length b ≤ FILE_MAX
-    temp-within = fits.1 b is
+        sym (same_Some (take copied b) t.bytes (ap (option_map (λ y. take (chunk_of (length y) * t.chunks) y)) (sym is) ∙ fits.0))
 
     -- with a chunk more it is one still
     pub longer-fits : IsTemp lowers (longer lowers t)
     longer-fits =
         let e : unwrap_or (bytes_at lowers t.source) [] ≡ b = ap (λ o. unwrap_or o []) is in
-        (ap (option_map (take (CHUNK * (t.chunks + 1)))) is ∙ ap (λ y. Some (take (CHUNK * (t.chunks + 1)) y)) (sym e), fits.1, fits.2)
+        let more : List ℕ → List ℕ = λ y. take (chunk_of (length y) * (t.chunks + 1)) y in
+        (ap (option_map more) is ∙ ap (λ y. Some (more y)) (sym e), fits.1)
 
     -- one that has as many bytes as its file has them all
     pub temp-whole : length b ≤ length t.bytes → bytes_at lowers t.source ≡ Some t.bytes
     temp-whole covers =
-        let many : length b ≤ length (take (CHUNK * t.chunks) b) =
+        let many : length b ≤ length (take copied b) =
         subst (λ y. length b ≤ length y) temp-begins covers in
-        let most : length b ≤ CHUNK * t.chunks = omega (arith, many, length-take (CHUNK * t.chunks) b) in
-        is ∙ ap Some (sym (temp-begins ∙ take_all (CHUNK * t.chunks) b most))
+        let most : length b ≤ copied = omega (arith, many, length-take copied b) in
+        is ∙ ap Some (sym (temp-begins ∙ take_all copied b most))
 
     -- there is more to copy where the file has more bytes
     pub temp-part : length t.bytes < lack_size lowers (File t.source) → length t.bytes < length b

@@ -1,5 +1,5 @@
 -- Whole runs of a core, and the links that its deeds are.
-use Rattle.std.proofs.Common.{arith, ◌≡◌, ◌∙◌, ℕ, suc, ◌+◌, ◌<◌, List, [], ◌∷◌, ◌++◌, true, Option, Some, None, refl, sym, ap, subst, length, ◌⊎◌, inl, inr, false}
+use Rattle.std.proofs.Common.{arith, ◌≡◌, ◌∙◌, ℕ, suc, ◌+◌, List, [], ◌∷◌, ◌++◌, true, Option, Some, None, refl, sym, ap, subst, length, ◌⊎◌, inl, inr, false}
 use base.Stored.{Coded-set, coded_ℕ}
 use mathlib.Core.Logic.{∥∥₁_elim}
 use Rattle.std.specs.Prelude.{count_by, slice_get, slice_index, slice_set}
@@ -9,7 +9,7 @@ use Rattle.std.proofs.Math.ListN.{length-set}
 use Rattle.std.proofs.lemmas.List.Sums.{length-filter}
 use Rattle.ov_base.specs.declared.call.Call.{Call}
 use Rattle.ov_base.specs.declared.reply.Reply.{Reply}
-use Rattle.plain_model.specs.Runs.{Attached, Called, Deed, Detached, Entry, is_of}
+use Rattle.plain_model.specs.Runs.{Attached, Called, Detached, Entry, is_of}
 use Rattle.mount_calls.specs.declared.clients.Clients.{Clients}
 use Rattle.mount_calls.specs.Attaching.{is_attached}
 use Rattle.overlay_core.proofs.Driving.{call-here, calls-set}

@@ -47,7 +47,12 @@ IsMountable n options U lowers =
 -- the options of a mount as the plain machine has them
 abbrev pub machine_options : Bool → Options → MountOptions
 machine_options read_only options =
-    record { redirects = options.redirects; metacopy = options.metacopy; read_only = read_only }
+    record {
+      redirects = options.redirects;
+      metacopy = options.metacopy;
+      read_only = read_only;
+      file_limit = options.file_limit;
+    }
 
 -- the places of a history that are left where so much was finished, and each attached client keeps one
 abbrev pub places_left : Options → ℕ → ℕ → ℕ

@@ -1,5 +1,5 @@
 -- What the one step of a job does on a mount without an upper.
-use Rattle.std.specs.Prelude.{◌≡◌, ◌≢◌, true, Option, None}
+use Rattle.std.specs.Prelude.{◌≡◌, true, None}
 use Rattle.ov_base.specs.declared.errno.Errno.{Errno}
 use Rattle.ov_base.specs.declared.reply.Reply.TheVariants as replies
 use Rattle.ov_base.specs.declared.reply.Reply.TheVariants.{Refused}
@@ -8,7 +8,6 @@ use Rattle.plain_model.specs.Refusals.{refusal}
 use Rattle.plain_model.specs.Runs.{Called}
 use Rattle.plain_model.specs.Watching.{Rule}
 use Rattle.layer_tree.specs.Tree.{SameObjects, layer_of}
-use Rattle.work_dir.specs.Beginnings.{Beginning}
 use Rattle.work_dir.specs.declared.next.Next.TheVariants.{Finish}
 use Rattle.mount_calls.specs.Attaching.{KeepsAttached}
 use Rattle.mount_calls.specs.Keeping.{KeepsLayers}

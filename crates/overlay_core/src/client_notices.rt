@@ -9,6 +9,7 @@ ghost use Rattle.plain_model.specs.Runs.{Attached, Detached};
 ghost use Rattle.mount_calls.specs.Attaching.{Attaches, Detaches, KeepsAttached, KeepsOthers, attach_refusal, is_attached};
 ghost use Rattle.mount_calls.specs.Living.{KeepsPaths};
 ghost use Rattle.overlay_core.specs.Leaving.{ClosesEach, Follows, IsFollowed, Shuts, closing};
+ghost use Rattle.overlay_core.specs.Mounting.{machine_options};
 ghost use Rattle.overlay_core.specs.Performing.{Performs};
 ghost use Rattle.overlay_core.specs.Watching.{BeginsWith, Goes, HasState, Stays};
 ghost use Rattle.copy_up.specs.Showing.{StaysThin};
@@ -18,7 +19,7 @@ use merged_lookup::Layers;
 use mount_calls::Mount;
 use notifier::{CLOSE_NOWRITE, CLOSE_WRITE, ISDIR, Notifier};
 use open_handles::{DESCRIPTORS_MAX, Handle};
-use ov_base::{Call, Errno, Reply};
+use ov_base::{Call, Errno, Options, Reply};
 use std::alloc::{AllocError, Global};
 use std::hash::RandomState;
 use watch_table::{Callback, Hook, NotAttached, Rule};
@@ -36,23 +37,29 @@ fn closing_of(handle: Option<&Handle>) -> Option<u32>
 }
 
 impl<F: Callback, R: Rule> Watched<F, R> {
-    /// A mount of these layers without a client, for which nothing is kept. The names and numbers of what is open and tracked are hashed with
+    /// A mount of these layers and options without a client, for which nothing is kept. The names of what is open are hashed with
     /// these keys. An allocation failure hands the layers back.
     pub(crate) fn new(
         alloc: Global,
         keys: RandomState,
         layers: Layers,
-        redirects: bool,
-        metacopy: bool,
+        options: Options,
     ) -> Result<Watched<F, R>, Layers>
         requires { AreLayers (layers_of layers) }
         ensures layers { IfOk result (λ watched. watched.mount.layers ≡ layers) }
         ensures back { IfErr result (λ back. back ≡ layers) }
         ensures nobody { IfOk result (λ watched. (n : ℕ) → get nat_cmp watched.mount.clients.attached n ≡ None) }
         ensures first { IfOk result (λ watched. watched.mount.clients.next ≡ 0) }
-        ensures begins { IfOk result (λ watched. BeginsWith layers (record { redirects = redirects; metacopy = metacopy; read_only = false }) watched.mount watched.notifier) }
+        ensures begins { IfOk result (λ watched. BeginsWith layers (machine_options false options) watched.mount watched.notifier) }
     {
-        let mount = Mount::new(alloc, keys, layers, redirects, metacopy)?;
+        let mount = Mount::new(
+            alloc,
+            keys,
+            layers,
+            options.redirects,
+            options.metacopy,
+            options.file_limit,
+        )?;
         let Ok(notifier) = Notifier::new(alloc, keys) else {
             return Err(mount.into_layers());
         };

@@ -2,7 +2,6 @@
 ghost use Rattle.std.specs.Prelude.{◌≡◌, ◌≢◌, ◌+◌, ◌-◌, ◌<◌, ◌≤◌, ◌^◌, ℕ, true, false, not, [], ◌∷◌, map, count_by, is_none, is_some, Some, None, All, MatchOption, cond, IfOk, IfErr, IfSome, OnOk, OnErr, length, nat_lt, option_map, unwrap_or, vec_len};
 ghost use Rattle.plain_model.specs.Blank.{IsBlank};
 ghost use Rattle.plain_model.specs.Layers.{AreLayers};
-ghost use Rattle.plain_model.specs.Limits.{IsWithinLimits};
 ghost use Rattle.plain_model.specs.Runs.{Attached, Detached};
 ghost use Rattle.plain_model.specs.Machine.{State, instance_of};
 ghost use Rattle.plain_model.specs.Refusals.{refusal};
@@ -84,7 +83,6 @@ pub struct Core<F: Callback, R: Rule> {
     ghost short: { options.history ≤ 1000000 },
     ghost temps: { AreTemps (lowers_of watched.mount.layers) work },
     ghost waits: { WaitsForAny watched.mount waiting.items },
-    ghost limits: { ∥ All IsWithinLimits (lowers_of watched.mount.layers) ∥₁ },
     ghost blank: { read_only ≡ true → IsBlank (layer_of watched.mount.layers.upper) (lowers_of watched.mount.layers) },
     ghost idle: { read_only ≡ true → work ≡ [] },
 }
@@ -110,7 +108,6 @@ impl<F: Callback, R: Rule> Core<F, R> {
         options: Options,
     ) -> Result<Core<F, R>, Unmounted>
         requires layers { AreLayers (layers_given upper lowers.items) }
-        requires limits { All IsWithinLimits (layers_given upper lowers.items) }
         ensures fault { IfErr result (λ unmounted. MatchOption unmounted.fault
             (IsMountable (vec_len lowers) options (option_map layer_of upper) (map layer_of lowers.items))
             (IsFault (vec_len lowers) options (option_map layer_of upper) (map layer_of lowers.items))) }
@@ -144,7 +141,6 @@ impl<F: Callback, R: Rule> Core<F, R> {
         look_ups: usize,
     ) -> Result<Core<F, R>, Unmounted>
         requires layers { AreLayers (layers_given upper lowers.items) }
-        requires limits { All IsWithinLimits (layers_given upper lowers.items) }
         requires look_ups { look_ups ≤ 65536 }
         ensures fault { IfErr result (λ unmounted. MatchOption unmounted.fault
             (IsMountable (vec_len lowers) options (option_map layer_of upper) (map layer_of lowers.items))
@@ -203,7 +199,6 @@ impl<F: Callback, R: Rule> Core<F, R> {
         read_only: bool,
     ) -> Result<Core<F, R>, Layers>
         requires layers { AreLayers (layer_of layers.upper ∷ lowers_of layers) }
-        requires limits { All IsWithinLimits (lowers_of layers) }
         requires short { options.history ≤ 1000000 }
         requires blank { read_only ≡ true → IsBlank (layer_of layers.upper) (lowers_of layers) }
         ensures back { IfErr result (λ back. back ≡ layers) }
@@ -216,7 +211,7 @@ impl<F: Callback, R: Rule> Core<F, R> {
         ensures begins { IfOk result (λ core. CoreBegins core options) }
         ensures idle { IfOk result (λ core. core_work core ≡ []) }
     {
-        let watched = Watched::new(alloc, keys, layers, options.redirects, options.metacopy)?;
+        let watched = Watched::new(alloc, keys, layers, options)?;
         let work = WorkDir::new(alloc);
         Ok(Core {
             watched,
@@ -371,6 +366,7 @@ impl<F: Callback, R: Rule> Core<F, R> {
     }
 
     // The one step of a job where nothing may be written.
+    #[inline(always)]
     fn answer(&mut self, job: &mut Job) -> Turn
         requires read_only { core_read_only self.old ≡ true }
         requires open { job.old.standing ≡ Standing.Open }

@@ -23,6 +23,7 @@ use ov_base::{Errno, Reply};
 use watch_table::{Callback, Rule};
 
 // Makes the call of a job, or refuses it where it would write.
+#[inline(always)]
 pub(crate) fn answer<F: Callback, R: Rule>(watched: &mut Watched<F, R>, job: &mut Job) -> Turn
     requires open { job.old.standing ≡ Standing.Open }
     requires attached { is_attached watched.old.mount.clients job.old.client ≡ true }

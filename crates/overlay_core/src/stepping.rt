@@ -2,7 +2,6 @@
 ghost use Rattle.std.specs.Prelude.{◌≡◌, ◌≢◌, ◌<◌, List, [], Option, true, false, All, Some, IfOk, IsOk, IsSomeAnd, OnErr, OnOk, option_copied, unwrap_or, length};
 ghost use Rattle.std.specs.Option.{ForSome};
 ghost use Rattle.plain_model.specs.Layers.{Layer};
-ghost use Rattle.plain_model.specs.Limits.{IsWithinLimits};
 ghost use Rattle.plain_model.specs.Machine.{State};
 ghost use Rattle.plain_model.specs.Refusals.{refusal};
 ghost use Rattle.merged_lookup.specs.Merged.{lowers_of};
@@ -46,7 +45,6 @@ pub(crate) fn step<F: Callback, R: Rule>(
     requires attached { is_attached watched.old.mount.clients job.old.client ≡ true }
     requires state { ∥ HasState watched.old.mount watched.old.notifier ∥₁ }
     requires temps { AreTemps (lowers_of watched.old.mount.layers) work.old }
-    requires limits { ∥ All IsWithinLimits (lowers_of watched.old.mount.layers) ∥₁ }
     requires waits { WaitsForAny watched.old.mount waiting.old.items }
     ensures waits { WaitsForAny watched.new.mount waiting.new.items }
     ensures makes { (next : Next) × ((s : State) →
@@ -83,7 +81,6 @@ fn step_seen<F: Callback, R: Rule>(
     requires state { ∥ HasState watched.old.mount watched.old.notifier ∥₁ }
     requires may { lacks.may_lack job.old.call ≡ true }
     requires temps { AreTemps (lowers_of watched.old.mount.layers) work.old }
-    requires limits { ∥ All IsWithinLimits (lowers_of watched.old.mount.layers) ∥₁ }
     requires none { waiting.old.items ≡ [] }
     ensures waits { WaitsForAny watched.new.mount waiting.new.items }
     ensures makes { (next : Next) × ((s : State) → IsStateOf watched.old.mount s →
@@ -121,7 +118,6 @@ fn step_by<F: Callback, R: Rule>(
     requires may { lacks.may_lack job.old.call ≡ true }
     requires looks { AreLooks watched.old.mount.layers job.old.call looks }
     requires temps { AreTemps (lowers_of watched.old.mount.layers) work.old }
-    requires limits { ∥ All IsWithinLimits (lowers_of watched.old.mount.layers) ∥₁ }
     requires none { waiting.old.items ≡ [] }
     ensures waits { WaitsForAny watched.new.mount waiting.new.items }
     ensures makes { (next : Next) × ((s : State) → IsStateOf watched.old.mount s →
@@ -316,7 +312,6 @@ fn begin<F: Callback, R: Rule>(
     requires open { job.old.standing ≡ Standing.Open }
     requires due { (t : Option Beginning) → IsNext watched.now.mount job.old t (Next.Begin source) }
     requires temps { AreTemps (lowers_of watched.now.mount.layers) work.old }
-    requires limits { ∥ All IsWithinLimits (lowers_of watched.now.mount.layers) ∥₁ }
     ensures makes { (t : Option Beginning) →
         Makes watched.now watched.now work.old work.new job.old job.new R.shows result
         (Next.Begin source) t }
@@ -343,7 +338,6 @@ fn keep_begun(
 ) -> Result<usize, AllocError>
     requires can { CanBeHad mount.now job.now.call (Lacking.File source) }
     requires temps { AreTemps (lowers_of mount.now.layers) work.old }
-    requires limits { ∥ All IsWithinLimits (lowers_of mount.now.layers) ∥₁ }
     ensures kept { IfOk result (λ n. (job_at work.old n ≡ None)
         × Changes work.old work.new n (Some (record {
           client = job.now.client;

@@ -2,10 +2,6 @@
 -- (overlayfs.rst, "Non-directories": a lower file is copied up as a whole before it is changed).
 use Rattle.std.specs.Prelude.{ℕ, ◌+◌, ◌*◌, ◌≤◌}
 
--- the most bytes that one step copies: a file of the greatest size has 256 such pieces
-abbrev pub CHUNK : ℕ
-CHUNK = 4096
-
 -- the most parents that a call places one at a time, copies that it begins, and pieces of one copy
 abbrev pub PLACINGS_MAX : ℕ
 PLACINGS_MAX = 256

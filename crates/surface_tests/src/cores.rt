@@ -1,7 +1,6 @@
 // Mounts, their clients, and the replies to their calls.
-ghost use Rattle.std.specs.Prelude.{◌∷◌, All, map};
+ghost use Rattle.std.specs.Prelude.{◌∷◌, map};
 ghost use Rattle.plain_model.specs.Layers.{AreLayers};
-ghost use Rattle.plain_model.specs.Limits.{IsWithinLimits};
 ghost use Rattle.layer_tree.specs.Tree.{layer_of};
 
 use crate::fixtures::read;
@@ -25,7 +24,6 @@ fn mounting<F: Callback + Copy, H: Rule>(
     options: Options,
 ) -> Result<Core<F, H>, Unmounted>
     requires layers { AreLayers (layer_of upper ∷ map layer_of lowers.items) }
-    requires limits { All IsWithinLimits (layer_of upper ∷ map layer_of lowers.items) }
 {
     Core::mount(alloc, keys, Some(upper), lowers, options)
 }
@@ -39,7 +37,6 @@ pub fn mounted_on<F: Callback + Copy, H: Rule>(
     options: Options,
 ) -> Result<Core<F, H>, Fail>
     requires layers { AreLayers (layer_of upper ∷ map layer_of lowers.items) }
-    requires limits { All IsWithinLimits (layer_of upper ∷ map layer_of lowers.items) }
 {
     match mounting(alloc, keys, upper, lowers, options) {
         Ok(core) => Ok(core),
@@ -66,7 +63,6 @@ pub fn refused<F: Callback + Copy, H: Rule>(
     options: Options,
 ) -> Result<Unmounted, Fail>
     requires layers { AreLayers (layer_of upper ∷ map layer_of lowers.items) }
-    requires limits { All IsWithinLimits (layer_of upper ∷ map layer_of lowers.items) }
 {
     match mounting::<F, H>(alloc, keys, upper, lowers, options) {
         Ok(_) => Err(Fail::from("a mount")),

@@ -1,8 +1,7 @@
 // Layers that manifests spell, and paths.
-ghost use Rattle.std.specs.Prelude.{◌<◌, ◌≤◌, ◌∷◌, All, IfOk, map};
+ghost use Rattle.std.specs.Prelude.{◌<◌, ◌≤◌, ◌∷◌, IfOk, map};
 ghost use Rattle.std.specs.Vec.{vec_len};
 ghost use Rattle.plain_model.specs.Layers.{AreLayers};
-ghost use Rattle.plain_model.specs.Limits.{IsWithinLimits};
 ghost use Rattle.layer_tree.specs.Tree.{layer_of};
 
 use layer_tree::{Layer, Node};
@@ -26,8 +25,6 @@ pub fn read(
     ensures some_lower { IfOk result (λ r. 0 < vec_len r.1) }
     ensures few_lowers { IfOk result (λ r. vec_len r.1 ≤ 16) }
     ensures layers { IfOk result (λ r. AreLayers (layer_of r.0 ∷ map layer_of r.1.items)) }
-    ensures limits { IfOk result (λ r.
-        All IsWithinLimits (layer_of r.0 ∷ map layer_of r.1.items)) }
 {
     let (upper, lowers, options) = manifest_of(alloc, keys, manifest.as_bytes())?;
     match upper {

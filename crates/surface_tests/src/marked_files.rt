@@ -1,8 +1,7 @@
 // Files of a layer without bytes of their own, whose marks are made by hand: what they show, how they get bytes, and where they are no
 // mount.
-ghost use Rattle.std.specs.Prelude.{◌∷◌, All, IfOk, OnOk, map};
+ghost use Rattle.std.specs.Prelude.{◌∷◌, IfOk, OnOk, map};
 ghost use Rattle.plain_model.specs.Layers.{AreLayers, IsLayer};
-ghost use Rattle.plain_model.specs.Limits.{AreAttributesWithin, IsWithinLimits};
 ghost use Rattle.layer_tree.specs.Tree.{layer_of};
 
 use crate::cores::{attached, mounted_on, refused, reply};
@@ -56,20 +55,15 @@ const UNMARKED: Stat = Stat {
 // The first layer of a manifest, and its options.
 fn layer_in(alloc: Global, keys: RandomState, manifest: &str) -> Result<(Layer, Options), Fail>
     ensures layer { IfOk result (λ r. IsLayer (layer_of r.0)) }
-    ensures limits { IfOk result (λ r. IsWithinLimits (layer_of r.0)) }
 {
     let (layer, _, options) = read(alloc, keys, manifest)?;
     Ok((layer, options))
 }
 
 // The attributes of a file that is made by hand.
-fn attributes(rt: &impl Abort, alloc: Global) -> Attributes
-    ensures { AreAttributesWithin result }
-{
-    let mode = Mode::parse(0o600).expect(rt, "a mode");
-    mode.lawful();
+fn attributes(rt: &impl Abort, alloc: Global) -> Attributes {
     Attributes {
-        mode,
+        mode: Mode::parse(0o600).expect(rt, "a mode"),
         uid: 7,
         gid: 8,
         user: UserAttributes::new(alloc),
@@ -79,9 +73,7 @@ fn attributes(rt: &impl Abort, alloc: Global) -> Attributes
 // Puts a file with this mark at `/m`.
 fn put_marked(rt: &impl Abort, alloc: Global, layer: &mut Layer, mark: &str) -> Result<(), Fail>
     requires layer { IsLayer (layer_of layer.old) }
-    requires limits { IsWithinLimits (layer_of layer.old) }
     ensures layer { OnOk result (IsLayer (layer_of layer.new)) }
-    ensures limits { OnOk result (IsWithinLimits (layer_of layer.new)) }
 {
     let name = Name::parse(alloc, b"m")?.expect(rt, "a name");
     let mark = Box::new(alloc, path(rt, alloc, mark))?;
@@ -98,12 +90,8 @@ fn put_marked(rt: &impl Abort, alloc: Global, layer: &mut Layer, mark: &str) -> 
 // A lower layer under an upper.
 fn over(alloc: Global, upper: Layer, lower: Layer) -> Result<(Layer, Vec<Layer>), AllocError>
     requires upper { IsLayer (layer_of upper) }
-    requires upper_limits { IsWithinLimits (layer_of upper) }
     requires lower { IsLayer (layer_of lower) }
-    requires lower_limits { IsWithinLimits (layer_of lower) }
     ensures layers { IfOk result (λ r. AreLayers (layer_of r.0 ∷ map layer_of r.1.items)) }
-    ensures limits { IfOk result (λ r.
-        All IsWithinLimits (layer_of r.0 ∷ map layer_of r.1.items)) }
 {
     let mut lowers = Vec::new(alloc);
     lowers.push(lower)?;
@@ -118,8 +106,6 @@ fn marked_by(
     mark: &str,
 ) -> Result<(Layer, Vec<Layer>, Options), Fail>
     ensures layers { IfOk result (λ r. AreLayers (layer_of r.0 ∷ map layer_of r.1.items)) }
-    ensures limits { IfOk result (λ r.
-        All IsWithinLimits (layer_of r.0 ∷ map layer_of r.1.items)) }
 {
     let (mut upper, options) = layer_in(alloc, keys, UPPER)?;
     let (lower, _) = layer_in(alloc, keys, LOWER)?;

@@ -1,6 +1,4 @@
 use Rattle.std.proofs.Common.{ap, ◌∙◌, sym, subst}
-use Rattle.std.proofs.Math.Bridge.{le_prop}
-use mathlib.Core.Logic.{∥∥₁_elim}
 use Rattle.merged_lookup.specs.Merged.{lowers_of}
 use Rattle.work_dir.specs.Beginnings.{empty_beginning}
 use Rattle.overlay_core.specs.Temps.{IsTemp}
@@ -11,7 +9,6 @@ pub returns-clause-temps : goal.returns-clause-temps
 returns-clause-temps c =
     let lowers = lowers_of c.args.mount.now.layers in
     let can = c.requires.can in
-    let few = ∥∥₁_elim c.requires.limits le_prop (λ all. can.2 all) in
     c.keep.ensures.temps lowers c.requires.temps
     (subst (IsTemp lowers) (sym (c.in_ok-temp.ensures ∙ ap (empty_beginning c.args.source) c.size_of-size.ensures))
-    (begun-fits lowers c.args.source can.0 can.1 few))
+    (begun-fits lowers c.args.source can.0 can.1))

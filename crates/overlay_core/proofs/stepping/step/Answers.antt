@@ -20,9 +20,6 @@ step_seen-requires-clause-state g c = rw c.remember.ensures c.requires.state
 pub step_seen-requires-clause-temps : goal.step_seen-requires-clause-temps
 step_seen-requires-clause-temps g c = rw c.remember.ensures c.requires.temps
 
-pub step_seen-requires-clause-limits : goal.step_seen-requires-clause-limits
-step_seen-requires-clause-limits g c = rw c.remember.ensures c.requires.limits
-
 pub copy-requires-clause-due : goal.copy-requires-clause-due
 copy-requires-clause-due g c =
     let m = c.args.watched.now.mount in

@@ -2,7 +2,7 @@ use Rattle.std.proofs.Common.{false, ◌+◌, refl, sym, ◌∙◌}
 use Rattle.std.proofs.lemmas.Bool.{false≢true}
 use Rattle.plain_model.specs.Runs.{Called}
 use Rattle.overlay_core.specs.Mounting.{machine_options}
-use Rattle.overlay_core.proofs.Agreeing.{given-more, given-same, goes-on, has-begun, limits-on, some-finished, some-more, stays-on}
+use Rattle.overlay_core.proofs.Agreeing.{given-more, given-same, goes-on, has-begun, some-finished, some-more, stays-on}
 use Rattle.overlay_core.proofs.ReadOnly.{agrees-plain, goes-as, stays-as}
 use Rattle.overlay_core.proofs.StepsMade.{brings-made}
 use Rattle.overlay_core.proofs.mounted.Core.advance.Goals as goal
@@ -20,7 +20,6 @@ invariant_of-self g c =
       short = c.args.self.now.short;
       waits = c.in-Done.ensures.waits;
       temps = made.temps;
-      limits = limits-on old.mount.layers new.mount.layers made.lowers c.args.self.now.limits;
       blank = λ only. absurd (false≢true (sym c.if-self.false ∙ only));
       idle = λ only. absurd (false≢true (sym c.if-self.false ∙ only));
     }
@@ -71,7 +70,6 @@ invariant_of-self-in-More g c =
       short = c.args.self.now.short;
       waits = c.in-More.ensures.waits;
       temps = made.temps;
-      limits = limits-on old.mount.layers new.mount.layers made.lowers c.args.self.now.limits;
       blank = λ only. absurd (false≢true (sym c.if-self.false ∙ only));
       idle = λ only. absurd (false≢true (sym c.if-self.false ∙ only));
     }
@@ -118,7 +116,6 @@ invariant_of-self-in-NoMemory g c =
       short = c.args.self.now.short;
       waits = c.in-NoMemory.ensures.waits;
       temps = made.temps;
-      limits = limits-on old.mount.layers new.mount.layers made.lowers c.args.self.now.limits;
       blank = λ only. absurd (false≢true (sym c.if-self.false ∙ only));
       idle = λ only. absurd (false≢true (sym c.if-self.false ∙ only));
     }

@@ -2,7 +2,7 @@ use Rattle.std.proofs.Common.{false, ◌+◌, subst, sym}
 use Rattle.plain_model.specs.Runs.{Called}
 use Rattle.overlay_core.specs.Mounting.{machine_options}
 use Rattle.overlay_core.specs.Watching.{GoesAs}
-use Rattle.overlay_core.proofs.Agreeing.{given-more, given-same, has-begun, limits-on, some-finished, some-more, temps-on}
+use Rattle.overlay_core.proofs.Agreeing.{given-more, given-same, has-begun, some-finished, some-more, temps-on}
 use Rattle.overlay_core.proofs.ReadOnly.{blank-on, state-goes, state-stays}
 use Rattle.overlay_core.proofs.Waited.{none-waits}
 use Rattle.overlay_core.proofs.mounted.Core.answer.Goals as goal
@@ -21,7 +21,6 @@ invariant_of-self g c =
       short = self.short;
       waits = none-waits new.mount c.clear.new.self.items c.clear.ensures.items;
       temps = temps-on self.work old.mount.layers new.mount.layers reads.lowers self.temps;
-      limits = limits-on old.mount.layers new.mount.layers reads.lowers self.limits;
       blank = blank-on self.read_only old.mount.layers new.mount.layers reads.lowers reads.objects self.blank;
       idle = self.idle;
     }
@@ -40,7 +39,6 @@ invariant_of-self-in-NoMemory g c =
       short = self.short;
       waits = none-waits new.mount c.clear.new.self.items c.clear.ensures.items;
       temps = temps-on self.work old.mount.layers new.mount.layers reads.lowers self.temps;
-      limits = limits-on old.mount.layers new.mount.layers reads.lowers self.limits;
       blank = blank-on self.read_only old.mount.layers new.mount.layers reads.lowers reads.objects self.blank;
       idle = self.idle;
     }

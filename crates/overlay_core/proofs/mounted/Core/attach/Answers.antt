@@ -2,7 +2,7 @@ use Rattle.std.proofs.Common.{false, ◌+◌, ap, map, refl}
 use Rattle.plain_model.specs.Runs.{Attached}
 use Rattle.merged_lookup.specs.declared.layers.Layers.{Layers}
 use Rattle.overlay_core.specs.Mounting.{machine_options}
-use Rattle.overlay_core.proofs.Agreeing.{begins-on, given-next, given-same, goes-on, has-begun, some-more, stays-on, temps-on, limits-on}
+use Rattle.overlay_core.proofs.Agreeing.{begins-on, given-next, given-same, goes-on, has-begun, some-more, stays-on, temps-on}
 use Rattle.overlay_core.proofs.ReadOnly.{blank-on, goes-free, stays-as}
 use Rattle.overlay_core.proofs.ReadSteps.{same-held}
 use Rattle.overlay_core.proofs.Performing.{on-err}
@@ -20,7 +20,6 @@ invariant_of-self g c =
       short = c.args.self.now.short;
       waits = none-waits new.mount c.clear.new.self.items c.clear.ensures.items;
       temps = temps-on c.args.self.now.work old.mount.layers new.mount.layers (ap (λ (l : Layers). l.lowers) c.attach.ensures.layers) c.args.self.now.temps;
-      limits = limits-on old.mount.layers new.mount.layers (ap (λ (l : Layers). l.lowers) c.attach.ensures.layers) c.args.self.now.limits;
       blank = blank-on c.args.self.now.read_only old.mount.layers new.mount.layers (ap (λ (l : Layers). l.lowers) c.attach.ensures.layers) (same-held old.mount.layers new.mount.layers c.attach.ensures.layers) c.args.self.now.blank;
       idle = c.args.self.now.idle;
     }
@@ -38,7 +37,6 @@ invariant_of-self-2 g c =
       short = c.args.self.now.short;
       waits = none-waits new.mount c.clear.new.self.items c.clear.ensures.items;
       temps = temps-on c.args.self.now.work old.mount.layers new.mount.layers (ap (λ (l : Layers). l.lowers) c.attach.ensures.layers) c.args.self.now.temps;
-      limits = limits-on old.mount.layers new.mount.layers (ap (λ (l : Layers). l.lowers) c.attach.ensures.layers) c.args.self.now.limits;
       blank = blank-on c.args.self.now.read_only old.mount.layers new.mount.layers (ap (λ (l : Layers). l.lowers) c.attach.ensures.layers) (same-held old.mount.layers new.mount.layers c.attach.ensures.layers) c.args.self.now.blank;
       idle = c.args.self.now.idle;
     }

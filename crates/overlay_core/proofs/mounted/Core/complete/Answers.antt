@@ -2,7 +2,7 @@ use Rattle.std.proofs.Common.{false, ◌+◌, refl, sym, ◌∙◌}
 use Rattle.std.proofs.lemmas.Bool.{false≢true}
 use Rattle.plain_model.specs.Runs.{Called}
 use Rattle.overlay_core.specs.Mounting.{machine_options}
-use Rattle.overlay_core.proofs.Agreeing.{given-more, given-same, goes-on, has-begun, limits-on, some-finished, some-more, stays-on}
+use Rattle.overlay_core.proofs.Agreeing.{given-more, given-same, goes-on, has-begun, some-finished, some-more, stays-on}
 use Rattle.overlay_core.proofs.ReadOnly.{goes-as, stays-as}
 use Rattle.overlay_core.proofs.StepsMade.{brings-made}
 use Rattle.overlay_core.proofs.Waited.{none-waits}
@@ -21,7 +21,6 @@ invariant_of-self g c =
       short = c.args.self.now.short;
       waits = none-waits new.mount c.clear.new.self.items c.clear.ensures.items;
       temps = made.temps;
-      limits = limits-on old.mount.layers new.mount.layers made.lowers c.args.self.now.limits;
       blank = λ only. absurd (false≢true (sym c.if-self.false ∙ only));
       idle = λ only. absurd (false≢true (sym c.if-self.false ∙ only));
     }
@@ -62,7 +61,6 @@ invariant_of-self-in-NoMemory g c =
       short = c.args.self.now.short;
       waits = none-waits new.mount c.clear.new.self.items c.clear.ensures.items;
       temps = made.temps;
-      limits = limits-on old.mount.layers new.mount.layers made.lowers c.args.self.now.limits;
       blank = λ only. absurd (false≢true (sym c.if-self.false ∙ only));
       idle = λ only. absurd (false≢true (sym c.if-self.false ∙ only));
     }

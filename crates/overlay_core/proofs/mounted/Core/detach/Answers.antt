@@ -1,7 +1,7 @@
 use Rattle.std.proofs.Common.{false, ◌+◌, ap, map, ◌∙◌}
 use Rattle.plain_model.specs.Runs.{Detached}
 use Rattle.overlay_core.specs.Mounting.{machine_options}
-use Rattle.overlay_core.proofs.Agreeing.{given-more, goes-on, has-begun, limits-on, some-more, temps-on}
+use Rattle.overlay_core.proofs.Agreeing.{given-more, goes-on, has-begun, some-more, temps-on}
 use Rattle.merged_lookup.specs.Merged.{lowers_of}
 use Rattle.overlay_core.proofs.TempFits.{forgotten-fit}
 use Rattle.work_dir.specs.OpenJobs.{unless_of}
@@ -21,7 +21,6 @@ invariant_of-self g c =
       waits = none-waits new.mount c.clear.new.self.items c.clear.ensures.items;
       temps = temps-on c.forget.new.self old.mount.layers new.mount.layers c.detach.ensures.layers.lowers
           (forgotten-fit (lowers_of old.mount.layers) c.args.self.now.work c.forget.new.self c.args.client c.forget.ensures.numbers c.args.self.now.temps);
-      limits = limits-on old.mount.layers new.mount.layers c.detach.ensures.layers.lowers c.args.self.now.limits;
       blank = blank-on c.args.self.now.read_only old.mount.layers new.mount.layers c.detach.ensures.layers.lowers c.detach.ensures.layers.objects c.args.self.now.blank;
       idle = λ only. c.forget.ensures.table ∙ ap (map (unless_of c.args.client)) (c.args.self.now.idle only);
     }

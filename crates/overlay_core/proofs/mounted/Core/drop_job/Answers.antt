@@ -17,7 +17,6 @@ invariant_of-self g c =
       waits = none-waits self.watched.mount c.clear.new.self.items c.clear.ensures.items;
       temps = closed-fit (lowers_of self.watched.mount.layers) self.work c.close.new.self c.number.result c.client.result
           c.close.ensures.table c.close.ensures.numbers self.temps;
-      limits = self.limits;
       blank = self.blank;
       idle = λ only. c.close.ensures.table ∙ ap (λ w. closed_any w c.number.result c.client.result) (self.idle only) ∙ closed-none c.number.result c.client.result;
     }

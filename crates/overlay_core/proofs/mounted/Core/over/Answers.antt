@@ -28,7 +28,6 @@ invariant_of-result g c =
       short = c.requires.short;
       waits = none-waits w.mount c.new-2.result.items c.new-2.ensures.items;
       temps = no-temps (lowers_of w.mount.layers) c.new-work.result c.new-work.ensures;
-      limits = merely (rw c.in_ok-watched.ensures.layers c.requires.limits);
       blank = λ only. subst (λ (l : Layers). IsBlank (layer_of l.upper) (lowers_of l)) (sym c.in_ok-watched.ensures.layers) (c.requires.blank only);
       idle = λ only. c.new-work.ensures;
     }
