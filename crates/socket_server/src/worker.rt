@@ -150,7 +150,6 @@ fn serve<N: MountName, F: Callback + Copy, R: Rule, H: Wait + Eprint>(
         session: _,
         receipts,
         hooks: back,
-        lost: _,
     } = converse(rt, alloc, mount, hooks, connection, session, own);
     reports.ends(number, calls, ending, connection.timed_out());
     worked.clients.push_reserved(receipts);
