@@ -156,7 +156,6 @@ fn serve<N: MountName, F: Callback + Copy, R: Rule, H: Wait + Eprint>(
         session: _,
         receipts,
         hooks: back,
-        lost: _,
     } = converse(rt, alloc, guard, hooks, connection, session, own);
     guard
         .reports

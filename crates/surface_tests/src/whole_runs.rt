@@ -1,6 +1,9 @@
-// The laws of whole runs at the hooks of the program, beside such a run.
-ghost use Rattle.std.specs.Prelude.{◌≡◌};
+// The law of whole runs at the hooks of the program, applied to such a run.
+ghost use Rattle.std.specs.Prelude.{◌≡◌, ◌∷◌, [], ℕ, IfOk, map};
+ghost use Rattle.plain_model.specs.Runs.{Attached, Called, Detached};
+ghost use Rattle.overlay_core.specs.LegalHistories.{Legally, opening_of};
 ghost use Rattle.overlay_core.specs.Views.{core_finished};
+ghost use Rattle.overlay_core.specs.WholeRuns.{Goes, entries_of};
 
 use crate::cores::mounted;
 use crate::fixtures::{EMPTY, path};
@@ -13,13 +16,16 @@ use std::process::Abort;
 use std::test::Fail;
 use watch_table::{Callback, Hook, Rule};
 
-// A client comes, makes a call and goes. What was done is a run of which the laws speak.
+// A client comes, makes a call and goes. What was done is one legal history of the plain machine.
 fn visit<F: Callback + Copy, H: Rule>(
     core: &mut Core<F, H>,
     hooks: Vec<Hook<F, H>>,
     call: Call,
 ) -> Result<Reply, Fail>
     requires { core_finished core.old ≡ 0 }
+    ensures { IfOk result (λ reply. (c : ℕ) × ∥ Legally (opening_of core.old) (entries_of (
+        Goes c (Attached (map (λ h. h.tag) hooks.items))
+        ∷ Goes c (Called call reply) ∷ Goes c Detached ∷ [])) core.new ∥₁) }
 {
     let Ok(client) = core.attach(hooks) else {
         return Err(Fail::from("no client"));
