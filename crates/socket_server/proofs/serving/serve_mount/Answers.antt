@@ -13,6 +13,7 @@ returns-clause-served g c = record {
 }
 
 pub returns-clause-stopped : goal.returns-clause-stopped
+unfolding returns-clause-served
 returns-clause-stopped g c none e =
     not-stopped c.in_ok-workers.workers.items (list_any (λ worked. worked.failed) c.in_ok-workers.workers.items) (c.in_ok-workers.ensures.stopped none)
     (sym (returns-clause-served g c).end ∙ e)
