@@ -46,6 +46,8 @@ fn reads_what_to_serve(rt: HostRuntime) -> Result<(), Fail> {
         history: None,
         idle: None,
         unlink: false,
+        until_eof: false,
+        save: None,
         verbose: false,
     };
     assert!(rt; plain == Invocation::Serve(wanted));
@@ -68,6 +70,9 @@ fn reads_each_option_of_serve(rt: HostRuntime) -> Result<(), Fail> {
         "--idle",
         "86400",
         "--unlink",
+        "--until-eof",
+        "--save",
+        "upper.toml",
         "--manifest-limit=1099511627776",
     ];
     let full = command_line(alloc, &words)?;
@@ -80,6 +85,8 @@ fn reads_each_option_of_serve(rt: HostRuntime) -> Result<(), Fail> {
         history: HistoryLength::new(2),
         idle: Some(86_400),
         unlink: true,
+        until_eof: true,
+        save: Some("upper.toml"),
         verbose: true,
     };
     assert!(rt; full == Invocation::Serve(wanted));
