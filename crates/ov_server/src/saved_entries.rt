@@ -109,18 +109,24 @@ fn put_user_attributes(
     if user.len() == 0 {
         return Ok(());
     }
+    let names = user.names(alloc)?;
     entry.push_str("attrs = [")?;
     let mut before = "";
-    for name in user.names(alloc)?.as_slice() {
-        let Some(value) = user.get(name.as_slice()) else {
-            continue;
-        };
-        let name = Quoted(text_of(name.as_slice())?);
-        let value = Quoted(text_of(value.as_slice())?);
-        write!(entry, "{before}[{name}, {value}]")?;
+    for name in names.as_slice() {
+        if let Some(value) = user.get(name.as_slice()) {
+            put_pair(before, name.as_slice(), value.as_slice(), entry)?;
+        }
         before = ", ";
     }
     entry.push_str("]\n")?;
+    Ok(())
+}
+
+// Adds a name and its value behind the pairs before it.
+fn put_pair(before: &str, name: &[u8], value: &[u8], entry: &mut String) -> Result<(), Unsaid> {
+    let name = Quoted(text_of(name)?);
+    let value = Quoted(text_of(value)?);
+    write!(entry, "{before}[{name}, {value}]")?;
     Ok(())
 }
 

@@ -18,8 +18,8 @@ past_end entries receipts = λ k d lt.
 
 -- a server of which none was stopped isn't stopped
 ends-else : (failed : Bool) → end_of failed false ≢ Stopped
-ends-else true = λ e. elim e [ ]
-ends-else false = λ e. elim e [ ]
+ends-else true e = cc
+ends-else false e = cc
 
 -- nor is one of whose workers none was stopped
 pub not-stopped : {N : Type 0} (workers : List (Worked N)) (failed : Bool) →

@@ -16,7 +16,6 @@ beginning client came = record {
   client = client;
   number = 2;
   receipts = came ∷ [];
-  lost = false;
 }
 
 -- THE CLIENT OF A CONNECTION was attached with hooks of these tags, and went on as its exchanges

@@ -1,4 +1,5 @@
-use Rattle.std.proofs.Common.{rules}
+use Rattle.std.proofs.Common.{rules, sym, ◌∙◌}
+use Rattle.std.specs.List.{list_any}
 use Rattle.socket_server.proofs.Ends.{not-stopped}
 use Rattle.socket_server.proofs.serving.serve_mount.Goals as goal
 
@@ -12,5 +13,7 @@ returns-clause-served g c = record {
 }
 
 pub returns-clause-stopped : goal.returns-clause-stopped
-returns-clause-stopped g c none =
-    not-stopped c.in_ok-workers.workers.items _ (c.in_ok-workers.ensures.stopped none)
+unfolding returns-clause-served
+returns-clause-stopped g c none e =
+    not-stopped c.in_ok-workers.workers.items (list_any (λ worked. worked.failed) c.in_ok-workers.workers.items) (c.in_ok-workers.ensures.stopped none)
+    (sym (returns-clause-served g c).end ∙ e)
