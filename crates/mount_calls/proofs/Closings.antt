@@ -194,4 +194,4 @@ module _ (m : Mount) (s : State) (st : IsStateOf m s) (c d : ℕ) where
         closes = changes-as m.clients new c _ _ (λ x y g. g.closes) ch
 
         state : IsStateOf (record m { clients = new }) (record s { tables = left })
-        state = state-set m s st c d handle.1 handle.2 (record m { clients = new }) refl refl refl None None closes (λ f g k e. cc) tt
+        state = state-set m s st c d handle.1 handle.2 (record m { clients = new }) refl refl refl refl None None closes (λ f g k e. cc) tt

@@ -42,6 +42,6 @@ go U lowers t clients new ks n a h places = grind (arith, tables-but, handles-ke
 -- the mount stands for the state without a client that is gone
 pub gone : (m : Mount) (s : State) (new : Clients) (n : ℕ) → IsStateOf m s → Detaches m.clients new n → KeepsPlaces m.clients new → IsStateOf (record m { clients = new }) (without_table s n)
 gone m s new n st h places =
-    with-tables m s st (record m { clients = new }) (without n s.tables) refl refl refl h.next
+    with-tables m s st (record m { clients = new }) (without n s.tables) refl refl refl refl h.next
     (go (upper_of m.layers) (lowers_of m.layers) s.tree m.clients new s.tables n st.tables h places)
     (one-fewer m.clients new s.tables (without n s.tables) (fewer-but m.clients new s.tables (without n s.tables) n h.others (handles-kept s.tables n) (λ d. ap (open_in d) h.gone)) st.one)

@@ -126,7 +126,7 @@ module _ (m : Mount) (s : State) (st : IsStateOf m s) (c d : ℕ) where
       let set = slot-becomes m.clients new c d (Directory o) (with_listing None) is ch in
       serve-done _ s c _ _ (record m { clients = new }) (law.refused (pos 0) 0) (sym law.answer)
       (subst (IsStateOf (record m { clients = new })) (sym law.state)
-      (state-set m s st c d x.0 x.1 (record m { clients = new }) refl refl refl (Some (with_listing None (Directory o))) (Some (record x.0 { place = 0; listed = None })) set (λ f z k same is key. cc same)
+      (state-set m s st c d x.0 x.1 (record m { clients = new }) refl refl refl refl (Some (with_listing None (Directory o))) (Some (record x.0 { place = 0; listed = None })) set (λ f z k same is key. cc same)
       (record {
         location = x.2.location;
         located = ch.places c d (record o { listing = None }) x.2.location (opened-after m.clients new c d (with_listing None (Directory o)) set) x.2.located;

@@ -108,7 +108,7 @@ module _ (m : Mount) (s : State) (st : IsStateOf m s) where
       -- the place of an open file moves
       pub place-moved : (f : OpenFile) → opened_by m.clients c d ≡ Some (File f) → (place : ℕ) (new : Clients) → ChangesClient m.clients new c (λ x y. ChangesSlot x y d (with_place place)) → IsStateOf (record m { clients = new }) (record s { tables = with_handle s.tables c d (Some (record h { place = place })) })
       place-moved f opens place new ch =
-          state-set (record m { clients = new }) refl refl refl (Some (File (record f { place = place }))) (Some moved)
+          state-set (record m { clients = new }) refl refl refl refl (Some (File (record f { place = place }))) (Some moved)
           (slot-becomes m.clients new c d (File f) (with_place place) opens ch)
           again
           (record { source = of-on (the_upper m) (the_upper m) (the_lowers m) s.tree s.tree f.source f.low h moved refl refl (λ k e live. live) (λ leaf. leaf) file.source; own = file.own; reads = file.reads; writes = file.writes; append = file.append; place = refl; unlisted = file.unlisted })

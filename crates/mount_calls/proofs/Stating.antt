@@ -32,7 +32,7 @@ module _ (m : Mount) (s : State) (st : IsStateOf m s) where
   -- the same clients with the same descriptors
   pub keep-same : (new : Clients) → SameClients m.clients new → IsStateOf (record m { clients = new }) s
   keep-same new same =
-      with-tables (record m { clients = new }) s.tables refl refl refl same.next
+      with-tables (record m { clients = new }) s.tables refl refl refl refl same.next
       (tables-same (Alike m.layers s m.clients) m.clients s.tables st.tables new (Alike m.layers s new) same
       (λ c d o h on at is. placed (upper_of m.layers) (lowers_of m.layers) s.tree m.clients.directories new.directories o h (λ e l f. same.places c d e l (on ∙ ap Some f)) is))
       (one-fewer m.clients new s.tables s.tables

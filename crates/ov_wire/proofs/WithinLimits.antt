@@ -147,14 +147,14 @@ attributes-within default m a small e =
     })
 
 -- the bytes that an entry gives
-bytes-within : (m : Members) (bytes : List ℕ) → bytes_of m ≡ Ok bytes → length bytes ≤ 1048576
-bytes-within m bytes e =
-    let given = then-ok (bytes_given m) _ bytes e in
-    of given.0 (nat_lt 1048576 (length given.0)) refl given.2
+bytes-within : (limit : ℕ) (m : Members) (bytes : List ℕ) → bytes_of limit m ≡ Ok bytes → length bytes ≤ limit
+bytes-within limit m bytes e =
+    let given = then-ok (bytes_given limit m) _ bytes e in
+    of given.0 (nat_lt limit (length given.0)) refl given.2
   where
-    of : (given : List ℕ) (b : Bool) → nat_lt 1048576 (length given) ≡ b → cond b (Err fault.Value) (Ok given) ≡ Ok bytes → length bytes ≤ 1048576
+    of : (given : List ℕ) (b : Bool) → nat_lt limit (length given) ≡ b → cond b (Err fault.Value) (Ok given) ≡ Ok bytes → length bytes ≤ limit
     of given true is e = absurd (cc)
-    of given false is e = said (λ (bs : List ℕ). length bs ≤ 1048576) given bytes e (ltb-false 1048576 (length given) is)
+    of given false is e = said (λ (bs : List ℕ). length bs ≤ limit) given bytes e (ltb-false limit (length given) is)
 
 -- what is a target
 is-target-within : (target : List ℕ) → is_target target ≡ true → IsTargetWithin target
@@ -211,12 +211,12 @@ redirect-within (Some text) s e r is =
     subst IsSpelledRedirect same (spelled-redirect text x.0 x.1)
 
 -- what an entry puts somewhere is within the limits
-abbrev IsItemWithin : Item → Type 0
-IsItemWithin (put.Object (object.Directory a m)) = AreAttributesWithin a × ((r : Redirect) → m.redirect ≡ Some r → IsSpelledRedirect r)
-IsItemWithin (put.Object (object.Inode c a)) = AreAttributesWithin a × IsContentWithin c
-IsItemWithin (put.Object (object.Marked q a)) = ⊥
-IsItemWithin put.Whiteout = Unit {0}
-IsItemWithin (put.Link to) = Unit {0}
+abbrev IsItemWithin : ℕ → Item → Type 0
+IsItemWithin limit (put.Object (object.Directory a m)) = AreAttributesWithin a × ((r : Redirect) → m.redirect ≡ Some r → IsSpelledRedirect r)
+IsItemWithin limit (put.Object (object.Inode c a)) = AreAttributesWithin a × IsContentWithin limit c
+IsItemWithin limit (put.Object (object.Marked q a)) = ⊥
+IsItemWithin limit put.Whiteout = Unit {0}
+IsItemWithin limit (put.Link to) = Unit {0}
 
 marks-within : (m : Members) (x : Marks) → marks_of m ≡ Ok x → (r : Redirect) → x.redirect ≡ Some r → IsSpelledRedirect r
 marks-within m x e =
@@ -224,21 +224,21 @@ marks-within m x e =
     said (λ (y : Marks). (r : Redirect) → y.redirect ≡ Some r → IsSpelledRedirect r) (record { opaque = opaque_of m; redirect = s.0 }) x s.2
     (redirect-within (text_at (codes "redirect") m) s.0 s.1)
 
-item-within : (k : EntryKind) (m : Members) (i : Item) → item_of k m ≡ Ok i → IsItemWithin i
-item-within kind.Directory m i e =
+item-within : (limit : ℕ) (k : EntryKind) (m : Members) (i : Item) → item_of limit k m ≡ Ok i → IsItemWithin limit i
+item-within limit kind.Directory m i e =
     let a = then-ok (attributes_of 493 m) _ i e in
     let b = then-ok (marks_of m) _ i a.2 in
-    said IsItemWithin (put.Object (object.Directory a.0 b.0)) i b.2 (attributes-within 493 m a.0 (omega arith) a.1, marks-within m b.0 b.1)
-item-within kind.File m i e =
+    said (IsItemWithin limit) (put.Object (object.Directory a.0 b.0)) i b.2 (attributes-within 493 m a.0 (omega arith) a.1, marks-within m b.0 b.1)
+item-within limit kind.File m i e =
     let a = then-ok (attributes_of 420 m) _ i e in
-    let b = then-ok (bytes_of m) _ i a.2 in
-    said IsItemWithin _ i b.2 (attributes-within 420 m a.0 (omega arith) a.1, bytes-within m b.0 b.1)
-item-within kind.SymbolicLink m i e =
+    let b = then-ok (bytes_of limit m) _ i a.2 in
+    said (IsItemWithin limit) _ i b.2 (attributes-within 420 m a.0 (omega arith) a.1, bytes-within limit m b.0 b.1)
+item-within limit kind.SymbolicLink m i e =
     let a = then-ok (attributes_of 511 m) _ i e in
     let b = then-ok (target_of m) _ i a.2 in
-    said IsItemWithin _ i b.2 (attributes-within 511 m a.0 (omega arith) a.1, target-within m b.0 b.1)
-item-within kind.Whiteout m i e = said IsItemWithin put.Whiteout i e tt
-item-within kind.HardLink m i e = said IsItemWithin (put.Link (path_to m)) i e tt
+    said (IsItemWithin limit) _ i b.2 (attributes-within 511 m a.0 (omega arith) a.1, target-within m b.0 b.1)
+item-within limit kind.Whiteout m i e = said (IsItemWithin limit) put.Whiteout i e tt
+item-within limit kind.HardLink m i e = said (IsItemWithin limit) (put.Link (path_to m)) i e tt
 
 path-within : (m : Members) (p : Path) → path_of m ≡ Ok p → IsSpelledPath p
 path-within m p e =
@@ -246,29 +246,29 @@ path-within m p e =
     spelled-path text.0 p (result_ok-some (path_of_text text.0) p text.2)
 
 -- each of these entries is within the limits
-abbrev AreEntriesWithin : List Entry → Type 0
-AreEntriesWithin [] = Unit {0}
-AreEntriesWithin (e ∷ es) = IsSpelledPath e.0 × IsItemWithin e.1 × AreEntriesWithin es
+abbrev AreEntriesWithin : ℕ → List Entry → Type 0
+AreEntriesWithin limit [] = Unit {0}
+AreEntriesWithin limit (e ∷ es) = IsSpelledPath e.0 × IsItemWithin limit e.1 × AreEntriesWithin limit es
 
 -- entries none of which is at fault are within the limits
-entries-within : (number : ℕ) (before : List Entry) (items : Items) (final : List Entry) → AreEntriesWithin before → entries_from number before items ≡ Ok final → AreEntriesWithin final
-entries-within number before no_items final h e = let same : before ≡ final = cc in subst AreEntriesWithin same h
-entries-within number before (item d rest) final h e =
-    let step = then-ok (numbered number (with_spelled before d)) _ final e in
-    let s = says before d step.0 (unnumbered number (with_spelled before d) step.0 step.1) in
-    let more : AreEntriesWithin ((s.path, s.puts) ∷ before) = (path-within s.table s.path s.is_path, item-within s.k s.table s.puts s.is_item, h) in
-    entries-within (suc number) step.0 rest final (subst AreEntriesWithin (placed-is before s.path s.puts step.0 s.is_placed) more) step.2
+entries-within : (limit number : ℕ) (before : List Entry) (items : Items) (final : List Entry) → AreEntriesWithin limit before → entries_from limit number before items ≡ Ok final → AreEntriesWithin limit final
+entries-within limit number before no_items final h e = let same : before ≡ final = cc in subst (AreEntriesWithin limit) same h
+entries-within limit number before (item d rest) final h e =
+    let step = then-ok (numbered number (with_spelled limit before d)) _ final e in
+    let s = says limit before d step.0 (unnumbered number (with_spelled limit before d) step.0 step.1) in
+    let more : AreEntriesWithin limit ((s.path, s.puts) ∷ before) = (path-within s.table s.path s.is_path, item-within limit s.k s.table s.puts s.is_item, h) in
+    entries-within limit (suc number) step.0 rest final (subst (AreEntriesWithin limit) (placed-is before s.path s.puts step.0 s.is_placed) more) step.2
 
 -- what entries put at a path
-put-within : (entries : List Entry) (p : Path) (i : Item) → AreEntriesWithin entries → put_at entries p ≡ Some i → IsSpelledPath p × IsItemWithin i
-put-within [] p i h e = absurd (cc)
-put-within (x ∷ xs) p i h e = of (same_path x.0 p) refl (put-within xs p i h.2) e
+put-within : (limit : ℕ) (entries : List Entry) (p : Path) (i : Item) → AreEntriesWithin limit entries → put_at entries p ≡ Some i → IsSpelledPath p × IsItemWithin limit i
+put-within limit [] p i h e = absurd (cc)
+put-within limit (x ∷ xs) p i h e = of (same_path x.0 p) refl (put-within limit xs p i h.2) e
   where
-    of : (b : Bool) → same_path x.0 p ≡ b → (put_at xs p ≡ Some i → IsSpelledPath p × IsItemWithin i) → cond b (Some x.1) (put_at xs p) ≡ Some i → IsSpelledPath p × IsItemWithin i
+    of : (b : Bool) → same_path x.0 p ≡ b → (put_at xs p ≡ Some i → IsSpelledPath p × IsItemWithin limit i) → cond b (Some x.1) (put_at xs p) ≡ Some i → IsSpelledPath p × IsItemWithin limit i
     of true is onward e =
         let path : x.0 ≡ p = (paths_tell x.0 p).0 is in
         let item : x.1 ≡ i = cc in
-        (subst IsSpelledPath path h.0, subst IsItemWithin item h.1)
+        (subst IsSpelledPath path h.0, subst (IsItemWithin limit) item h.1)
     of false is onward e = onward e
 
 -- what a layer holds where something was put
@@ -277,30 +277,30 @@ stands-put L names o None h some = absurd (true≢false (sym some ∙ ap (λ (x 
 stands-put L names o (Some j) h some = (j, refl)
 
 -- a directory that a layer holds where this was put
-directory-put : (L : Layer) (names k : ℕ) (a : Attributes) (o : Bool) (r : Option Redirect) (i : Item) → Stands L names (Some (Directory k a o r)) (Some i) → IsItemWithin i → AreAttributesWithin a × ((s : Redirect) → r ≡ Some s → IsSpelledRedirect s)
-directory-put L names k a o r put.Whiteout h w = absurd (cc)
-directory-put L names k a o r (put.Object (object.Inode c b)) h w = let no = h.1 in absurd (cc)
-directory-put L names k a o r (put.Object (object.Marked q b)) h w = absurd h
-directory-put L names k a o r (put.Link None) h w = absurd h
-directory-put L names k a o r (put.Link (Some to)) h w = let no = h.1 in absurd (cc)
-directory-put L names k a o r (put.Object (object.Directory b m)) h w =
+directory-put : (limit : ℕ) (L : Layer) (names k : ℕ) (a : Attributes) (o : Bool) (r : Option Redirect) (i : Item) → Stands L names (Some (Directory k a o r)) (Some i) → IsItemWithin limit i → AreAttributesWithin a × ((s : Redirect) → r ≡ Some s → IsSpelledRedirect s)
+directory-put limit L names k a o r put.Whiteout h w = absurd (cc)
+directory-put limit L names k a o r (put.Object (object.Inode c b)) h w = let no = h.1 in absurd (cc)
+directory-put limit L names k a o r (put.Object (object.Marked q b)) h w = absurd h
+directory-put limit L names k a o r (put.Link None) h w = absurd h
+directory-put limit L names k a o r (put.Link (Some to)) h w = let no = h.1 in absurd (cc)
+directory-put limit L names k a o r (put.Object (object.Directory b m)) h w =
     let is = h.1 in
     let attributes : b ≡ a = cc in
     let mark : m.redirect ≡ r = cc in
     (subst AreAttributesWithin attributes w.0, λ s e. w.1 s (mark ∙ e))
 
 -- an inode to which a layer leads where this was put as a file or symbolic link
-inode-put : (L : Layer) (names k : ℕ) (x : Inode) (i : Item) → is_inode (Some i) ≡ true → Stands L names (Some (Named k)) (Some i) → L.inodes k ≡ Some x → IsItemWithin i → AreAttributesWithin x.attributes × IsContentWithin x.content
-inode-put L names k x put.Whiteout is h there w = absurd (true≢false (sym is))
-inode-put L names k x (put.Link to) is h there w = absurd (true≢false (sym is))
-inode-put L names k x (put.Object (object.Directory b m)) is h there w = absurd (true≢false (sym is))
-inode-put L names k x (put.Object (object.Marked q b)) is h there w = absurd h
-inode-put L names k x (put.Object (object.Inode c a)) is h there w =
+inode-put : (limit : ℕ) (L : Layer) (names k : ℕ) (x : Inode) (i : Item) → is_inode (Some i) ≡ true → Stands L names (Some (Named k)) (Some i) → L.inodes k ≡ Some x → IsItemWithin limit i → AreAttributesWithin x.attributes × IsContentWithin limit x.content
+inode-put limit L names k x put.Whiteout is h there w = absurd (true≢false (sym is))
+inode-put limit L names k x (put.Link to) is h there w = absurd (true≢false (sym is))
+inode-put limit L names k x (put.Object (object.Directory b m)) is h there w = absurd (true≢false (sym is))
+inode-put limit L names k x (put.Object (object.Marked q b)) is h there w = absurd h
+inode-put limit L names k x (put.Object (object.Inode c a)) is h there w =
     let key : h.0 ≡ k = let same = h.1 in cc in
     let made : Some (record { content = c; attributes = a; links = names; mark = None }) ≡ L.inodes k = sym h.2 ∙ ap L.inodes key in
     let attributes : a ≡ x.attributes = cc in
     let content : c ≡ x.content = cc in
-    (subst AreAttributesWithin attributes w.0, subst IsContentWithin content w.1)
+    (subst AreAttributesWithin attributes w.0, subst (IsContentWithin limit) content w.1)
 
 -- where a layer names an inode, a file or symbolic link was put, or a further name of it
 named-put : (L : Layer) (names k : ℕ) (i : Item) → Stands L names (Some (Named k)) (Some i) → (is_inode (Some i) ≡ true) ⊎ ((to : Path) × (i ≡ put.Link (Some to)) × (held L to ≡ Some (Named k)))
@@ -327,31 +327,31 @@ unset-within = record {
 }
 
 -- the attributes of the root
-root-within : (entries : List Entry) → AreEntriesWithin entries → AreAttributesWithin (root_of (put_at entries []))
-root-within entries h = of (put_at entries []) refl
+root-within : (limit : ℕ) (entries : List Entry) → AreEntriesWithin limit entries → AreAttributesWithin (root_of (put_at entries []))
+root-within limit entries h = of (put_at entries []) refl
   where
     of : (o : Option Item) → put_at entries [] ≡ o → AreAttributesWithin (root_of o)
     of None e = unset-within
     of (Some put.Whiteout) e = unset-within
     of (Some (put.Link to)) e = unset-within
-    of (Some (put.Object (object.Directory a m))) e = ((put-within entries [] (put.Object (object.Directory a m)) h e).1).0
+    of (Some (put.Object (object.Directory a m))) e = ((put-within limit entries [] (put.Object (object.Directory a m)) h e).1).0
     of (Some (put.Object (object.Inode c a))) e = unset-within
     of (Some (put.Object (object.Marked q a))) e = unset-within
 
-module _ (L : Layer) (entries : List Entry) (s : IsAsSaid L entries) (all : AreEntriesWithin entries) where
+module _ (limit : ℕ) (L : Layer) (entries : List Entry) (s : IsAsSaid L entries) (all : AreEntriesWithin limit entries) where
   -- what stands below the root was put there, within the limits
   record WasPut (n : Name) (p : Path) (o : Option Object) : Type 0 where
     puts : Item
     is_put : put_at entries (n ∷ p) ≡ Some puts
     stands : Stands L (suc (further_names entries (n ∷ p))) o (Some puts)
     spelled : IsSpelledPath (n ∷ p)
-    within : IsItemWithin puts
+    within : IsItemWithin limit puts
 
   was-put : (n : Name) (p : Path) (o : Option Object) → held L (n ∷ p) ≡ o → is_some o ≡ true → WasPut n p o
   was-put n p o e some =
       let below : Stands L (suc (further_names entries (n ∷ p))) o (put_at entries (n ∷ p)) = subst (λ x. Stands L (suc (further_names entries (n ∷ p))) x (put_at entries (n ∷ p))) e (s.below n p) in
       let j = stands-put L (suc (further_names entries (n ∷ p))) o (put_at entries (n ∷ p)) below some in
-      let w = put-within entries (n ∷ p) j.0 all j.1 in
+      let w = put-within limit entries (n ∷ p) j.0 all j.1 in
       record { puts = j.0; is_put = j.1; stands = subst (λ i. Stands L (suc (further_names entries (n ∷ p))) o i) j.1 below; spelled = w.0; within = w.1 }
 
   path-spelled : (p : Path) → is_some (held L p) ≡ true → IsSpelledPath p
@@ -364,19 +364,19 @@ module _ (L : Layer) (entries : List Entry) (s : IsAsSaid L entries) (all : AreE
   directory-held : (p : Path) (k : ℕ) (a : Attributes) (o : Bool) (r : Option Redirect) → held L p ≡ Some (Directory k a o r) → AreAttributesWithin a × ((t : Redirect) → r ≡ Some t → IsSpelledRedirect t)
   directory-held [] k a o r e =
       let root = root-held k a o r e in
-      (subst AreAttributesWithin (sym s.root ∙ root.0) (root-within entries all), λ t is. absurd (cc (root.1)))
+      (subst AreAttributesWithin (sym s.root ∙ root.0) (root-within limit entries all), λ t is. absurd (cc (root.1)))
   directory-held (n ∷ p) k a o r e =
       let w = was-put n p (Some (Directory k a o r)) e refl in
-      directory-put L (suc (further_names entries (n ∷ p))) k a o r w.puts w.stands w.within
+      directory-put limit L (suc (further_names entries (n ∷ p))) k a o r w.puts w.stands w.within
 
   -- at a path where a file or symbolic link was put
-  inode-first : (p : Path) (k : ℕ) (i : Inode) → is_inode (put_at entries p) ≡ true → held L p ≡ Some (Named k) → L.inodes k ≡ Some i → AreAttributesWithin i.attributes × IsContentWithin i.content
+  inode-first : (p : Path) (k : ℕ) (i : Inode) → is_inode (put_at entries p) ≡ true → held L p ≡ Some (Named k) → L.inodes k ≡ Some i → AreAttributesWithin i.attributes × IsContentWithin limit i.content
   inode-first [] k i is e there = absurd (cc)
   inode-first (n ∷ p) k i is e there =
       let w = was-put n p (Some (Named k)) e refl in
-      inode-put L (suc (further_names entries (n ∷ p))) k i w.puts (ap (λ (o : Option Item). is_inode o) (sym w.is_put) ∙ is) w.stands there w.within
+      inode-put limit L (suc (further_names entries (n ∷ p))) k i w.puts (ap (λ (o : Option Item). is_inode o) (sym w.is_put) ∙ is) w.stands there w.within
 
-  inode-held : (p : Path) (k : ℕ) (i : Inode) → held L p ≡ Some (Named k) → L.inodes k ≡ Some i → AreAttributesWithin i.attributes × IsContentWithin i.content
+  inode-held : (p : Path) (k : ℕ) (i : Inode) → held L p ≡ Some (Named k) → L.inodes k ≡ Some i → AreAttributesWithin i.attributes × IsContentWithin limit i.content
   inode-held [] k i e there = absurd (cc)
   inode-held (n ∷ p) k i e there =
       let w = was-put n p (Some (Named k)) e refl in
@@ -385,7 +385,7 @@ module _ (L : Layer) (entries : List Entry) (s : IsAsSaid L entries) (all : AreE
         | inr further ↦ inode-first further.0 k i (s.lead (n ∷ p) further.0 (w.is_put ∙ ap (λ (j : Item). Some j) further.1)) further.2 there
       ]
 
-  layer-within : IsWithinLimits L
+  layer-within : IsWithinLimits limit L
   layer-within = record {
     names = λ p some. (path-spelled p some).names;
     directories = λ p k a o r e. (directory-held p k a o r e).0;
@@ -401,13 +401,13 @@ module _ (L : Layer) (entries : List Entry) (s : IsAsSaid L entries) (all : AreE
   }
 
 -- layers that are as their entries say are within the limits
-pub spelled-within : (Ls : List Layer) (items : Items) → AreSpelled Ls items → All IsWithinLimits Ls
-spelled-within [] items h = All-nil IsWithinLimits
-spelled-within (L ∷ Ls) no_items h = absurd h
-spelled-within (L ∷ Ls) (item d rest) h = All-cons IsWithinLimits L Ls (layer-within L (h.0).0 (h.0).2 (entries-within 0 [] (entries_in d) (h.0).0 tt (h.0).1)) (spelled-within Ls rest h.1)
+pub spelled-within : (limit : ℕ) (Ls : List Layer) (items : Items) → AreSpelled limit Ls items → All (IsWithinLimits limit) Ls
+spelled-within limit [] items h = All-nil (IsWithinLimits limit)
+spelled-within limit (L ∷ Ls) no_items h = absurd h
+spelled-within limit (L ∷ Ls) (item d rest) h = All-cons (IsWithinLimits limit) L Ls (layer-within limit L (h.0).0 (h.0).2 (entries-within limit 0 [] (entries_in d) (h.0).0 tt (h.0).1)) (spelled-within limit Ls rest h.1)
 
 -- and their paths are short
-pub spelled-short : (Ls : List Layer) (items : Items) → AreSpelled Ls items → All HasShortPaths Ls
-spelled-short [] items h = All-nil HasShortPaths
-spelled-short (L ∷ Ls) no_items h = absurd h
-spelled-short (L ∷ Ls) (item d rest) h = All-cons HasShortPaths L Ls (layer-short L (h.0).0 (h.0).2 (entries-within 0 [] (entries_in d) (h.0).0 tt (h.0).1)) (spelled-short Ls rest h.1)
+pub spelled-short : (limit : ℕ) (Ls : List Layer) (items : Items) → AreSpelled limit Ls items → All HasShortPaths Ls
+spelled-short limit [] items h = All-nil HasShortPaths
+spelled-short limit (L ∷ Ls) no_items h = absurd h
+spelled-short limit (L ∷ Ls) (item d rest) h = All-cons HasShortPaths L Ls (layer-short limit L (h.0).0 (h.0).2 (entries-within limit 0 [] (entries_in d) (h.0).0 tt (h.0).1)) (spelled-short limit Ls rest h.1)

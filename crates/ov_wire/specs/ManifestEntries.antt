@@ -191,23 +191,23 @@ hex_bytes [] = Some []
 hex_bytes (high ∷ []) = None
 hex_bytes (high ∷ low ∷ rest) = option_and_then (λ b. option_map (λ bs. b ∷ bs) (hex_bytes rest)) (pair_value high low)
 
--- so many zero bytes, at most 1,048,576
-abbrev pub zero_bytes : ℤ → Result (List ℕ) EntryFault
-zero_bytes count = and_then (within 1048576 count) (λ n. Ok (replicate n 0))
+-- so many zero bytes, at most the limit
+abbrev pub zero_bytes : ℕ → ℤ → Result (List ℕ) EntryFault
+zero_bytes limit count = and_then (within limit count) (λ n. Ok (replicate n 0))
 
 -- the bytes by a text, by hexadecimal digits or by a count of zero bytes; none without them
-abbrev pub bytes_in : Option (List ℕ) → Option (List ℕ) → Option ℤ → Result (List ℕ) EntryFault
-bytes_in (Some text) digits zeros = Ok text
-bytes_in None (Some digits) zeros = ok_or (hex_bytes digits) fault.Value
-bytes_in None None (Some count) = zero_bytes count
-bytes_in None None None = Ok []
+abbrev pub bytes_in : ℕ → Option (List ℕ) → Option (List ℕ) → Option ℤ → Result (List ℕ) EntryFault
+bytes_in limit (Some text) digits zeros = Ok text
+bytes_in limit None (Some digits) zeros = ok_or (hex_bytes digits) fault.Value
+bytes_in limit None None (Some count) = zero_bytes limit count
+bytes_in limit None None None = Ok []
 
-abbrev pub bytes_given : Members → Result (List ℕ) EntryFault
-bytes_given entry = bytes_in (text_at (codes "text") entry) (text_at (codes "hex") entry) (option_and_then as_integer (get_member (codes "zeros") entry))
+abbrev pub bytes_given : ℕ → Members → Result (List ℕ) EntryFault
+bytes_given limit entry = bytes_in limit (text_at (codes "text") entry) (text_at (codes "hex") entry) (option_and_then as_integer (get_member (codes "zeros") entry))
 
--- the bytes that an entry gives, at most 1,048,576
-abbrev pub bytes_of : Members → Result (List ℕ) EntryFault
-bytes_of entry = and_then (bytes_given entry) (λ bytes. if nat_lt 1048576 (length bytes) then Err fault.Value else Ok bytes)
+-- the bytes that an entry gives, at most so many
+abbrev pub bytes_of : ℕ → Members → Result (List ℕ) EntryFault
+bytes_of limit entry = and_then (bytes_given limit entry) (λ bytes. if nat_lt limit (length bytes) then Err fault.Value else Ok bytes)
 
 -- the target that an entry gives
 abbrev pub target_of : Members → Result (List ℕ) EntryFault
@@ -239,13 +239,13 @@ marks_of entry = and_then (redirect_in (text_at (codes "redirect") entry)) (λ r
 abbrev pub path_to : Members → Option (List (List ℕ))
 path_to entry = option_and_then (λ text. result_ok (path_of_text text)) (text_at (codes "to") entry)
 
--- what an entry of the kind puts at its path
-abbrev pub item_of : EntryKind → Members → Result Item EntryFault
-item_of kind.Directory entry = and_then (attributes_of 493 entry) (λ a. and_then (marks_of entry) (λ m. Ok (puts.Object (object.Directory a m))))
-item_of kind.File entry = and_then (attributes_of 420 entry) (λ a. and_then (bytes_of entry) (λ bytes. Ok (puts.Object (object.Inode (content.File bytes) a))))
-item_of kind.SymbolicLink entry = and_then (attributes_of 511 entry) (λ a. and_then (target_of entry) (λ target. Ok (puts.Object (object.Inode (content.SymbolicLink target) a))))
-item_of kind.Whiteout entry = Ok puts.Whiteout
-item_of kind.HardLink entry = Ok (puts.Link (path_to entry))
+-- what an entry of the kind puts at its path, where a file has at most so many bytes
+abbrev pub item_of : ℕ → EntryKind → Members → Result Item EntryFault
+item_of limit kind.Directory entry = and_then (attributes_of 493 entry) (λ a. and_then (marks_of entry) (λ m. Ok (puts.Object (object.Directory a m))))
+item_of limit kind.File entry = and_then (attributes_of 420 entry) (λ a. and_then (bytes_of limit entry) (λ bytes. Ok (puts.Object (object.Inode (content.File bytes) a))))
+item_of limit kind.SymbolicLink entry = and_then (attributes_of 511 entry) (λ a. and_then (target_of entry) (λ target. Ok (puts.Object (object.Inode (content.SymbolicLink target) a))))
+item_of limit kind.Whiteout entry = Ok puts.Whiteout
+item_of limit kind.HardLink entry = Ok (puts.Link (path_to entry))
 
 -- whether an entry has a key
 abbrev pub has_key : List ℕ → Members → Bool
@@ -268,13 +268,14 @@ has_required _ entry = true
 abbrev pub checked : EntryKind → List (List ℕ) → Members → Result (Unit {0}) EntryFault
 checked k path entry = if members_all (takes k path) entry && has_required k entry then Ok tt else Err fault.Key
 
--- WHAT AN ENTRY SAYS: its path and what stands there, or the first of its faults `kind`, `path`, `key` and `value`
-abbrev pub read : Members → Result (List (List ℕ) × Item) EntryFault
-read entry =
+-- WHAT AN ENTRY SAYS where a file has at most so many bytes: its path and what stands there, or the first of its faults `kind`, `path`,
+-- `key` and `value`
+abbrev pub read : ℕ → Members → Result (List (List ℕ) × Item) EntryFault
+read limit entry =
     and_then (kind_of entry) (λ k.
     and_then (path_of entry) (λ path.
     and_then (checked k path entry) (λ _.
-    and_then (item_of k entry) (λ i. Ok (path, i)))))
+    and_then (item_of limit k entry) (λ i. Ok (path, i)))))
 
 -- whether it is a file without bytes of its own
 abbrev pub is_marked : Object → Bool

@@ -29,7 +29,7 @@ abbrev pub is_top_key : List ℕ → Data → Bool
 is_top_key key value =
     if bytes_eq key (codes "redirect_dir") then is_some (as_str value)
     else (if bytes_eq key (codes "metacopy") then is_some (as_str value)
-    else (if bytes_eq key (codes "history") then is_some (as_integer value)
+    else (if bytes_eq key (codes "history") || bytes_eq key (codes "file_limit") then is_some (as_integer value)
     else (if bytes_eq key (codes "upper") then is_some (as_bool value)
     else (if bytes_eq key (codes "layer") then is_array_of is_layer value
     else false))))
@@ -73,6 +73,15 @@ history_within (negsuc n) = Err fault.History
 abbrev pub history_of : Members → Result ℕ ManifestFault
 history_of manifest = history_within (unwrap_or (option_and_then as_integer (get_member (codes "history") manifest)) (pos 100000))
 
+-- a limit of 1 to 2^40
+abbrev pub file_limit_within : ℤ → Result ℕ ManifestFault
+file_limit_within (pos n) = if nat_le 1 n && nat_le n 1099511627776 then Ok n else Err fault.FileLimit
+file_limit_within (negsuc n) = Err fault.FileLimit
+
+-- the most bytes of a file, 1,048,576 without the key
+abbrev pub file_limit_of : Members → Result ℕ ManifestFault
+file_limit_of manifest = file_limit_within (unwrap_or (option_and_then as_integer (get_member (codes "file_limit") manifest)) (pos 1048576))
+
 -- how many layers there are
 abbrev pub layer_count : Members → ℕ
 layer_count manifest = items_len (items_at (codes "layer") manifest)
@@ -99,10 +108,12 @@ options_of manifest =
     and_then (checked manifest) (λ _.
     and_then (redirects_of manifest) (λ redirects.
     and_then (metacopy_of (may_metacopy redirects manifest) manifest) (λ metacopy.
-    and_then (history_of manifest) (λ history. Ok (record { redirects = redirects; metacopy = metacopy; history = history })))))
+    and_then (history_of manifest) (λ history.
+    and_then (file_limit_of manifest) (λ file_limit.
+    Ok (record { redirects = redirects; metacopy = metacopy; history = history; file_limit = file_limit }))))))
 
 -- the options of a manifest of 2 to 17 layers, without an upper 2 to 16, or THE FIRST FAULT OF THE WHOLE: `key`, `redirect_dir`, `metacopy`,
--- `history`, `layers`
+-- `history`, `file_limit`, `layers`
 abbrev pub whole_of : Members → Result Options ManifestFault
 whole_of manifest = and_then (options_of manifest) (λ options. if is_layer_count (has_upper manifest) (layer_count manifest) then Ok options else Err fault.Layers)
 

@@ -24,7 +24,7 @@ mod user_attributes;
 use entry::{array_at, text_at, value_at};
 pub use fault::{EntryFault, ManifestFault};
 use layer_tree::Layer;
-use ov_base::Options;
+use ov_base::{FILE_LIMIT, Options};
 use place::read_layer;
 use std::alloc::{AllocError, Global};
 use std::hash::RandomState;
@@ -43,6 +43,11 @@ const HISTORY_MOST: i64 = 1_000_000;
 
 const HISTORY_DEFAULT: i64 = 100_000;
 
+/// The least and the greatest number of bytes that a file may be limited to.
+const FILE_LIMIT_LEAST: i64 = 1;
+
+const FILE_LIMIT_MOST: i64 = 1_099_511_627_776;
+
 /// The layers and options that the bytes of a manifest spell: the upper, where there is one, then the lowers from the top. The layers
 /// hash names with `keys`.
 pub fn manifest_of(
@@ -59,10 +64,10 @@ pub fn manifest_of(
     ensures options { IfOk result (λ r. option_map layers.manifest_of (parse_document bytes.now) ≡ Some (Ok r.2)) }
     ensures upper { IfOk result (λ r. option_map spec.has_upper (parse_document bytes.now) ≡ Some (is_some r.0)) }
     ensures redirected { IfOk result (λ r. is_some r.0 ≡ true → r.2.metacopy ≡ true → r.2.redirects ≡ true) }
-    ensures spelled { IfOk result (λ r. IfSome (parse_document bytes.now) (λ m. AreSpelled (layers_given r.0 r.1.items) (layer_items m))) }
+    ensures spelled { IfOk result (λ r. IfSome (parse_document bytes.now) (λ m. AreSpelled r.2.file_limit (layers_given r.0 r.1.items) (layer_items m))) }
     ensures layers { IfOk result (λ r. AreLayers (layers_given r.0 r.1.items)) }
     ensures unmarked { IfOk result (λ r. All HasNoMark (layers_given r.0 r.1.items)) }
-    ensures limits { IfOk result (λ r. All IsWithinLimits (layers_given r.0 r.1.items)) }
+    ensures limits { IfOk result (λ r. All (IsWithinLimits r.2.file_limit) (layers_given r.0 r.1.items)) }
     ensures short_paths { IfOk result (λ r. All HasShortPaths (layers_given r.0 r.1.items)) }
     ensures some_lower { IfOk result (λ r. 0 < vec_len r.1) }
     ensures two_lowers { IfOk result (λ r. is_some r.0 ≡ false → 2 ≤ vec_len r.1) }
@@ -94,10 +99,10 @@ pub fn layers_of(
     ensures options { IfOk result (λ r. layers.manifest_of (table_view manifest.now) ≡ Ok r.2) }
     ensures upper { IfOk result (λ r. is_some r.0 ≡ spec.has_upper (table_view manifest.now)) }
     ensures redirected { IfOk result (λ r. is_some r.0 ≡ true → r.2.metacopy ≡ true → r.2.redirects ≡ true) }
-    ensures spelled { IfOk result (λ r. AreSpelled (layers_given r.0 r.1.items) (layer_items (table_view manifest.now))) }
+    ensures spelled { IfOk result (λ r. AreSpelled r.2.file_limit (layers_given r.0 r.1.items) (layer_items (table_view manifest.now))) }
     ensures layers { IfOk result (λ r. AreLayers (layers_given r.0 r.1.items)) }
     ensures unmarked { IfOk result (λ r. All HasNoMark (layers_given r.0 r.1.items)) }
-    ensures limits { IfOk result (λ r. All IsWithinLimits (layers_given r.0 r.1.items)) }
+    ensures limits { IfOk result (λ r. All (IsWithinLimits r.2.file_limit) (layers_given r.0 r.1.items)) }
     ensures short_paths { IfOk result (λ r. All HasShortPaths (layers_given r.0 r.1.items)) }
     ensures some_lower { IfOk result (λ r. 0 < vec_len r.1) }
     ensures two_lowers { IfOk result (λ r. is_some r.0 ≡ false → 2 ≤ vec_len r.1) }
@@ -109,28 +114,29 @@ pub fn layers_of(
     if !is_layer_count(has_upper, tables.len()) {
         return Err(ManifestFault::Layers);
     }
-    let layers = read_layers(alloc, keys, tables)?;
+    let layers = read_layers(alloc, keys, options.file_limit, tables)?;
     let (upper, lowers) = parted(has_upper, layers);
     Ok((upper, lowers, options))
 }
 
-// The layers from the top, which are numbered from 0, each from its entries.
+// The layers from the top, which are numbered from 0, each from its entries, in which a file has at most `limit` bytes.
 fn read_layers(
     alloc: Global,
     keys: RandomState,
+    limit: u64,
     tables: &[Value],
 ) -> Result<Vec<Layer>, ManifestFault>
     requires { length tables.now ≤ 17 }
     ensures count { IfOk result (λ layers. vec_len layers ≡ length tables.now) }
     ensures err { IfErr result IsOfEntry }
-    ensures told { IfErr result (IsTold (layers_fault 0 (items_view tables.now))) }
-    ensures spelled { IfOk result (λ layers. AreSpelled (map layer_of layers.items) (items_view tables.now)) }
+    ensures told { IfErr result (IsTold (layers_fault limit 0 (items_view tables.now))) }
+    ensures spelled { IfOk result (λ layers. AreSpelled limit (map layer_of layers.items) (items_view tables.now)) }
     ensures layers { IfOk result (λ layers. AreLayers (map layer_of layers.items)) }
     ensures unmarked { IfOk result (λ layers. All HasNoMark (map layer_of layers.items)) }
 {
     let mut layers = Vec::with_capacity(alloc, tables.len())?;
     for (index, table) in tables.iter().enumerate() {
-        layers.push(read_layer(alloc, keys, index, entries_in(table))?)?;
+        layers.push(read_layer(alloc, keys, limit, index, entries_in(table))?)?;
     }
     Ok(layers)
 }
@@ -185,10 +191,12 @@ fn options_of(manifest: &Table) -> Result<Options, ManifestFault>
     let redirects = redirects_of(manifest)?;
     let metacopy = metacopy_of(manifest, redirects || !has_upper(manifest))?;
     let history = history_of(manifest)?;
+    let file_limit = file_limit_of(manifest)?;
     Ok(Options {
         redirects,
         metacopy,
         history,
+        file_limit,
     })
 }
 
@@ -217,7 +225,7 @@ fn is_top_key(key: &str, value: &Value) -> bool
     match key {
         "redirect_dir" => value.is_str(),
         "metacopy" => value.is_str(),
-        "history" => value.is_integer(),
+        "history" | "file_limit" => value.is_integer(),
         "upper" => value.is_bool(),
         "layer" => is_array_of_layers(value),
         _ => false,
@@ -337,6 +345,25 @@ fn history_within(history: i64) -> Result<u32, ManifestFault>
         Ok(history as u32)
     } else {
         Err(ManifestFault::History)
+    }
+}
+
+fn file_limit_of(manifest: &Table) -> Result<u64, ManifestFault>
+    ensures { result ≡ spec.file_limit_of (table_view manifest.now) }
+{
+    match value_at(manifest, "file_limit").and_then(Value::as_integer) {
+        Some(limit) => file_limit_within(limit),
+        None => Ok(FILE_LIMIT),
+    }
+}
+
+fn file_limit_within(limit: i64) -> Result<u64, ManifestFault>
+    ensures { result ≡ spec.file_limit_within limit }
+{
+    if limit >= FILE_LIMIT_LEAST && limit <= FILE_LIMIT_MOST {
+        Ok(limit as u64)
+    } else {
+        Err(ManifestFault::FileLimit)
     }
 }
 

@@ -85,6 +85,7 @@ fn changing(word: &str) -> Option<Deed> {
         "create" => Some(Deed::Create),
         "copy_64k" => Some(Deed::Copy(65_536)),
         "copy_1m" => Some(Deed::Copy(1_048_576)),
+        "copy_64m" => Some(Deed::Copy(67_108_864)),
         "copy_64k_again" => Some(Deed::CopyAgain(65_536)),
         "copy_1m_again" => Some(Deed::CopyAgain(1_048_576)),
         "link" => Some(Deed::Link),

@@ -8,11 +8,10 @@ pub struct ManifestText {
 }
 
 impl ManifestText {
-    /// No layer yet.
-    pub fn new(alloc: Global) -> ManifestText {
-        ManifestText {
-            text: String::new(alloc),
-        }
+    /// No layer yet, of a mount whose files may have 64 MiB.
+    pub fn new(alloc: Global) -> Result<ManifestText, AllocError> {
+        let text = String::from_str(alloc, "file_limit = 67108864\n")?;
+        Ok(ManifestText { text })
     }
 
     /// The same text, on a mount that copies files up without their bytes.

@@ -19,7 +19,7 @@ pub const WIDE: &str = "/list-10k-all";
 
 /// So many layers, each of `OBJECTS` objects: three directories, and the files in the last.
 pub fn deep(alloc: Global, layers: u32) -> Result<ManifestText, AllocError> {
-    let mut manifest = ManifestText::new(alloc);
+    let mut manifest = ManifestText::new(alloc)?;
     for _ in 0..layers {
         manifest.layer()?;
         nested_in(alloc, &mut manifest, DIRECTORIES)?;
@@ -32,7 +32,7 @@ pub fn deep(alloc: Global, layers: u32) -> Result<ManifestText, AllocError> {
 /// An empty upper over so many lower layers, for whole calls: all have the directories, the lowest has the files that are looked up, of
 /// `BLOCK` zero bytes each, and those of `WIDE`.
 pub fn served(alloc: Global, lowers: u32) -> Result<ManifestText, AllocError> {
-    let mut manifest = ManifestText::new(alloc);
+    let mut manifest = ManifestText::new(alloc)?;
     manifest.layer()?;
     for _ in 0..lowers {
         manifest.layer()?;

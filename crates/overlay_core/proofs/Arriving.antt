@@ -1,5 +1,5 @@
 -- A mount begins, and clients come, on both sides.
-use Rattle.std.proofs.Common.{arith, ◌≡◌, ℕ, suc, ◌<◌, ◌≤◌, Bool, true, false, List, [], ◌∷◌, None, All, refl, sym, ap, ◌∙◌, subst, subst₂, length, nat_eq, get_or, zero, ◌||◌, ◌⊎◌, inl, inr}
+use Rattle.std.proofs.Common.{arith, ◌≡◌, ℕ, suc, ◌<◌, ◌≤◌, true, List, [], ◌∷◌, None, All, refl, sym, ap, ◌∙◌, subst, subst₂, length, nat_eq, get_or, zero, ◌||◌, ◌⊎◌, inl, inr}
 use mathlib.Core.Logic.{∥∥₁_elim}
 use mathlib.Core.HLevel.{⊥_prop}
 use Rattle.std.specs.BTreeMap.{btree_map_len}
@@ -38,13 +38,11 @@ use Rattle.overlay_core.specs.Watching.{Agrees, BeginsWith, Goes, HasState, Stay
 use Rattle.overlay_core.proofs.Watching.{tracks-same, mount_upper}
 
 -- a mount of layers begins with each of their merges, where nothing is kept for watches
-pub begins-with : (m : Mount) (k : Notified) (layers : Layers) (redirects metacopy : Bool) → m.layers ≡ layers → AreLayers (layers_of layers) →
-    ((t : Tree) → AreLayers (layers_of layers) → IsMerge (upper_of layers) (lowers_of layers) t →
-    IsStateOf m (opening t (record { redirects = redirects; metacopy = metacopy; read_only = false }))) →
+pub begins-with : (m : Mount) (k : Notified) (layers : Layers) (options : MountOptions) → m.layers ≡ layers → AreLayers (layers_of layers) →
+    ((t : Tree) → AreLayers (layers_of layers) → IsMerge (upper_of layers) (lowers_of layers) t → IsStateOf m (opening t options)) →
     ((n : ℕ) → spot_of k.objects n ≡ None) → k.handles ≡ [] → k.instances ≡ [] → k.renames ≡ 0 →
-    BeginsWith layers (record { redirects = redirects; metacopy = metacopy; read_only = false }) m k
-begins-with m k layers redirects metacopy same are h none handles instances renames t merge =
-    let options : MountOptions = record { redirects = redirects; metacopy = metacopy; read_only = false } in
+    BeginsWith layers options m k
+begins-with m k layers options same are h none handles instances renames t merge =
     record {
       stands = h t are merge;
       settled = law_of_settled_opening (upper_of layers) (lowers_of layers) t options merge;

@@ -58,6 +58,7 @@ with-instances m s es st = record {
   arrived = st.arrived;
   redirects = st.redirects;
   metacopy = st.metacopy;
+  limit = st.limit;
 }
 
 -- A CALL THAT IS SERVED GOES: refused it leaves what is tracked right, else what is told and tracked is as by the laws of watches

@@ -36,15 +36,16 @@ pub(super) enum Item {
     Link(Option<Path>),
 }
 
-// The path of an entry and what it puts there. The faults are looked for in the order `kind`, `path`, `key`, `value`.
-pub(super) fn read(alloc: Global, entry: &Table) -> Result<(Path, Item), EntryError>
-    ensures answer { Answers result (spec.read (table_view entry.now)) }
+// The path of an entry and what it puts there, a file of at most `limit` bytes. The faults are looked for in the order `kind`, `path`,
+// `key`, `value`.
+pub(super) fn read(alloc: Global, limit: u64, entry: &Table) -> Result<(Path, Item), EntryError>
+    ensures answer { Answers result (spec.read limit (table_view entry.now)) }
     ensures placeable { IfOk result (λ r. IsPlaceable r.1) }
 {
     let kind = kind_of(entry)?;
     let path = path_of(alloc, entry)?;
     check_keys(kind, &path, entry)?;
-    let item = item_of(alloc, kind, entry)?;
+    let item = item_of(alloc, limit, kind, entry)?;
     Ok((path, item))
 }
 
@@ -174,8 +175,8 @@ fn has_required(kind: EntryKind, entry: &Table) -> bool
 }
 
 // What the entry of this kind puts at its path, where its values are in their ranges.
-fn item_of(alloc: Global, kind: EntryKind, entry: &Table) -> Result<Item, EntryError>
-    ensures answer { Answers result (spec.item_of kind (table_view entry.now)) }
+fn item_of(alloc: Global, limit: u64, kind: EntryKind, entry: &Table) -> Result<Item, EntryError>
+    ensures answer { Answers result (spec.item_of limit kind (table_view entry.now)) }
     ensures placeable { IfOk result IsPlaceable }
 {
     match kind {
@@ -186,7 +187,7 @@ fn item_of(alloc: Global, kind: EntryKind, entry: &Table) -> Result<Item, EntryE
         }
         EntryKind::File => {
             let attributes = attributes_of(alloc, entry, Mode::of_files())?;
-            let content = Content::File(bytes_of(alloc, entry)?);
+            let content = Content::File(bytes_of(alloc, limit, entry)?);
             Ok(Item::Object(Object::Inode(content, attributes)))
         }
         EntryKind::SymbolicLink => {
@@ -323,16 +324,17 @@ fn number_at(entry: &Table, key: &str, most: u32, default: u32) -> Result<u32, E
     ensures { result ≡ spec.number_at key.now most default (table_view entry.now) }
 {
     match value_at(entry, key).and_then(Value::as_integer) {
-        Some(number) => number_within(most, number),
+        Some(number) => Ok(number_within(most as u64, number)? as u32),
         None => Ok(default),
     }
 }
 
-pub(super) fn number_within(most: u32, number: i64) -> Result<u32, EntryFault>
-    ensures { result ≡ spec.within most number }
+pub(super) fn number_within(most: u64, number: i64) -> Result<u64, EntryFault>
+    ensures within { result ≡ spec.within most number }
+    ensures most { IfOk result (λ n. n ≤ most) }
 {
-    if number >= 0 && number <= most as i64 {
-        Ok(number as u32)
+    if number >= 0 && number as u64 <= most {
+        Ok(number as u64)
     } else {
         Err(EntryFault::Value)
     }

@@ -51,6 +51,9 @@ pub enum ManifestFault {
     /// `history` is outside 2 to 1,000,000.
     #[error("manifest: history")]
     History,
+    /// `file_limit` is outside 1 to 2^40.
+    #[error("manifest: file_limit")]
+    FileLimit,
     /// There are more or fewer layers than a mount takes.
     #[error("manifest: layers")]
     Layers,

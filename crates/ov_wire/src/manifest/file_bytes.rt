@@ -11,9 +11,6 @@ use ov_base::Bytes;
 use std::alloc::Global;
 use toml::{Table, Value};
 
-/// The most bytes of a file.
-const FILE_MOST: u32 = 1_048_576;
-
 // Whether at most one key gives the bytes.
 pub(super) fn gives_bytes_once(entry: &Table) -> bool
     ensures { result ≡ spec.gives_bytes_once (table_view entry.now) }
@@ -33,19 +30,19 @@ fn has_key(entry: &Table, key: &str) -> bool
     value_at(entry, key).is_some()
 }
 
-// The bytes of an entry of kind `file`.
-pub(super) fn bytes_of(alloc: Global, entry: &Table) -> Result<Bytes, EntryError>
-    ensures { Answers result (spec.bytes_of (table_view entry.now)) }
+// The bytes of an entry of kind `file`, at most `limit`.
+pub(super) fn bytes_of(alloc: Global, limit: u64, entry: &Table) -> Result<Bytes, EntryError>
+    ensures { Answers result (spec.bytes_of limit (table_view entry.now)) }
 {
-    let bytes = bytes_given(alloc, entry)?;
-    if bytes.as_slice().len() > FILE_MOST as usize {
+    let bytes = bytes_given(alloc, limit, entry)?;
+    if bytes.as_slice().len() as u64 > limit {
         return Err(EntryError::Fault(EntryFault::Value));
     }
     Ok(bytes)
 }
 
-fn bytes_given(alloc: Global, entry: &Table) -> Result<Bytes, EntryError>
-    ensures { Answers result (spec.bytes_given (table_view entry.now)) }
+fn bytes_given(alloc: Global, limit: u64, entry: &Table) -> Result<Bytes, EntryError>
+    ensures { Answers result (spec.bytes_given limit (table_view entry.now)) }
 {
     if let Some(text) = text_at(entry, "text") {
         return Ok(Bytes::from_slice(alloc, text.as_bytes())?);
@@ -54,16 +51,16 @@ fn bytes_given(alloc: Global, entry: &Table) -> Result<Bytes, EntryError>
         return bytes_spelled(alloc, digits.as_bytes());
     }
     match value_at(entry, "zeros").and_then(Value::as_integer) {
-        Some(count) => zero_bytes(alloc, count),
+        Some(count) => zero_bytes(alloc, limit, count),
         None => Ok(Bytes::new(alloc)),
     }
 }
 
-// So many zero bytes.
-fn zero_bytes(alloc: Global, count: i64) -> Result<Bytes, EntryError>
-    ensures { Answers result (spec.zero_bytes count) }
+// So many zero bytes, at most `limit`.
+fn zero_bytes(alloc: Global, limit: u64, count: i64) -> Result<Bytes, EntryError>
+    ensures { Answers result (spec.zero_bytes limit count) }
 {
-    let count = number_within(FILE_MOST, count)?;
+    let count = number_within(limit, count)?;
     let mut bytes = Vec::new(alloc);
     bytes.resize(count as usize, 0)?;
     Ok(Bytes::from_vec(bytes))

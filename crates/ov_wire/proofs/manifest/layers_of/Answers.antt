@@ -18,19 +18,19 @@ returns-in_err-options-clause-toml c = λ h.
 pub returns-clause-options : goal.returns-clause-options
 returns-clause-options c =
     let whole : whole_of (table_view c.args.manifest.now) ≡ Ok c.in_ok-options.options = first_of (search rules, grind (arith, common_steps)) in
-    let spelled = subst (AreSpelled (map layer_of c.in_ok-layers.layers.items)) c.layers_in-tables.ensures.items c.in_ok-layers.ensures.spelled in
+    let spelled = subst (AreSpelled c.in_ok-options.options.file_limit (map layer_of c.in_ok-layers.layers.items)) c.layers_in-tables.ensures.items c.in_ok-layers.ensures.spelled in
     options-of-entries (table_view c.args.manifest.now) c.in_ok-options.options whole
-    (spelled-faultless 0 (map layer_of c.in_ok-layers.layers.items) (layer_items (table_view c.args.manifest.now)) spelled)
+    (spelled-faultless c.in_ok-options.options.file_limit 0 (map layer_of c.in_ok-layers.layers.items) (layer_items (table_view c.args.manifest.now)) spelled)
 
 pub returns-clause-unmarked : goal.returns-clause-unmarked
 returns-clause-unmarked c = subst (All HasNoMark) (sym c.parted-upper.ensures.given) c.in_ok-layers.ensures.unmarked
 
 pub returns-clause-limits : goal.returns-clause-limits
 returns-clause-limits c =
-    subst (All IsWithinLimits) (sym c.parted-upper.ensures.given)
-    (spelled-within (map layer_of c.in_ok-layers.layers.items) (items_view c.layers_in-tables.result.now) c.in_ok-layers.ensures.spelled)
+    subst (All (IsWithinLimits c.in_ok-options.options.file_limit)) (sym c.parted-upper.ensures.given)
+    (spelled-within c.in_ok-options.options.file_limit (map layer_of c.in_ok-layers.layers.items) (items_view c.layers_in-tables.result.now) c.in_ok-layers.ensures.spelled)
 
 pub returns-clause-short_paths : goal.returns-clause-short_paths
 returns-clause-short_paths c =
     subst (All HasShortPaths) (sym c.parted-upper.ensures.given)
-    (spelled-short (map layer_of c.in_ok-layers.layers.items) (items_view c.layers_in-tables.result.now) c.in_ok-layers.ensures.spelled)
+    (spelled-short c.in_ok-options.options.file_limit (map layer_of c.in_ok-layers.layers.items) (items_view c.layers_in-tables.result.now) c.in_ok-layers.ensures.spelled)
