@@ -230,8 +230,8 @@ static uint64_t take(struct view *view, unsigned count)
 
 static bool is_error(uint64_t number)
 {
-    static const uint8_t known[] = {1, 2, 9, 12, 16, 17, 18, 20, 21, 22, 23, 24, 27, 28, 36, 39,
-                                    40, 61, 75, 95};
+    static const uint8_t known[] = {1, 2, 9, 12, 16, 17, 18, 20, 21, 22, 23, 24, 27, 28, 30, 36,
+                                    39, 40, 61, 75, 95};
     return number != 0 && number < 256 && memchr(known, (int)number, sizeof known) != NULL;
 }
 

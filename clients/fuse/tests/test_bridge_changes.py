@@ -346,5 +346,34 @@ class Sets(ServerCase):
             self.assertGreater(after.ctime, 1)
 
 
+class WithoutAnUpper(ServerCase):
+    """Where nothing can be changed: EROFS, and what is open stays open."""
+
+    MANIFEST = "upper = false\n" + TREE
+
+    def test_what_would_change_something(self):
+        server = self.served()
+        kernel = self.bridge(server, "--sessions", "1")
+        d, f, one, _ = (kernel.walk(path).nodeid for path in ("/d", "/d/f", "/one", "/two"))
+        fh = kernel.open(f).fh
+        changes = ((kernel.mkdir, ROOT, "new"), (kernel.symlink, ROOT, "new", "x"),
+                   (kernel.create, ROOT, "new"), (kernel.mknod, ROOT, "new", stat.S_IFREG),
+                   (kernel.link, f, ROOT, "new"), (kernel.rename, ROOT, "one", ROOT, "new"),
+                   (kernel.unlink, d, "f"), (kernel.rmdir, d, "e"), (kernel.open, f, os.O_RDWR),
+                   (kernel.open, f, os.O_WRONLY | os.O_TRUNC), (kernel.setattr, f, SET_SIZE),
+                   (kernel.setattr, f, SET_MODE), (kernel.setattr, f, SET_UID, 0, 0),
+                   (kernel.setxattr, f, "user.a", b"x"), (kernel.rename, ROOT, "one", ROOT, "two",
+                                                          EXCHANGE))
+        for call, *words in changes:
+            with self.subTest(call.__name__):
+                self.refused(errno.EROFS, call, *words)
+        self.refused(errno.EEXIST, kernel.mkdir, ROOT, "d")
+        self.refused(errno.ENOENT, kernel.unlink, ROOT, "nothing")
+        self.assertEqual(kernel.read(f, fh, 0, 9), b"four")
+        self.assertEqual(kernel.walk("/one").nodeid, one)
+        self.assertEqual([entry.name for entry in kernel.listing(ROOT)][2:],
+                         [b"d", b"g", b"one", b"two"])
+
+
 if __name__ == "__main__":
     unittest.main()

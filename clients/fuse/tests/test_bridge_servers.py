@@ -20,6 +20,9 @@ def u32(number):
     return fill(number, 4)
 
 
+# Those of the table in docs/FORMATS.md.
+ERROR_NUMBERS = (1, 2, 9, 12, 16, 17, 18, 20, 21, 22, 23, 24, 27, 28, 30, 36, 39, 40, 61, 75, 95)
+
 # What is no answer to any request.
 NO_REPLIES = {
     "a length of 0": u32(0),
@@ -131,7 +134,7 @@ class Lies(PlayedCase):
     def test_refusals_are_told(self):
         kernel = self.bridge()
         node = kernel.lookup(ROOT, "f").nodeid
-        for number in (1, 2, 9, 12, 16, 17, 18, 20, 21, 22, 23, 24, 27, 28, 36, 39, 40, 61, 75, 95):
+        for number in ERROR_NUMBERS:
             self.server.lies[played.CHMOD] = refused(number)
             self.refused(number, kernel.setattr, node, 1, mode=0o600)
             self.server.lies[played.CHMOD] = frame(bytes((2, number)))
