@@ -16,6 +16,8 @@ NAMES = ["a", "b", "c", "\u00fc", "\u540d\u524d", "x y", '"', "'", "\\", "#", "\
 TEXTS = ["", "x", "line\n", "\n", '"""', "'''", "\\u0041", "\r\n", "\x1b[0m", "\u00e9" * 40,
          "\x02" * 30, " = ", "\ufeff", "z" * 5000]
 
+KINDS = ["dir", "dir", "file", "file", "file", "symlink", "whiteout", "link"]
+
 
 class Layer:
     """A layer that dice make: what stands at each path, in an order that a manifest may have."""
@@ -34,7 +36,7 @@ class Layer:
         path = parent.rstrip("/") + "/" + self.dice.choice(NAMES)
         if path in self.entries:
             return
-        kind = self.dice.choice(["dir", "dir", "file", "file", "file", "symlink", "whiteout", "link"])
+        kind = self.dice.choice(KINDS)
         entry = {"kind": kind}
         if kind in ("dir", "file"):
             entry.update(self.attributes())
