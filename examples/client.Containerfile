@@ -4,6 +4,14 @@
 #     docker build -f examples/client.Containerfile -t overlayd-client .
 #     docker run --rm --group-add "$(getent group overlayd | cut -d: -f3)" \
 #         -v /run/overlayd:/run/overlayd overlayd-client
+#
+# A program that knows nothing of the socket needs no client: with the bridge outside, as root, its
+# container gets the mount as a volume (clients/fuse/README.md):
+#
+#     overlayd-fuse /run/overlayd/overlay.socket /mnt &
+#     docker run --rm -v /mnt:/work debian:12 ls -l /work
+#
+# overlayd is no storage driver: no runtime asks it for a container's own root file system.
 FROM python:3.9-slim
 COPY clients/python/overlayd /usr/local/lib/overlayd/overlayd
 COPY clients/python/examples/watch_and_change.py /usr/local/lib/overlayd/

@@ -191,8 +191,8 @@ class ServeTrial(Trial):
 
     def ended(self, _stage, at, nth):
         """A session that ended has left all as a detach does, be it in place of the call or, where
-        only its reply found no memory, behind it. A client that is only just attached has made none
-        of the row's calls."""
+        only the frame of its reply found no memory, behind it. A client that is only just attached
+        has made none of the row's calls."""
         line = self.row.lines[at]
         with self.stage() as stage:
             stage.plays(self.row.lines[:at])

@@ -49,8 +49,8 @@ attrs = [["user.a", "1"], ["trusted.b", "2"]]
 """
 TOLD = """\
 m:1: redirect_dir: "on" or "off", and not "yes"
-m:2: colour: no such key; at the top there are layer, upper, redirect_dir, metacopy and \
-history
+m:2: colour: no such key; at the top there are layer, upper, redirect_dir, metacopy, history and \
+file_limit
 m:9: layer 1 entry 0: /etc/motd: path: /etc is not described before; an earlier entry of kind dir \
 has to be
 m:11: layer 1 entry 0: /etc/motd: mode: from 0 to 0o7777, and not 4096
@@ -116,6 +116,30 @@ UPPER = [
      [(3, '"on" or "off", and not "yes"')], "redirect_dir"),
     ("upper = false\nmetacopy = true", 2, [(2, 'a text, "on" or "off"; it is true or false')],
      "key"),
+]
+# The same of the key `file_limit`, with how many layers there are.
+FILE_LIMIT = [
+    ("file_limit = 1", 2, [], None),
+    ("file_limit = 1099511627776", 2, [], None),
+    ("file_limit = 0", 2, [(1, "from 1 to 1099511627776, and not 0")], "file_limit"),
+    ("file_limit = -1", 2, [(1, "from 1 to 1099511627776, and not -1")], "file_limit"),
+    ("file_limit = 1099511627777", 2, [(1, "from 1 to 1099511627776, and not 1099511627777")],
+     "file_limit"),
+    ('file_limit = "1"', 2, [(1, "a whole number, from 1 to 1099511627776; it is a text")], "key"),
+    ("file_limit = 0\nhistory = 1", 0,
+     [(1, "from 1 to 1099511627776, and not 0"), (2, "from 2 to 1000000, and not 1"),
+      (3, "2 to 17 layers, the upper and then 1 to 16 lower ones from the top, and not 0")],
+     "history"),
+    ("file_limit = 0", 0,
+     [(1, "from 1 to 1099511627776, and not 0"),
+      (2, "2 to 17 layers, the upper and then 1 to 16 lower ones from the top, and not 0")],
+     "file_limit"),
+]
+# What gives a file four bytes, and what is told of it where the limit is three.
+FOUR_BYTES = [
+    ('text = "abcd"', "at most 3 bytes"),
+    ('hex = "61626364"', "at most 3 bytes"),
+    ("zeros = 4", "from 0 to 3, and not 4"),
 ]
 # What is no TOML, the line, and the end of what is told.
 NO_TOML = [
@@ -204,6 +228,27 @@ class Checks(unittest.TestCase):
                 self.assertEqual([(fault.line, fault.what) for fault in checked.faults], told)
                 self.assertEqual(checked.first, word and f"manifest: {word}")
 
+    def test_file_limit(self) -> None:
+        """It has its range, and is judged after the history and before layers."""
+        for head, count, told, word in FILE_LIMIT:
+            with self.subTest(head, count=count):
+                checked = check(f"{head}\nlayer = [{', '.join(['{}'] * count)}]\n".encode())
+                self.assertEqual([(fault.line, fault.what) for fault in checked.faults], told)
+                self.assertEqual(checked.first, word and f"manifest: {word}")
+
+    def test_files_at_the_limit(self) -> None:
+        """A file of more bytes is at fault, and isn't where the limit is."""
+        for given, what in FOUR_BYTES:
+            entry = f'layer = [{{}}, {{entry = [{{path = "/f", kind = "file", {given}}}]}}]\n'
+            with self.subTest(given):
+                checked = check(f"file_limit = 3\n{entry}".encode())
+                self.assertEqual([(fault.line, fault.what) for fault in checked.faults],
+                                 [(2, what)])
+                self.assertEqual(checked.first, "layer 1 entry 0: value")
+                self.assertEqual(check(f"file_limit = 4\n{entry}".encode()).faults, [])
+                checked = check(f"file_limit = 0\n{entry}".encode())
+                self.assertEqual([fault.word for fault in checked.faults], ["file_limit"])
+
     def test_layers_without_an_upper(self) -> None:
         """They count from 0 as well."""
         checked = check(b"upper = false\nlayer = [{entry = [{path = '/f', kind = 'x'}]}, "
@@ -220,7 +265,7 @@ class Checks(unittest.TestCase):
         with tempfile.TemporaryDirectory() as folder:
             path = Path(folder, "m")
             for head, count, word in [(head, 2, word) for head, _, word in METACOPY] + [
-                    (head, count, word) for head, count, _, word in UPPER]:
+                    (head, count, word) for head, count, _, word in UPPER + FILE_LIMIT]:
                 path.write_text(f"{head}\nlayer = [{', '.join(['{}'] * count)}]\n", "utf-8")
                 done = subprocess.run([program, "show", str(path)], capture_output=True,
                                       check=False)

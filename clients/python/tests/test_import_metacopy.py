@@ -178,7 +178,7 @@ to = "/f"
         made = layers_of(self.id(), self.folder, [{"/f": marked()}, {"/f": b"1"}], "user.")
         for layer in made:
             os.truncate(Path(layer, "f"), 1_048_577)
-        run = tools.run_import(*made)
+        run = tools.run_import(*made, "--file-limit", "1048576")
         self.assertEqual(run.errors[:2], [
             f"overlayd-import: left out: {layer}: /f: a file of 1,048,577 bytes; at most 1,048,576 "
             "fit" for layer in made])

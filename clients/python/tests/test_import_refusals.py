@@ -78,6 +78,8 @@ kind = "file"
 path = "/large"
 kind = "file"
 """
+# At most 1 MiB a file, as where a manifest says nothing of it.
+LIMIT = ("--file-limit", "1048576")
 BASE = [directory("sub/"), file("plain"), file("kept", b"kept")]
 
 
@@ -101,12 +103,12 @@ class RefusalTest(unittest.TestCase):
         for member, told in LEFT_OUT:
             with self.subTest(told=told):
                 path = self.tar("layer.tar", [*BASE, member])
-                run = tools.run_import(path)
+                run = tools.run_import(path, *LIMIT)
                 self.assertEqual(run.status, 0, run.errors)
                 self.assertEqual(run.errors[:-1], [f"overlayd-import: left out: {path}: {told}"])
                 self.assertIn("; 1 left out (1 ", run.errors[-1])
                 self.assertIn('text = "kept"', run.manifest)
-                run = tools.run_import(path, "--strict")
+                run = tools.run_import(path, "--strict", *LIMIT)
                 self.assertEqual(run, tools.Run(1, "", [
                     f"overlayd-import: {path}: {told} (--strict)"]))
 
@@ -115,8 +117,8 @@ class RefusalTest(unittest.TestCase):
         members = [member for member, _ in LEFT_OUT if member.name in ("fifo", "large")]
         upper = self.tar("upper.tar", [*members, MISSING])
         lower = self.tar("lower.tar", [directory("sub/"), file("fifo"), file("large"), *members])
-        run = tools.run_import(upper, lower, "--quiet")
-        self.assertEqual(run.manifest, COVERED)
+        run = tools.run_import(upper, lower, "--quiet", *LIMIT)
+        self.assertEqual(run.manifest, "file_limit = 1048576\n\n" + COVERED)
         self.assertEqual(run.errors, [
             "overlayd-import: 2 layers, 7 objects, 0 bytes; 5 left out (2 of another kind, "
             "2 over the limit, 1 without what they lead to)"])
@@ -133,7 +135,7 @@ class RefusalTest(unittest.TestCase):
         except OSError:
             tools.skip(self.id(), "this file system has UTF-8 names alone")
         Path(os.fsdecode(os.fsencode(top) + b"/\xff/in")).touch()
-        run = tools.run_import(str(top))
+        run = tools.run_import(str(top), *LIMIT)
         where = f"overlayd-import: left out: {top}: "
         # the roots are entries where they don't belong to 0:0
         roots = 2 if (os.getuid(), os.getgid()) != (0, 0) else 0

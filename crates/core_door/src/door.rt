@@ -6,7 +6,7 @@ ghost use Rattle.core_door.specs.Rooms.{IsServed};
 
 use crate::session::CoreSession;
 use ov_base::{Call, Errno, Reply};
-use ov_frames::Answer;
+use ov_frames::{Answer, LentAnswer};
 use ov_session::{CallOutcome, Door, Exchange};
 use overlay_core::{Core, Job, Turn};
 use watch_table::{Callback, Rule};
@@ -98,8 +98,8 @@ impl<F: Callback + Drop, R: Rule> Door for CoreDoor<F, R> {
         CallOutcome::Answered
     }
 
-    fn answer<'s>(&self, session: &'s CoreSession) -> &'s Answer {
-        session.answer()
+    fn answer<'s>(&'s self, session: &'s CoreSession) -> LentAnswer<'s> {
+        session.answer().lent()
     }
 
     fn detach(&mut self, session: &mut CoreSession) -> Answer {

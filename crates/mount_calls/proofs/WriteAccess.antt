@@ -34,6 +34,13 @@ none-there : {A : Type 0} (x : Option A) → is_some x ≡ false → is_none x �
 none-there None h = refl
 none-there (Some a) h = sym h
 
+-- what is told by its opposite
+pub told-none : {A : Type 0} (b : Bool) (o : Option A) → not b ≡ is_some o → b ≡ is_none o
+told-none true None h = refl
+told-none false None h = cc
+told-none true (Some a) h = cc
+told-none false (Some a) h = refl
+
 module _ (m : Mount) (s : State) (st : IsStateOf m s) (p : Path) where
   -- the machine's walk finds nothing exactly where nothing is shown
   pub node-shown : is_none (node_at s.tree p) ≡ is_none (shows 0 (the_layers m) p)

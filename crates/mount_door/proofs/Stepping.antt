@@ -1,5 +1,5 @@
 -- What one step of a session's client is.
-use Rattle.std.proofs.Common.{◌≡◌, ◌+◌, Bool, true, false, List, [], ◌∷◌, ◌++◌, refl}
+use Rattle.std.proofs.Common.{◌≡◌, ◌+◌, true, List, [], ◌∷◌, ◌++◌, refl}
 use Rattle.ov_base.specs.declared.call.Call.{Call}
 use Rattle.ov_base.specs.declared.errno.Errno.TheVariants.{EINVAL}
 use Rattle.ov_base.specs.declared.reply.Reply.TheVariants.{Done}
@@ -11,13 +11,13 @@ use Rattle.locked_history.specs.Claims.{Claim, IsDetachOf}
 use Rattle.locked_history.specs.declared.session.Refused.{Refused}
 use Rattle.locked_history.specs.declared.session.Refused.TheVariants as refused
 use Rattle.locked_history.specs.declared.session.Session.{Session}
-use Rattle.mount_door.specs.Advancing.{Advances, IsRefusal, IsStep, Standing, Tells, Loses, errno_of, standing}
+use Rattle.mount_door.specs.Advancing.{Advances, IsRefusal, IsStep, Standing, errno_of, standing}
 use Rattle.mount_door.specs.Claiming.{IsToldBy}
 
--- one step that is told
-told_once : (old new : Standing) (exchange : Exchange) → IsStep old (Tells exchange) new →
+-- one step
+once : (old new : Standing) (exchange : Exchange) → IsStep old exchange new →
     Advances old (exchange ∷ []) new
-told_once old new exchange h = (Tells exchange ∷ [], refl, (new, h, refl))
+once old new exchange h = (new, h, refl)
 
 -- a refusal of a mount is one that a door may answer
 is_refusal : (why : Refused) → IsRefusal (errno_of why)
@@ -27,27 +27,27 @@ is_refusal refused.Session = tt
 is_refusal refused.Stopped = tt
 
 -- a call that is refused, or held back, leaves a client where it was
-pub went_refused : (old new : Standing) (call : Call) (why : Refused) → old.lost ≡ false →
-    new ≡ old → Advances old (Called call (NotTaken (errno_of why)) ∷ []) new
-went_refused old new call why told same =
-    told_once old new (Called call (NotTaken (errno_of why))) (told, is_refusal why, same)
+pub went_refused : (old new : Standing) (call : Call) (why : Refused) → new ≡ old →
+    Advances old (Called call (NotTaken (errno_of why)) ∷ []) new
+went_refused old new call why same =
+    once old new (Called call (NotTaken (errno_of why))) (is_refusal why, same)
 
-pub went_held : (old new : Standing) (call : Call) → old.lost ≡ false →
-    new ≡ old → Advances old (HeldBack call ∷ []) new
-went_held old new call told same = told_once old new (HeldBack call) (told, same)
+pub went_held : (old new : Standing) (call : Call) → new ≡ old →
+    Advances old (HeldBack call ∷ []) new
+went_held old new call same = once old new (HeldBack call) same
 
 -- so does a detach that is refused
 pub stayed : (old new : Standing) → new ≡ old →
     Advances old (Departed (NotTaken EINVAL) ∷ []) new
-stayed old new same = told_once old new (Departed (NotTaken EINVAL)) (refl, same)
+stayed old new same = once old new (Departed (NotTaken EINVAL)) (refl, same)
 
 -- a detach, which a receipt more claims
-pub departed : (s : Session) (receipts : List Claim) (lost : Bool) (claim : Claim) →
+pub departed : (s : Session) (receipts : List Claim) (claim : Claim) →
     IsDetachOf claim.entry s.client s.number → claim.counted ≡ true →
-    Advances (standing s receipts lost) (Departed (Replied claim.place Done) ∷ [])
-    (standing s (receipts ++ claim ∷ []) lost)
-departed s receipts lost claim of counted =
-    told_once (standing s receipts lost) (standing s (receipts ++ claim ∷ []) lost)
+    Advances (standing s receipts) (Departed (Replied claim.place Done) ∷ [])
+    (standing s (receipts ++ claim ∷ []))
+departed s receipts claim of counted =
+    once (standing s receipts) (standing s (receipts ++ claim ∷ []))
     (Departed (Replied claim.place Done)) (
       refl,
       (
@@ -63,27 +63,13 @@ departed s receipts lost claim of counted =
       ),
     )
 
-module _ (s next : Session) (whose : next.client ≡ s.client) (numbered : next.number ≡ s.number + 1)
-    (receipts : List Claim) (lost : Bool) (told : lost ≡ false) where
-  -- a call and its reply, which a receipt more claims
-  pub went_called : (call : Call) (answer : Answer) (claim : Claim) →
-      IsToldBy claim s.client s.number call answer →
-      Advances (standing s receipts lost) (Called call answer ∷ [])
-      (standing next (receipts ++ claim ∷ []) lost)
-  went_called call answer claim by = rw by.1 (
-      told_once (standing s receipts lost) (standing next (receipts ++ claim ∷ []) lost)
-      (Called call (Replied claim.place by.0))
-      (told, (claim, by.2, rw (whose, numbered, told) refl)))
-
-  -- a call whose reply is lost
-  pub went_lost : (claim : Claim) →
-      Advances (standing s receipts lost) [] (standing next (receipts ++ claim ∷ []) true)
-  went_lost claim = (
-    Loses ∷ [],
-    refl,
-    (
-      standing next (receipts ++ claim ∷ []) true,
-      (told, (claim, rw (whose, numbered) refl)),
-      refl,
-    ),
-  )
+-- a call and its reply, which a receipt more claims
+pub went_called : (s next : Session) → next.client ≡ s.client → next.number ≡ s.number + 1 →
+    (receipts : List Claim) (call : Call) (answer : Answer) (claim : Claim) →
+    IsToldBy claim s.client s.number call answer →
+    Advances (standing s receipts) (Called call answer ∷ [])
+    (standing next (receipts ++ claim ∷ []))
+went_called s next whose numbered receipts call answer claim by = rw by.1 (
+    once (standing s receipts) (standing next (receipts ++ claim ∷ []))
+    (Called call (Replied claim.place by.0))
+    (claim, by.2, rw (whose, numbered) refl))

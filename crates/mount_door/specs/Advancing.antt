@@ -1,5 +1,5 @@
 -- How a client of a mount goes on, exchange by exchange.
-use Rattle.std.specs.Prelude.{◌≡◌, ℕ, ◌+◌, Bool, true, false, List, [], ◌∷◌, ◌++◌}
+use Rattle.std.specs.Prelude.{◌≡◌, ℕ, ◌+◌, List, [], ◌∷◌, ◌++◌}
 use Rattle.ov_base.specs.declared.errno.Errno.{Errno}
 use Rattle.ov_base.specs.declared.errno.Errno.TheVariants.{EINVAL, ENOMEM, ENOSPC}
 use Rattle.ov_base.specs.declared.reply.Reply.TheVariants.{Done}
@@ -27,68 +27,44 @@ IsRefusal ENOSPC = Unit {0}
 IsRefusal EINVAL = Unit {0}
 IsRefusal _ = ⊥
 
--- where a client stands: the number of its next entry, the receipts of what it did, and whether
--- there was no memory for the reply to a call that was made
+-- where a client stands: the number of its next entry, and the receipts of what it did
 pub record Standing : Type 0 where
   pub client : ℕ
   pub number : ℕ
   pub receipts : List Claim
-  pub lost : Bool
 
-abbrev pub standing : Session → List Claim → Bool → Standing
-standing session receipts lost = record {
+abbrev pub standing : Session → List Claim → Standing
+standing session receipts = record {
   client = session.client;
   number = session.number;
   receipts = receipts;
-  lost = lost;
 }
 
 -- one receipt more
-abbrev pub and_receipt : Standing → ℕ → Claim → Bool → Standing
-and_receipt old number claim lost = record {
+abbrev pub and_receipt : Standing → ℕ → Claim → Standing
+and_receipt old number claim = record {
   client = old.client;
   number = number;
   receipts = old.receipts ++ claim ∷ [];
-  lost = lost;
 }
 
--- what happens to a client: something is told, or the reply to a call is lost
-pub data Step : Type 0 where
-  Tells : (exchange : Exchange) → Step
-  Loses : Step
-
--- what is told of steps
-abbrev pub told_of : List Step → List Exchange
-told_of [] = []
-told_of (Tells exchange ∷ steps) = exchange ∷ told_of steps
-told_of (Loses ∷ steps) = told_of steps
-
--- EACH REPLY THAT IS TOLD IS CLAIMED: one receipt more says that it stands in the history at the
--- place that is told, as the reply to this call of the client, and under its next number. What is
--- refused is no entry. Once a reply was lost, nothing is told but the detach
-abbrev pub IsStep : Standing → Step → Standing → Type 0
-IsStep old (Tells (Called call (Replied place reply))) new =
-    (old.lost ≡ false)
-    × ((claim : Claim) × Claims claim place old.client old.number (deed.Called call reply)
-    × (new ≡ and_receipt old (old.number + 1) claim false))
-IsStep old (Tells (Called call (NotTaken errno))) new =
-    (old.lost ≡ false) × IsRefusal errno × (new ≡ old)
-IsStep old (Tells (HeldBack call)) new = (old.lost ≡ false) × (new ≡ old)
-IsStep old (Tells (Departed (Replied place reply))) new =
+-- EACH REPLY IS CLAIMED: one receipt more says that it stands in the history at the place that is
+-- told, as the reply to this call of the client, and under its next number. What is refused or held
+-- back is no entry
+abbrev pub IsStep : Standing → Exchange → Standing → Type 0
+IsStep old (Called call (Replied place reply)) new =
+    (claim : Claim) × Claims claim place old.client old.number (deed.Called call reply)
+    × (new ≡ and_receipt old (old.number + 1) claim)
+IsStep old (Called call (NotTaken errno)) new = IsRefusal errno × (new ≡ old)
+IsStep old (HeldBack call) new = new ≡ old
+IsStep old (Departed (Replied place reply)) new =
     (reply ≡ Done)
     × ((claim : Claim) × Claims claim place old.client old.number deed.Detached
-    × (new ≡ and_receipt old old.number claim old.lost))
-IsStep old (Tells (Departed (NotTaken errno))) new = (errno ≡ EINVAL) × (new ≡ old)
-IsStep old Loses new =
-    (old.lost ≡ false)
-    × ((claim : Claim) × (new ≡ and_receipt old (old.number + 1) claim true))
+    × (new ≡ and_receipt old old.number claim))
+IsStep old (Departed (NotTaken errno)) new = (errno ≡ EINVAL) × (new ≡ old)
 
--- one after the other
-abbrev pub AreSteps : Standing → List Step → Standing → Type 0
-AreSteps old [] new = new ≡ old
-AreSteps old (step ∷ steps) new =
-    (between : Standing) × IsStep old step between × AreSteps between steps new
-
--- A CLIENT GOES ON AS ITS EXCHANGES TELL
+-- A CLIENT GOES ON AS ITS EXCHANGES TELL, one after the other: it does nothing that isn't told
 abbrev pub Advances : Standing → List Exchange → Standing → Type 0
-Advances old told new = (steps : List Step) × (told ≡ told_of steps) × AreSteps old steps new
+Advances old [] new = new ≡ old
+Advances old (exchange ∷ told) new =
+    (between : Standing) × IsStep old exchange between × Advances between told new

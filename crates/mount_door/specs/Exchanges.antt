@@ -1,5 +1,6 @@
 -- What passed between a session and its door, as a list.
 use Rattle.std.specs.Prelude.{List, [], ◌∷◌, ◌++◌}
+use Rattle.ov_frames.specs.Lending.{answer_of}
 use Rattle.ov_session.specs.declared.exchange.Exchange.{Exchange}
 use Rattle.ov_session.specs.declared.exchange.Exchange.TheVariants as exchange
 use Rattle.mount_door.specs.declared.session.MountSession.{MountSession}
@@ -9,7 +10,7 @@ use Rattle.mount_door.specs.declared.session.Told.{Told, Nothing, Called', HeldB
 abbrev pub exchanges : Told → List Exchange
 exchanges Nothing = []
 exchanges (Called' marker before call answer) =
-    exchanges before ++ exchange.Called call.value answer ∷ []
+    exchanges before ++ exchange.Called call.value (answer_of answer) ∷ []
 exchanges (HeldBack' marker before call) = exchanges before ++ exchange.HeldBack call.value ∷ []
 exchanges (Departed' marker before answer) =
     exchanges before ++ exchange.Departed answer.value ∷ []

@@ -2,7 +2,6 @@
 //! clients.
 #![tactic(auto)]
 
-mod copies;
 mod door;
 mod refusals;
 mod running;

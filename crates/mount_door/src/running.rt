@@ -1,5 +1,5 @@
 // A whole session of a mount's client.
-ghost use Rattle.std.specs.Prelude.{◌≡◌, ◌+◌, ◌<◌, ◌≤◌, List, [], false};
+ghost use Rattle.std.specs.Prelude.{◌≡◌, ◌+◌, ◌<◌, ◌≤◌, List, []};
 ghost use Rattle.std.specs.Vec.{vec_capacity, vec_len};
 ghost use Rattle.ov_session.specs.Devices.{InputAt, OutputAt};
 ghost use Rattle.ov_session.specs.Sessions.{IsSession};
@@ -16,8 +16,7 @@ use std::sync::Wait;
 use watch_table::{Callback, Hook, Rule};
 
 /// What a session leaves: how it ended and how many calls were answered, its client, the receipts of
-/// what that did, its hooks where it was detached, and whether a call was made whose reply there was
-/// no memory for.
+/// what that did, and its hooks where it was detached.
 #[derive(Drop)]
 pub struct Departure<N: MountName, F: Callback, R: Rule> {
     pub ending: Ending,
@@ -25,7 +24,6 @@ pub struct Departure<N: MountName, F: Callback, R: Rule> {
     pub session: Session,
     pub receipts: Vec<Receipt<N>>,
     pub hooks: Option<Vec<Hook<F, R>>>,
-    pub lost: bool,
 }
 
 /// Runs the session of a client that was just attached, whose receipts go behind these. What it
@@ -55,8 +53,8 @@ where
     ensures session { (told : List Exchange) × IsSession Advances
         (S.remaining input.old) (S.remaining input.new)
         (K.contents output.old.sink) (K.contents output.new.sink)
-        [] told (standing session receipts.items false)
-        (standing result.session result.receipts.items result.lost) result.ending }
+        [] told (standing session receipts.items)
+        (standing result.session result.receipts.items) result.ending }
     ensures input { InputAt (S.failures input.old) (S.failures input.new) (S.reads input.new)
         result.ending }
     ensures reads { (S.reads input.old ≤ S.reads input.new)
@@ -65,17 +63,15 @@ where
         result.ending }
 {
     let mut told = MountSession::new();
-    let mut door = MountDoor::new(rt, alloc, mount, gate, session, receipts);
+    let mut door = MountDoor::new(rt, mount, gate, session, receipts);
     let ending = session_run(alloc, input, output, &mut door, &mut told);
     let MountDoor {
         rt: _,
-        alloc: _,
         mount: _,
         gate: _,
         session,
         receipts,
         hooks,
-        lost,
     } = door;
     Departure {
         ending,
@@ -83,6 +79,5 @@ where
         session,
         receipts,
         hooks,
-        lost,
     }
 }

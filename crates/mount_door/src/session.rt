@@ -1,34 +1,35 @@
 // What a client asked and was answered.
 ghost use Rattle.std.specs.Prelude.{◌≡◌, ◌++◌, ◌∷◌, []};
+ghost use Rattle.ov_frames.specs.Lending.{answer_of};
 ghost use Rattle.ov_session.specs.Doors.{EndsInCall, IsLastAnswer};
 ghost use Rattle.ov_session.specs.declared.exchange.Exchange.TheVariants.{Called, Departed, HeldBack};
 ghost use Rattle.mount_door.specs.Exchanges.{told_in};
 
 use ov_base::Call;
-use ov_frames::Answer;
+use ov_frames::{Answer, LentAnswer};
 use std::snapshot::Snapshot;
 
-// What passed last, behind what passed before. All but the last answer is there for contracts alone,
-// and takes no memory.
+// What passed last, behind what passed before. All but the last answer is there for contracts alone;
+// the mount keeps the reply of that.
 #[derive(Drop)]
-enum Told {
+enum Told<'m> {
     Nothing,
-    Called(Snapshot<Told>, Snapshot<Call>, Answer),
-    HeldBack(Snapshot<Told>, Snapshot<Call>),
-    Departed(Snapshot<Told>, Snapshot<Answer>),
+    Called(Snapshot<Told<'m>>, Snapshot<Call>, LentAnswer<'m>),
+    HeldBack(Snapshot<Told<'m>>, Snapshot<Call>),
+    Departed(Snapshot<Told<'m>>, Snapshot<Answer>),
 }
 
-/// The calls of a client of a mount and their answers, in order, until it is detached. Only the last
-/// answer takes memory.
+/// The calls of a client of a mount and their answers, in order, until it is detached. It takes no
+/// memory: the entries of the history keep the calls and the replies.
 #[derive(Drop)]
-pub struct MountSession {
-    told: Told,
+pub struct MountSession<'m> {
+    told: Told<'m>,
     calls: u64,
 }
 
-impl MountSession {
+impl<'m> MountSession<'m> {
     /// A session in which nothing was asked yet.
-    pub fn new() -> MountSession
+    pub fn new() -> MountSession<'m>
         ensures { told_in result ≡ [] }
     {
         MountSession {
@@ -45,8 +46,9 @@ impl MountSession {
     }
 
     // Tells a call and its answer more.
-    pub(crate) fn tell(&mut self, call: Snapshot<Call>, answer: Answer)
-        ensures { told_in self.new ≡ told_in self.old ++ Called call.value answer ∷ [] }
+    pub(crate) fn tell(&mut self, call: Snapshot<Call>, answer: LentAnswer<'m>)
+        ensures { told_in self.new
+            ≡ told_in self.old ++ Called call.value (answer_of answer.entry) ∷ [] }
     {
         self.calls = self.calls.saturating_add(1);
         self.told = Told::Called(Snapshot::of(&self.told), call, answer);
@@ -67,12 +69,12 @@ impl MountSession {
     }
 
     // The answer to the last call.
-    pub(crate) fn answer(&self) -> &Answer
+    pub(crate) fn answer(&self) -> LentAnswer<'m>
         requires { EndsInCall (told_in self.now) }
-        ensures { IsLastAnswer (told_in self.now) result.now }
+        ensures { IsLastAnswer (told_in self.now) (answer_of result) }
     {
         match &self.told {
-            Told::Called(_, _, answer) => answer,
+            Told::Called(_, _, answer) => *answer,
             _ => unreachable!(),
         }
     }

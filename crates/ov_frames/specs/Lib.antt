@@ -5,6 +5,7 @@ pub mod Frames
 pub mod Fronts
 pub mod Gives
 pub mod Kept
+pub mod Lending
 pub mod Reading
 pub mod Replies
 pub mod Requests

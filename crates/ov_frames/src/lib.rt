@@ -15,7 +15,7 @@ mod reading;
 mod request;
 mod writing;
 
-pub use answer::Answer;
+pub use answer::{Answer, LentAnswer};
 pub use decoder::{Decoder, End};
 pub use fault::FrameFault;
 pub use front::{FRAME_MAX, Front, front_end, front_of};

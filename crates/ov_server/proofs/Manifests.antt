@@ -11,7 +11,7 @@ use Rattle.toml.specs.Parse.{parse_document}
 use Rattle.ov_base.specs.declared.options.Options.{Options}
 use Rattle.plain_model.specs.Layers.{Layer}
 use Rattle.layer_tree.specs.Tree.{Tree, layer_of, layers_given}
-use Rattle.ov_wire.specs.Manifests.{Refuses, has_upper, items_len, layer_count}
+use Rattle.ov_wire.specs.Manifests.{Refuses, file_limit_of, has_upper, items_len, layer_count}
 use Rattle.ov_wire.specs.ManifestLayers.{AreSpelled, IsTold, fault_of, layer_items, manifest_of}
 use Rattle.ov_wire.specs.declared.manifest.fault.ManifestFault.{ManifestFault}
 use Rattle.ov_wire.specs.declared.manifest.fault.ManifestFault.TheVariants as manifest
@@ -20,6 +20,7 @@ use Rattle.merged_lookup.specs.declared.layers.Layers.{Layers}
 use Rattle.ov_server.specs.Mounts.{HoldManifest, told_layers}
 use Rattle.ov_server.specs.Rosters.{Layering}
 use Rattle.ov_server.specs.Faults.{AnswersManifest, IsFaultOf, layering_of, layers_told, manifest_fault}
+use Rattle.ov_server.proofs.Mountable.{told-limit}
 
 -- what holds of bytes that are text and of those that are none holds
 either_text : (bytes : List ℕ) (P : Type 0) → (IsUtf8 bytes → P) → ((IsUtf8 bytes → ⊥) → P) → P
@@ -79,19 +80,19 @@ refuses_told S T bytes f =
     ]
 
 -- as many layers are spelled as there are
-spelled_count : (Ls : List Layer) (items : Items) → AreSpelled Ls items → length Ls ≡ items_len items
-spelled_count [] no_items p = refl
-spelled_count (L ∷ Ls) (item d rest) p = ap suc (spelled_count Ls rest p.1)
-spelled_count [] (item d rest) p = absurd p
-spelled_count (L ∷ Ls) no_items p = absurd p
+spelled_count : (limit : ℕ) (Ls : List Layer) (items : Items) → AreSpelled limit Ls items → length Ls ≡ items_len items
+spelled_count limit [] no_items p = refl
+spelled_count limit (L ∷ Ls) (item d rest) p = ap suc (spelled_count limit Ls rest p.1)
+spelled_count limit [] (item d rest) p = absurd p
+spelled_count limit (L ∷ Ls) no_items p = absurd p
 
 -- the layers of a manifest are as many as it has
-told_count : (parsed : Option Members) (Ls : List Layer) (o : Options) → option_map manifest_of parsed ≡ Some (Ok o) → IfSome parsed (λ m. AreSpelled Ls (layer_items m)) → length Ls ≡ option_map_or layer_count parsed 0
+told_count : (parsed : Option Members) (Ls : List Layer) (o : Options) → option_map manifest_of parsed ≡ Some (Ok o) → IfSome parsed (λ m. AreSpelled o.file_limit Ls (layer_items m)) → length Ls ≡ option_map_or layer_count parsed 0
 told_count None Ls o good p = cc
-told_count (Some m) Ls o good p = spelled_count Ls (layer_items m) p
+told_count (Some m) Ls o good p = spelled_count o.file_limit Ls (layer_items m) p
 
 -- and with the upper told, they are those of the manifest
-pub counted : (bytes : List ℕ) (upper : Option Tree) (lowers : List Tree) (o : Options) → option_map manifest_of (parse_document bytes) ≡ Some (Ok o) → option_map has_upper (parse_document bytes) ≡ Some (is_some upper) → IfSome (parse_document bytes) (λ m. AreSpelled (layers_given upper lowers) (layer_items m)) → layers_told bytes ≡ (is_some upper, length lowers)
+pub counted : (bytes : List ℕ) (upper : Option Tree) (lowers : List Tree) (o : Options) → option_map manifest_of (parse_document bytes) ≡ Some (Ok o) → option_map has_upper (parse_document bytes) ≡ Some (is_some upper) → IfSome (parse_document bytes) (λ m. AreSpelled o.file_limit (layers_given upper lowers) (layer_items m)) → layers_told bytes ≡ (is_some upper, length lowers)
 counted bytes upper lowers o good there p = by (parse_document bytes) upper there (told_count (parse_document bytes) (layers_given upper lowers) o good p)
   where
     by : (parsed : Option Members) (upper : Option Tree) → option_map has_upper parsed ≡ Some (is_some upper) → length (layers_given upper lowers) ≡ option_map_or layer_count parsed 0 → option_map_or layering_of parsed (false, 0) ≡ (is_some upper, length lowers)
@@ -109,26 +110,32 @@ given_upper None read_only e = ap not e
 given_upper (Some U) read_only e = ap not e
 
 -- layers that were made of what a manifest gave hold what its entries say
-told_by : (upper : Option Tree) (lowers : List Tree) (l : Layers) (b : Bool) (items : Items) →
+told_by : (limit : ℕ) (upper : Option Tree) (lowers : List Tree) (l : Layers) (b : Bool) (items : Items) →
     IfSome upper (λ given. l.upper ≡ given) → l.lowers.items ≡ lowers → b ≡ is_some upper →
-    AreSpelled (layers_given upper lowers) items → AreSpelled (told_layers b l) items
-told_by None lowers l b items above below has spelled =
-    subst (λ x. AreSpelled (told_layers x l) items) (sym has)
-    (subst (λ (xs : List Tree). AreSpelled (map layer_of xs) items) (sym below) spelled)
-told_by (Some u) lowers l b items above below has spelled =
-    subst (λ x. AreSpelled (told_layers x l) items) (sym has)
-    (subst (λ (x : Tree). AreSpelled (layer_of x ∷ map layer_of l.lowers.items) items) (sym above)
-    (subst (λ (xs : List Tree). AreSpelled (layer_of u ∷ map layer_of xs) items) (sym below) spelled))
+    AreSpelled limit (layers_given upper lowers) items → AreSpelled limit (told_layers b l) items
+told_by limit None lowers l b items above below has spelled =
+    subst (λ x. AreSpelled limit (told_layers x l) items) (sym has)
+    (subst (λ (xs : List Tree). AreSpelled limit (map layer_of xs) items) (sym below) spelled)
+told_by limit (Some u) lowers l b items above below has spelled =
+    subst (λ x. AreSpelled limit (told_layers x l) items) (sym has)
+    (subst (λ (x : Tree). AreSpelled limit (layer_of x ∷ map layer_of l.lowers.items) items) (sym above)
+    (subst (λ (xs : List Tree). AreSpelled limit (layer_of u ∷ map layer_of xs) items) (sym below) spelled))
 
-pub holds_manifest : (bytes : List ℕ) (upper : Option Tree) (lowers : List Tree) (l : Layers) →
+pub holds_manifest : (bytes : List ℕ) (upper : Option Tree) (lowers : List Tree) (options : Options) (l : Layers) →
+    option_map manifest_of (parse_document bytes) ≡ Some (Ok options) →
     IfSome upper (λ given. l.upper ≡ given) → l.lowers.items ≡ lowers →
     option_map has_upper (parse_document bytes) ≡ Some (is_some upper) →
-    IfSome (parse_document bytes) (λ m. AreSpelled (layers_given upper lowers) (layer_items m)) →
+    IfSome (parse_document bytes) (λ m. AreSpelled options.file_limit (layers_given upper lowers) (layer_items m)) →
     HoldManifest bytes l
-holds_manifest bytes upper lowers l above below has spelled = by (parse_document bytes) has spelled
+holds_manifest bytes upper lowers options l good above below has spelled = by (parse_document bytes) good has spelled
   where
-    by : (o : Option Members) → option_map has_upper o ≡ Some (is_some upper) →
-        IfSome o (λ m. AreSpelled (layers_given upper lowers) (layer_items m)) →
-        IfSome o (λ m. AreSpelled (told_layers (has_upper m) l) (layer_items m))
-    by None has spelled = tt
-    by (Some m) has spelled = told_by upper lowers l (has_upper m) (layer_items m) above below (cc) spelled
+    limit : ℕ
+    limit = options.file_limit
+
+    by : (o : Option Members) → option_map manifest_of o ≡ Some (Ok options) → option_map has_upper o ≡ Some (is_some upper) →
+        IfSome o (λ m. AreSpelled limit (layers_given upper lowers) (layer_items m)) →
+        IfSome o (λ m. (n : ℕ) × (file_limit_of m ≡ Ok n) × AreSpelled n (told_layers (has_upper m) l) (layer_items m))
+    by None good has spelled = tt
+    by (Some m) good has spelled =
+        let is : manifest_of m ≡ Ok options = let e : Some (manifest_of m) ≡ Some (Ok options) = good in cc in
+        (limit, told-limit m options is, told_by limit upper lowers l (has_upper m) (layer_items m) above below (cc) spelled)

@@ -8,7 +8,7 @@ use Rattle.ov_base.specs.declared.options.Options.{Options}
 use Rattle.plain_model.specs.Layers.{Layer}
 use Rattle.layer_tree.specs.Tree.{HasMark, Tree, layer_of, layers_given}
 use Rattle.ov_wire.specs.ManifestEntries.{and_then}
-use Rattle.ov_wire.specs.Manifests.{checked, history_of, history_within, may_metacopy, metacopy_of, options_of, redirects_of, whole_of}
+use Rattle.ov_wire.specs.Manifests.{checked, file_limit_of, history_of, history_within, may_metacopy, metacopy_of, options_of, redirects_of, whole_of}
 use Rattle.ov_wire.specs.ManifestLayers.{layer_items, layers_fault, manifest_of, unless_fault, HasNoMark}
 use Rattle.ov_wire.specs.declared.manifest.fault.ManifestFault.{ManifestFault}
 use Rattle.ov_wire.specs.declared.manifest.fault.ManifestFault.TheVariants as fault
@@ -49,7 +49,6 @@ within-length : (z : ℤ) (n : ℕ) → history_within z ≡ Ok n → (2 ≤ n) 
 within-length (pos k) n h = taken-length (nat_le 2 k && nat_le k 1000000) k n refl h
 within-length (negsuc k) n h = absurd (cc)
 
--- so are the options of a manifest, whatever its layers
 unless-ok : (f : Option ManifestFault) (o x : Options) → unless_fault f o ≡ Ok x → o ≡ x
 unless-ok None o x h = cc
 unless-ok (Some f) o x h = absurd (cc)
@@ -58,22 +57,33 @@ either-ok : (b : Bool) (o x : Options) (f : ManifestFault) → cond b (Ok o) (Er
 either-ok true o x f h = cc
 either-ok false o x f h = absurd (cc)
 
-options-length : (m : Members) (o : Options) → options_of m ≡ Ok o → (2 ≤ o.history) × (o.history ≤ 1000000)
-options-length m o h =
+-- the numbers among options are those that their keys tell
+said-numbers : (m : Members) (o : Options) → options_of m ≡ Ok o → (history_of m ≡ Ok o.history) × (file_limit_of m ≡ Ok o.file_limit)
+said-numbers m o h =
     let a = then-ok (checked m) _ o h in
     let b = then-ok (redirects_of m) _ o a.2 in
     let c = then-ok (metacopy_of (may_metacopy b.0 m) m) _ o b.2 in
     let d = then-ok (history_of m) _ o c.2 in
-    let same : d.0 ≡ o.history = cc in
-    subst (λ n. (2 ≤ n) × (n ≤ 1000000)) same (within-length (unwrap_or (option_and_then as_integer (get_member (codes "history") m)) (pos 100000)) d.0 d.1)
+    let e = then-ok (file_limit_of m) _ o d.2 in
+    let places : d.0 ≡ o.history = cc in
+    let limit : e.0 ≡ o.file_limit = cc in
+    (d.1 ∙ ap Ok places, e.1 ∙ ap Ok limit)
 
-manifest-length : (m : Members) (o : Options) → manifest_of m ≡ Ok o → (2 ≤ o.history) × (o.history ≤ 1000000)
-manifest-length m o h =
+-- so are those of a manifest
+manifest-numbers : (m : Members) (o : Options) → manifest_of m ≡ Ok o → (history_of m ≡ Ok o.history) × (file_limit_of m ≡ Ok o.file_limit)
+manifest-numbers m o h =
     let a = then-ok (whole_of m) _ o h in
     let b = then-ok (options_of m) _ a.0 a.1 in
-    let whole : a.0 ≡ o = unless-ok (layers_fault 0 (layer_items m)) a.0 o a.2 in
+    let whole : a.0 ≡ o = unless-ok (layers_fault a.0.file_limit 0 (layer_items m)) a.0 o a.2 in
     let same : b.0 ≡ a.0 = either-ok _ b.0 a.0 fault.Layers b.2 in
-    subst (λ (x : Options). (2 ≤ x.history) × (x.history ≤ 1000000)) (same ∙ whole) (options-length m b.0 b.1)
+    subst (λ (x : Options). (history_of m ≡ Ok x.history) × (file_limit_of m ≡ Ok x.file_limit)) (same ∙ whole) (said-numbers m b.0 b.1)
+
+-- the limit of a manifest without a fault is that of its options
+pub told-limit : (m : Members) (o : Options) → manifest_of m ≡ Ok o → file_limit_of m ≡ Ok o.file_limit
+told-limit m o h = (manifest-numbers m o h).1
+
+manifest-length : (m : Members) (o : Options) → manifest_of m ≡ Ok o → (2 ≤ o.history) × (o.history ≤ 1000000)
+manifest-length m o h = within-length (unwrap_or (option_and_then as_integer (get_member (codes "history") m)) (pos 100000)) o.history (manifest-numbers m o h).0
 
 pub told-length : (o : Option Members) (x : Options) → option_map manifest_of o ≡ Some (Ok x) → (2 ≤ x.history) × (x.history ≤ 1000000)
 told-length None x h = absurd (cc)

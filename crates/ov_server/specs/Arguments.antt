@@ -17,16 +17,28 @@ use Rattle.clap.specs.declared.builder.action.ArgAction.TheVariants as action
 use Rattle.clap.specs.declared.builder.value_parser.ValueParser.TheVariants as vp
 use Rattle.ov_server.specs.declared.arguments.Invocation.TheVariants.{Show, Play, Serve}
 
+-- an option of this name with a number from `least` to `most`
+abbrev pub number_rule : List ℕ → ℕ → ℕ → Rule
+number_rule name least most = record (new_rule name) {
+  long = Some name;
+  value_names = 1;
+  parser = Some (vp.Unsigned least most);
+}
+
+-- an option of this name that is there or not
+abbrev pub flag_rule : List ℕ → Rule
+flag_rule name = record (new_rule name) {
+  long = Some name;
+  action = Some action.SetTrue;
+}
+
 -- the argument that names the manifest's file
 abbrev pub manifest_rule : Rule
 manifest_rule = record (new_rule (codes "MANIFEST")) { required = true }
 
 -- `--manifest-limit BYTES`: 1 to 2^40, and 2^30 where it is left out
 abbrev pub manifest_limit_rule : Rule
-manifest_limit_rule = record (new_rule (codes "manifest-limit")) {
-  long = Some (codes "manifest-limit");
-  value_names = 1;
-  parser = Some (vp.Unsigned 1 1099511627776);
+manifest_limit_rule = record (number_rule (codes "manifest-limit") 1 1099511627776) {
   defaults = codes "1073741824" ∷ [];
 }
 
@@ -45,57 +57,46 @@ socket_rule = record (new_rule (codes "SOCKET")) { required = true }
 
 -- `--workers N`: 1 to 64, and 8 where it is left out
 abbrev pub workers_rule : Rule
-workers_rule = record (new_rule (codes "workers")) {
-  long = Some (codes "workers");
-  value_names = 1;
-  parser = Some (vp.Unsigned 1 64);
+workers_rule = record (number_rule (codes "workers") 1 64) {
   defaults = codes "8" ∷ [];
 }
 
 -- `--sessions K`: 1 to 1,000,000
 abbrev pub sessions_rule : Rule
-sessions_rule = record (new_rule (codes "sessions")) {
-  long = Some (codes "sessions");
-  value_names = 1;
-  parser = Some (vp.Unsigned 1 1000000);
-}
+sessions_rule = number_rule (codes "sessions") 1 1000000
 
 -- `--history N`: 2 to 1,000,000
 abbrev pub history_rule : Rule
-history_rule = record (new_rule (codes "history")) {
-  long = Some (codes "history");
-  value_names = 1;
-  parser = Some (vp.Unsigned 2 1000000);
-}
+history_rule = number_rule (codes "history") 2 1000000
 
 -- `--idle SECONDS`: 1 to 86,400
 abbrev pub idle_rule : Rule
-idle_rule = record (new_rule (codes "idle")) {
-  long = Some (codes "idle");
-  value_names = 1;
-  parser = Some (vp.Unsigned 1 86400);
-}
+idle_rule = number_rule (codes "idle") 1 86400
 
 -- `--unlink`
 abbrev pub unlink_rule : Rule
-unlink_rule = record (new_rule (codes "unlink")) {
-  long = Some (codes "unlink");
-  action = Some action.SetTrue;
+unlink_rule = flag_rule (codes "unlink")
+
+-- `--until-eof`
+abbrev pub until_eof_rule : Rule
+until_eof_rule = flag_rule (codes "until-eof")
+
+-- `--save FILE`
+abbrev pub save_rule : Rule
+save_rule = record (new_rule (codes "save")) {
+  long = Some (codes "save");
+  value_names = 1;
 }
 
 -- `--verbose`, or `-v`
 abbrev pub verbose_rule : Rule
-verbose_rule = record (new_rule (codes "verbose")) {
-  long = Some (codes "verbose");
-  short = Some 118;
-  action = Some action.SetTrue;
-}
+verbose_rule = record (flag_rule (codes "verbose")) { short = Some 118 }
 
 -- the subcommand that serves
 abbrev pub serve_app : App
-serve_app = with_rule (with_rule (with_rule (with_rule (with_rule (with_rule (with_rule
-    (app_named (codes "serve")) socket_rule) workers_rule) sessions_rule) history_rule) idle_rule)
-    unlink_rule) verbose_rule
+serve_app = with_rule (with_rule (with_rule (with_rule (with_rule (with_rule (with_rule (with_rule
+    (with_rule (app_named (codes "serve")) socket_rule) workers_rule) sessions_rule) history_rule)
+    idle_rule) unlink_rule) until_eof_rule) save_rule) verbose_rule
 
 -- THE COMMAND LINE: `overlayd show MANIFEST`, `overlayd play MANIFEST`, `overlayd serve MANIFEST
 -- SOCKET` with its options, `overlayd --version` or `overlayd --help`
@@ -157,6 +158,8 @@ pub record AsksServe (rows : List Row) (asked : Serving) : Type 0 where
   pub history_told : Spells (one_of (codes "history") rows) (option_map places_in asked.history)
   pub idle_told : Spells (one_of (codes "idle") rows) asked.idle
   pub unlinks : TellsFlag rows (codes "unlink") asked.unlink
+  pub ends : TellsFlag rows (codes "until-eof") asked.until_eof
+  pub saves : first_of (codes "save") rows ≡ option_map (λ file. file.now) asked.save
   pub tells : TellsFlag rows (codes "verbose") asked.verbose
 
 -- what a parse says beside the manifest

@@ -6,7 +6,7 @@ use Rattle.plain_model.specs.Layers.{Layer}
 use Rattle.layer_tree.specs.Tree.{layer_of}
 use Rattle.merged_lookup.specs.Merged.{lowers_of}
 use Rattle.merged_lookup.specs.declared.layers.Layers.{Layers}
-use Rattle.ov_wire.specs.Manifests.{has_upper}
+use Rattle.ov_wire.specs.Manifests.{file_limit_of, has_upper}
 use Rattle.ov_wire.specs.ManifestLayers.{AreSpelled, layer_items, manifest_of}
 use Rattle.overlay_core.specs.Views.{core_layers, core_options, core_read_only}
 use Rattle.overlay_core.specs.declared.mounted.Core.{Core}
@@ -18,10 +18,12 @@ use Rattle.watch_table.specs.declared.hook.Rule.{Ghosts as Rule}
 abbrev pub told_layers : Bool → Layers → List Layer
 told_layers upper l = cond upper (layer_of l.upper ∷ lowers_of l) (lowers_of l)
 
--- these layers hold what the entries of a manifest's tables say, the upper's first
+-- these layers hold what the entries of a manifest's tables say, the upper's first, none of which is at
+-- fault under the limit that the manifest tells for the bytes of a file
 abbrev pub HoldManifest : List ℕ → Layers → Type 0
 HoldManifest bytes l =
-    IfSome (parse_document bytes) (λ m. AreSpelled (told_layers (has_upper m) l) (layer_items m))
+    IfSome (parse_document bytes) (λ m. (limit : ℕ) × (file_limit_of m ≡ Ok limit)
+    × AreSpelled limit (told_layers (has_upper m) l) (layer_items m))
 
 -- options with a history of this length, if one is told
 abbrev pub lasting : Option HistoryLength → Options → Options

@@ -8,8 +8,9 @@ ghost use Rattle.clap.specs.Walk.{one_of, rows_of, rule_of};
 ghost use Rattle.clap.specs.declared.builder.command.Command.TheViews.{out-Command};
 ghost use Rattle.ov_server.specs.Arguments.{IsAskedBy, IsLoneWord, IsRefusedBy, IsServing, Names};
 ghost use Rattle.ov_server.specs.Arguments.{Spells, TellsLimit, app_named, overlayd_app, places_in, serve_app};
-ghost use Rattle.ov_server.specs.Arguments.{manifest_limit_rule, manifest_rule};
-ghost use Rattle.ov_server.specs.Arguments.{history_rule, idle_rule, sessions_rule, socket_rule, unlink_rule, verbose_rule, workers_rule};
+ghost use Rattle.ov_server.specs.Arguments.{flag_rule, manifest_limit_rule, manifest_rule, number_rule};
+ghost use Rattle.ov_server.specs.Arguments.{history_rule, idle_rule, sessions_rule, socket_rule, unlink_rule};
+ghost use Rattle.ov_server.specs.Arguments.{save_rule, until_eof_rule, verbose_rule, workers_rule};
 
 use crate::history_length::HistoryLength;
 use clap::builder::ValueParser;
@@ -59,6 +60,10 @@ pub struct Serving<'a> {
     pub idle: Option<u64>,
     /// Whether the file of a socket on which nobody listens is removed first.
     pub unlink: bool,
+    /// Whether it ends with standard input.
+    pub until_eof: bool,
+    /// The file to which the upper is written at the end; none where it isn't.
+    pub save: Option<&'a str>,
     /// Whether it is told what is served.
     pub verbose: bool,
 }
@@ -113,6 +118,8 @@ fn serve<'a>(alloc: Global) -> Result<Command<'a>, AllocError>
     .arg(history(alloc))?
     .arg(idle(alloc))?
     .arg(unlink(alloc))?
+    .arg(until_eof(alloc))?
+    .arg(save(alloc))?
     .arg(verbose(alloc))
 }
 
@@ -129,65 +136,92 @@ fn workers<'a>(alloc: Global) -> Arg<'a>
     ensures rule { rule_of result ≡ workers_rule }
     ensures local { result.global ≡ false }
 {
-    Arg::new(alloc, "workers")
-        .long("workers")
-        .value_name("N")
-        .help("Serve N connections at once, 1 to 64; further ones wait")
-        .value_parser(ValueParser::unsigned(1, 64))
-        .default_value("8")
+    let help = "Serve N connections at once, 1 to 64; further ones wait";
+    number(alloc, "workers", "N", help, 1, 64).default_value("8")
 }
 
 fn sessions<'a>(alloc: Global) -> Arg<'a>
     ensures rule { rule_of result ≡ sessions_rule }
     ensures local { result.global ≡ false }
 {
-    Arg::new(alloc, "sessions")
-        .long("sessions")
-        .value_name("K")
-        .help("End each worker after K sessions, 1 to 1000000 [default: never]")
-        .value_parser(ValueParser::unsigned(1, 1_000_000))
+    let help = "End each worker after K sessions, 1 to 1000000 [default: never]";
+    number(alloc, "sessions", "K", help, 1, 1_000_000)
 }
 
 fn history<'a>(alloc: Global) -> Arg<'a>
     ensures rule { rule_of result ≡ history_rule }
     ensures local { result.global ≡ false }
 {
-    Arg::new(alloc, "history")
-        .long("history")
-        .value_name("N")
-        .help("Give the history N places, 2 to 1000000 [default: the manifest's]")
-        .value_parser(ValueParser::unsigned(2, 1_000_000))
+    let help = "Give the history N places, 2 to 1000000 [default: the manifest's]";
+    number(alloc, "history", "N", help, 2, 1_000_000)
 }
 
 fn idle<'a>(alloc: Global) -> Arg<'a>
     ensures rule { rule_of result ≡ idle_rule }
     ensures local { result.global ≡ false }
 {
-    Arg::new(alloc, "idle")
-        .long("idle")
-        .value_name("SECONDS")
-        .help("End a connection that does nothing so long, 1 to 86400 [default: never]")
-        .value_parser(ValueParser::unsigned(1, 86_400))
+    let help = "End a connection that does nothing so long, 1 to 86400 [default: never]";
+    number(alloc, "idle", "SECONDS", help, 1, 86_400)
 }
 
 fn unlink<'a>(alloc: Global) -> Arg<'a>
     ensures rule { rule_of result ≡ unlink_rule }
     ensures local { result.global ≡ false }
 {
-    Arg::new(alloc, "unlink")
-        .long("unlink")
-        .help("Remove a socket's file at SOCKET first, if nobody listens there")
-        .action(ArgAction::SetTrue)
+    let help = "Remove a socket's file at SOCKET first, if nobody listens there";
+    flag(alloc, "unlink", help)
+}
+
+fn until_eof<'a>(alloc: Global) -> Arg<'a>
+    ensures rule { rule_of result ≡ until_eof_rule }
+    ensures local { result.global ≡ false }
+{
+    flag(alloc, "until-eof", "End when standard input does")
+}
+
+fn save<'a>(alloc: Global) -> Arg<'a>
+    ensures rule { rule_of result ≡ save_rule }
+    ensures local { result.global ≡ false }
+{
+    Arg::new(alloc, "save").long("save").value_name("FILE").help(
+        "Write the upper layer to FILE when the server ends [default: never]",
+    )
 }
 
 fn verbose<'a>(alloc: Global) -> Arg<'a>
     ensures rule { rule_of result ≡ verbose_rule }
     ensures local { result.global ≡ false }
 {
-    Arg::new(alloc, "verbose")
-        .long("verbose")
-        .short('v')
-        .help("Tell on standard error what is served")
+    flag(alloc, "verbose", "Tell on standard error what is served").short('v')
+}
+
+// An option `--ID NUMBER`, whose number is within a range.
+fn number<'a>(
+    alloc: Global,
+    id: &'a str,
+    value_name: &'a str,
+    help: &'a str,
+    least: u64,
+    most: u64,
+) -> Arg<'a>
+    ensures rule { rule_of result ≡ number_rule id.entry.now least most }
+    ensures local { result.global ≡ false }
+{
+    Arg::new(alloc, id)
+        .long(id)
+        .value_name(value_name)
+        .help(help)
+        .value_parser(ValueParser::unsigned(least, most))
+}
+
+// An option `--ID` that is there or not.
+fn flag<'a>(alloc: Global, id: &'a str, help: &'a str) -> Arg<'a>
+    ensures rule { rule_of result ≡ flag_rule id.entry.now }
+    ensures local { result.global ≡ false }
+{
+    Arg::new(alloc, id)
+        .long(id)
+        .help(help)
         .action(ArgAction::SetTrue)
 }
 
@@ -215,12 +249,9 @@ fn manifest_limit<'a>(alloc: Global) -> Arg<'a>
     ensures rule { rule_of result ≡ manifest_limit_rule }
     ensures local { result.global ≡ false }
 {
-    Arg::new(alloc, "manifest-limit")
-        .long("manifest-limit")
-        .value_name("BYTES")
-        .help("Refuse a manifest of more than BYTES bytes, 1 to 1099511627776")
-        .value_parser(ValueParser::unsigned(1, 1_099_511_627_776))
-        .default_value("1073741824")
+    let help = "Refuse a manifest of more than BYTES bytes, 1 to 1099511627776";
+    let most = 1_099_511_627_776;
+    number(alloc, "manifest-limit", "BYTES", help, 1, most).default_value("1073741824")
 }
 
 fn invocation_of<'a>(matches: &ArgMatches<'a>) -> Option<Invocation<'a>>
@@ -267,6 +298,8 @@ fn serving_of<'a>(
     let history = history_of(matches)?;
     let idle = matches.try_get_one("idle").ok()?;
     let unlink = matches.get_flag("unlink");
+    let until_eof = matches.get_flag("until-eof");
+    let save = matches.get_str("save");
     let verbose = matches.get_flag("verbose");
     Some(Serving {
         manifest,
@@ -277,6 +310,8 @@ fn serving_of<'a>(
         history,
         idle,
         unlink,
+        until_eof,
+        save,
         verbose,
     })
 }

@@ -29,6 +29,18 @@ pub enum Fault {
     /// The socket can't be made, or no connection can be taken.
     #[error("socket")]
     Socket,
+    /// The upper is to be saved at an end of the server that never comes.
+    #[error("--save needs --until-eof or --sessions")]
+    SaveWithoutEnd,
+    /// There is no upper to save.
+    #[error("cannot save: the mount has no upper layer")]
+    NoUpper,
+    /// The saved upper can't be written.
+    #[error("cannot save")]
+    CannotSave,
+    /// So many objects of the upper are none that a manifest can say.
+    #[error("not saved, since no manifest can say them: {objects} objects")]
+    LeftOut { objects: u64 },
     /// A line of the script, counted from 1, is no command.
     #[error("line {line}: bad command")]
     BadCommand { line: u64 },
@@ -38,8 +50,8 @@ pub enum Fault {
 }
 
 impl Fault {
-    /// The exit status: 0 where help or the version is asked for, 1 for a file, a manifest or a
-    /// stream, 2 for a command line or a script line, 3 for memory.
+    /// The exit status: 0 where help or the version is asked for, 1 for a file, a manifest, a stream
+    /// or what can't be saved, 2 for a command line or a script line, 3 for memory.
     pub fn status(&self) -> u8
         ensures { result ≡ faults.status_of self.now }
     {
@@ -48,7 +60,8 @@ impl Fault {
             Fault::CommandLine(_) => 2,
             Fault::CannotReadManifest | Fault::Manifest(_) => 1,
             Fault::Stream | Fault::Socket => 1,
-            Fault::NotText | Fault::BadCommand { .. } => 2,
+            Fault::NoUpper | Fault::CannotSave | Fault::LeftOut { .. } => 1,
+            Fault::NotText | Fault::SaveWithoutEnd | Fault::BadCommand { .. } => 2,
             Fault::Memory => 3,
         }
     }

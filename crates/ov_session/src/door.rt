@@ -1,20 +1,21 @@
 // What answers the calls of a session.
 ghost use Rattle.std.specs.Prelude.{◌≡◌, List, ◌++◌, ◌∷◌, []};
+ghost use Rattle.ov_frames.specs.Lending.{answer_of};
 ghost use Rattle.ov_session.specs.Doors.{EndsInCall, IsAsked, IsLastAnswer};
 ghost use Rattle.ov_session.specs.declared.exchange.Exchange.{Exchange};
 ghost use Rattle.ov_session.specs.declared.exchange.Exchange.TheVariants.{Departed};
 
 use ov_base::Call;
-use ov_frames::Answer;
+use ov_frames::{Answer, LentAnswer};
 
 /// What a door did with a call.
 #[derive(Clone, Copy, Debug, PartialEq, Eq)]
 pub enum CallOutcome {
-    /// It was answered: the session has the answer.
+    /// It was answered: the door lends the answer.
     Answered,
     /// It was not made, and no further call is to come: the session ends.
     HeldBack,
-    /// There was no memory for it or for its answer: it may have been made, and the session ends.
+    /// There was no memory to tell of it: it was not made, and the session ends.
     OutOfMemory,
 }
 
@@ -42,10 +43,10 @@ pub trait Door {
             (told session.old) (told session.new) call result }
         ensures admitted { admits self.new session.new };
 
-    /// The answer to the last call of a session.
-    fn answer<'s>(&self, session: &'s Self::Session) -> &'s Answer
+    /// The answer to the last call of a session. Whoever keeps its reply lends it.
+    fn answer<'s>(&'s self, session: &'s Self::Session) -> LentAnswer<'s>
         requires { EndsInCall (told session.now) }
-        ensures { IsLastAnswer (told session.now) result.now };
+        ensures { IsLastAnswer (told session.now) (answer_of result) };
 
     /// Detaches the client of a session.
     fn detach(&mut self, session: &mut Self::Session) -> Answer

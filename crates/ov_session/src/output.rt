@@ -1,10 +1,11 @@
 // What a session writes.
 ghost use Rattle.std.specs.Prelude.{◌≡◌, ◌<◌, ◌≤◌, [], drop, length, IfErr, OnOk};
+ghost use Rattle.ov_frames.specs.Lending.{answer_of};
 ghost use Rattle.ov_session.specs.Devices.{Gains, IsOutputEnd, IsPut, OutputAfter};
 
 use crate::ending::Ending;
 use ov_devices::{Fault, Sink};
-use ov_frames::{Answer, append_reply};
+use ov_frames::{LentAnswer, append_reply};
 use std::alloc::Global;
 
 /// How many bytes of answers are held at most before they are handed on.
@@ -32,10 +33,10 @@ impl<K> SessionOutput<K> {
 
 impl<K: Sink> SessionOutput<K> {
     /// Puts the frame of an answer behind what is held, and hands it on where that is much.
-    pub(crate) fn put(&mut self, answer: &Answer) -> Result<(), Ending>
+    pub(crate) fn put(&mut self, answer: LentAnswer<'_>) -> Result<(), Ending>
         requires few { K.failures self.old.sink < 4294967295 }
         ensures put { IsPut (K.contents self.old.sink) (K.contents self.new.sink)
-            self.old.held.items self.new.held.items answer.now result }
+            self.old.held.items self.new.held.items (answer_of answer.entry) result }
         ensures failures { OutputAfter (K.failures self.old.sink) (K.failures self.new.sink) result }
     {
         if let Err(_) = append_reply(answer, &mut self.held) {

@@ -8,7 +8,7 @@ use crate::door::{CallOutcome, Door};
 use crate::ending::Ending;
 use crate::output::SessionOutput;
 use ov_devices::Sink;
-use ov_frames::{Answer, Front, Request, front_end, front_of};
+use ov_frames::{Front, LentAnswer, Request, front_end, front_of};
 use std::alloc::Global;
 
 // Serves one request.
@@ -29,7 +29,7 @@ fn serve_one<K: Sink, D: Door>(
     match request.call(alloc) {
         Err(_) => Err(Ending::Memory),
         Ok(None) => Err(Ending::Detached),
-        Ok(Some(Err(errno))) => output.put(&Answer::NotTaken(errno)),
+        Ok(Some(Err(errno))) => output.put(LentAnswer::NotTaken(errno)),
         Ok(Some(Ok(call))) => match door.call(session, call) {
             CallOutcome::Answered => output.put(door.answer(session)),
             CallOutcome::HeldBack => Err(Ending::Stopped),

@@ -139,7 +139,7 @@ fn send_farewell<K: Sink>(output: &mut SessionOutput<K>, farewell: &Answer) -> E
         output.old.held.items output.new.held.items farewell.now result }
     ensures output { OutputAt (K.failures output.old.sink) (K.failures output.new.sink) result }
 {
-    if let Err(end) = output.put(farewell) {
+    if let Err(end) = output.put(farewell.lent()) {
         return end;
     }
     match output.flush() {

@@ -5,5 +5,5 @@ mod manifest;
 
 pub use manifest::{EntryFault, ManifestFault, layers_of, manifest_of};
 pub use ov_frames::{
-    Answer, Decoder, End, FRAME_MAX, FrameFault, Request, append_reply, encode_reply,
+    Answer, Decoder, End, FRAME_MAX, FrameFault, LentAnswer, Request, append_reply, encode_reply,
 };

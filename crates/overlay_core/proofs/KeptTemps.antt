@@ -1,5 +1,5 @@
 -- A chunk that is copied into a temp where it is kept.
-use Rattle.std.proofs.Common.{arith, ◌≡◌, ℕ, ◌+◌, ◌*◌, Bool, true, false, cond, nat_lt, nat_eq, List, [], take, Option, None, Some, option_map, unwrap_or, refl, sym, ap, ap₂, ◌∙◌, subst}
+use Rattle.std.proofs.Common.{arith, ◌≡◌, ℕ, ◌+◌, ◌*◌, Bool, true, false, cond, nat_lt, nat_eq, ◌<◌, List, [], length, take, Option, None, Some, option_map, unwrap_or, refl, sym, ap, ap₂, ◌∙◌, subst}
 use Rattle.std.specs.Prelude.{IsSomeAnd}
 use Rattle.std.proofs.lemmas.Bool.{eqb-true, eq-eqb}
 use Rattle.std.proofs.lemmas.Option.{same_Some}
@@ -9,10 +9,12 @@ use Rattle.merged_lookup.specs.Merged.{lowers_of}
 use Rattle.work_dir.specs.Beginnings.{Beginning}
 use Rattle.work_dir.specs.OpenJobs.{closed, closed_any, held, is_of, job_at, of_chunks, of_client, temp_of, unless_of, with_chunk, Changes}
 use Rattle.work_dir.specs.Chunks.{chunk_of}
+use Rattle.work_dir.specs.declared.limits.TheConstants.{CHUNKS_MAX}
+use Rattle.work_dir.specs.declared.next.Lack.TheVariants.{File}
 use Rattle.work_dir.specs.declared.next.Next.TheVariants.{Copy}
 use Rattle.work_dir.specs.declared.table.OpenJob.{OpenJob}
 use Rattle.work_dir.proofs.Jobs.{own_within, set_changes}
-use Rattle.mount_calls.specs.Lacks.{bytes_at}
+use Rattle.mount_calls.specs.Lacks.{bytes_at, lack_size}
 use Rattle.overlay_core.specs.declared.job.Job.{Job}
 use Rattle.overlay_core.specs.declared.job.Standing.TheVariants as standing
 use Rattle.overlay_core.specs.declared.turn.Turn.TheVariants.{More}
@@ -20,7 +22,7 @@ use Rattle.overlay_core.specs.declared.watched.Watched.{Watched}
 use Rattle.overlay_core.specs.Steps.{held_by, longer, without, Counts, Makes}
 use Rattle.overlay_core.specs.Temps.{AreTemps, IsTemp}
 use Rattle.overlay_core.proofs.StepsMade.{made-aside}
-use Rattle.overlay_core.proofs.TempFits.{changes-fit, held-fits, longer-fits}
+use Rattle.overlay_core.proofs.TempFits.{changes-fit, held-fits, longer-fits, temp-few, temp-part}
 
 -- what there is, of which something holds
 pub some-and : (o : Option Beginning) (P : Beginning → Type 0) → IsSomeAnd o P → (t : Beginning) × (o ≡ Some t) × P t
@@ -53,6 +55,20 @@ entry-of client chunks t (Some o) h = by (nat_eq o.client client) refl h
         let make : ℕ → Option Beginning → Option OpenJob = λ c x. Some (record { client = c; temp = x }) in
         ap₂ make (eqb-true o.client client own) (of-chunks o.temp h)
     by false own h = cc
+
+-- the temp that a job holds has as many chunks as the job counts
+held-chunks : (work : List (Option OpenJob)) (j : Job) (t : Beginning) (n : ℕ) → j.number ≡ Some n → held_by work j ≡ Some t →
+    t.chunks ≡ j.chunks
+held-chunks work j t n number e =
+    counted (temp_of (of_client j.client (job_at work n))) (subst (λ m. held work m j.client j.chunks ≡ Some t) number (held-under work j t e))
+  where
+    counted : (o : Option Beginning) → of_chunks j.chunks o ≡ Some t → t.chunks ≡ j.chunks
+    counted None h = cc
+    counted (Some x) h = by (nat_eq x.chunks j.chunks) refl h
+      where
+        by : (b : Bool) → nat_eq x.chunks j.chunks ≡ b → cond b (Some x) None ≡ Some t → t.chunks ≡ j.chunks
+        by true same h = ap (λ (y : Beginning). y.chunks) (sym (same_Some x t h)) ∙ eqb-true x.chunks j.chunks same
+        by false same h = cc
 
 -- so that entry stands under the number of a job that holds a temp
 pub held-entry : (work : List (Option OpenJob)) (j : Job) (t : Beginning) (n : ℕ) → j.number ≡ Some n →
@@ -96,6 +112,12 @@ module _ {F G : Type 0} (shows : Rule) (m : Watched F G) (work w : List (Option 
   -- of bytes that its file has
   whole : (b : List ℕ) × (bytes_at the_lowers t.source ≡ Some b)
   whole = bytes-of (bytes_at the_lowers t.source) (λ b. take (chunk_of (length b) * t.chunks) b) t.bytes fits.0
+
+  -- so where it lacks bytes the job has copied fewer chunks than a file may have
+  pub copies-few : length t.bytes < lack_size the_lowers (File t.source) → j.chunks < CHUNKS_MAX
+  copies-few less =
+      subst (λ m. m < CHUNKS_MAX) (held-chunks work j t n number holds)
+      (temp-few the_lowers t whole.0 fits whole.1 (temp-part the_lowers t whole.0 fits whole.1 less))
 
   module _ (changes : Changes work w n (with_chunk (unwrap_or (bytes_at the_lowers t.source) []) (job_at work n))) where
     -- what stands under the number now

@@ -1,18 +1,22 @@
 //! The program: shows the merged tree of a manifest, plays a script on its mount, or serves it.
 #![tactic(auto)]
 
+mod ending;
 mod listening;
+mod saving;
 
-ghost use Rattle.std.specs.Prelude.{IfOk, length, ◌≤◌};
+ghost use Rattle.std.specs.Prelude.{◌≡◌, IfOk, length, ◌≤◌};
 ghost use Rattle.locked_history.specs.Names.{blank_core};
 ghost use Rattle.ov_server.specs.Mounts.{IsMountOf};
+ghost use Rattle.overlay_core.specs.Views.{core_options};
 
+use crate::ending::{closing_in, ending_of};
 use crate::listening::listen;
+use crate::saving::Saver;
 use locked_history::Blank;
 use ov_devices::{CountedReader, CountedWriter};
 use ov_server::{
-    Fault, HistoryLength, Invocation, Output, Serving, command_line, core_of, hooks_by_slot,
-    play_run, show_run,
+    Fault, Invocation, Output, Serving, command_line, core_of, hooks_by_slot, play_run, show_run,
 };
 use socket_server::{ServeOptions, Served, serve_on};
 use std::alloc::Global;
@@ -37,7 +41,7 @@ fn main(rt: HostRuntime) -> ExitCode {
 }
 
 // The exit status, where nothing is to be told any more.
-fn run<R: Runtime + AllocGlobal + RandomSource + Net + Threads + Wait + Sync>(
+fn run<R: Runtime + AllocGlobal + RandomSource + Net + Threads + Wait + Send + Sync + 'static>(
     rt: &R,
 ) -> Result<u8, Fault> {
     let words = words(rt)?;
@@ -106,11 +110,14 @@ fn play<R: Runtime + AllocGlobal>(
     )
 }
 
-fn serve<R: Runtime + AllocGlobal + Net + Threads + Wait + Sync>(
+fn serve<R: Runtime + AllocGlobal + Net + Threads + Wait + Send + Sync + 'static>(
     rt: &R,
     keys: RandomState,
     serving: &Serving<'_>,
 ) -> Result<u8, Fault> {
+    if serving.save.is_some() && serving.sessions.is_none() && !serving.until_eof {
+        return Err(Fault::SaveWithoutEnd);
+    }
     let hooks = hooks_by_slot(rt.alloc())?;
     serve_with(rt, keys, hooks.as_slice(), serving)
 }
@@ -126,37 +133,56 @@ fn serve_with<F, H, R>(
 where
     F: Callback + Copy + Send + Sync,
     H: Rule + Send + Sync,
-    R: Runtime + AllocGlobal + Net + Threads + Wait + Sync,
+    R: Runtime + AllocGlobal + Net + Threads + Wait + Send + Sync + 'static,
 {
     let manifest = bytes_of(rt, serving.manifest, serving.manifest_limit)?;
-    let blank = blank_of(rt.alloc(), keys, manifest.as_slice(), serving.history)?;
+    let (blank, places) = blank_of(rt.alloc(), keys, manifest.as_slice(), serving)?;
+    let mut saver = Saver::new(rt, serving)?;
     let listener = listen(rt, serving)?;
+    let ending = ending_of(rt, &listener, serving)?;
     let options = ServeOptions {
         socket: serving.socket,
         workers: serving.workers as usize,
+        history: places as usize,
         sessions: serving.sessions,
         idle: serving.idle,
+        closing: closing_in(&ending),
         verbose: serving.verbose,
     };
-    match serve_on(rt, rt.alloc(), &listener, blank, hooks, &options)? {
-        Served::Done => Ok(0),
+    let served = serve_on(
+        rt,
+        rt.alloc(),
+        &listener,
+        blank,
+        hooks,
+        &options,
+        &mut saver,
+    )?;
+    saver.outcome?;
+    match served {
+        Served::Done | Served::Stopped => Ok(0),
         Served::Failed => Ok(Fault::Socket.status()),
     }
 }
 
-// A mount of a manifest's layers on which nothing was done. Its history is as long as is told, or
-// else as the manifest says.
+// A mount of a manifest's layers on which nothing was done, and how many places its history has: as
+// many as are told, or else as the manifest says. It has an upper where that is to be saved.
 fn blank_of<F: Callback + Drop, H: Rule>(
     alloc: Global,
     keys: RandomState,
     manifest: &[u8],
-    history: Option<HistoryLength>,
-) -> Result<Blank<F, H>, Fault>
-    ensures mount { IfOk result (λ blank. IsMountOf manifest.now history (blank_core blank)) }
+    serving: &Serving<'_>,
+) -> Result<(Blank<F, H>, u32), Fault>
+    ensures mount { IfOk result (λ r. IsMountOf manifest.now serving.now.history (blank_core r.0)) }
+    ensures places { IfOk result (λ r. r.1 ≡ (core_options (blank_core r.0)).history) }
 {
-    let core = core_of(alloc, keys, manifest, history)?;
+    let core = core_of(alloc, keys, manifest, serving.history)?;
+    if serving.save.is_some() && !core.has_upper() {
+        return Err(Fault::NoUpper);
+    }
+    let places = core.history();
     match Blank::new(alloc, core) {
-        Ok(blank) => Ok(blank),
+        Ok(blank) => Ok((blank, places)),
         Err(_) => Err(Fault::Memory),
     }
 }

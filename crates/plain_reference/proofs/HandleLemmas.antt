@@ -11,7 +11,7 @@ use Rattle.plain_model.specs.Tree.{Node, Leaf, Tree, Own, node_at, node_of, put}
 use Rattle.ov_base.specs.declared.bytes.Content.TheVariants.{File}
 use Rattle.plain_model.specs.Watching.{Instance, AllHear}
 use Rattle.plain_model.specs.Machine.{State, Table, Handle, handle_of, handle_node, lowest_free, place_of, write_place, DESCRIPTORS_MAX}
-use Rattle.plain_model.specs.Refusals.{refusal, FILE_MAX}
+use Rattle.plain_model.specs.Refusals.{refusal}
 use Rattle.plain_model.specs.Changes.{after, change, opened, opens, new_handle, with_handle, made_way, way_of, fresh as fresh_attributes, next_if, listed_on, moved_to, rewound, fitting, node_of_handle, over_node, with_bytes, wrote}
 use Rattle.plain_model.specs.Replies.{reply_of, page}
 use Rattle.plain_model.specs.Subjects.{subjects}
@@ -86,8 +86,8 @@ filled_alone f t (Some h) = ap (λ (o : Option Node). put t h.node o) (filled f 
 -- the state after a write of some bytes, or of none
 abbrev pub write_at : State → ℕ → ℕ → List ℕ → Bool → State
 write_at s c fd bytes none = record s {
-  tree = cond none s.tree (change (wrote (write_place s.tree (handle_of s.tables c fd)) bytes) s.tree (node_of_handle (handle_of s.tables c fd)));
-  tables = cond none s.tables (with_handle s.tables c fd (moved_to (write_place s.tree (handle_of s.tables c fd) + length (fitting (write_place s.tree (handle_of s.tables c fd)) bytes)) (handle_of s.tables c fd)));
+  tree = cond none s.tree (change (wrote s.options.file_limit (write_place s.tree (handle_of s.tables c fd)) bytes) s.tree (node_of_handle (handle_of s.tables c fd)));
+  tables = cond none s.tables (with_handle s.tables c fd (moved_to (write_place s.tree (handle_of s.tables c fd) + length (fitting s.options.file_limit (write_place s.tree (handle_of s.tables c fd)) bytes)) (handle_of s.tables c fd)));
 }
 
 -- a write by whether it has no bytes
@@ -100,6 +100,6 @@ no_part zero = refl
 no_part (suc n) = refl
 
 -- of no bytes none are written
-pub none_fit : (at : ℕ) (bytes : List ℕ) → nat_eq (length bytes) 0 ≡ true → 0 ≡ length (fitting at bytes)
-none_fit at [] e = no_part (FILE_MAX - at)
-none_fit at (b ∷ bytes) e = let zero_long : length (b ∷ bytes) ≡ 0 = eqb-true (length (b ∷ bytes)) 0 e in absurd (omega arith)
+pub none_fit : (limit at : ℕ) (bytes : List ℕ) → nat_eq (length bytes) 0 ≡ true → 0 ≡ length (fitting limit at bytes)
+none_fit limit at [] e = no_part (limit - at)
+none_fit limit at (b ∷ bytes) e = let zero_long : length (b ∷ bytes) ≡ 0 = eqb-true (length (b ∷ bytes)) 0 e in absurd (omega arith)

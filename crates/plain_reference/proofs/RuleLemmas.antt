@@ -6,7 +6,7 @@ use Rattle.ov_base.specs.declared.errno.Errno.TheVariants.{EBADF, EINVAL, EFBIG,
 use Rattle.plain_model.specs.Layers.{Path}
 use Rattle.plain_model.specs.Tree.{Node, Tree, node_at, node_of}
 use Rattle.plain_model.specs.Machine.{State, Handle, Look, Found, Absent, Fails, look, is_found, found, node_found, handle_of, handle_node}
-use Rattle.plain_model.specs.Refusals.{path_refusal, descriptor_refusal, path_of, descriptor_of, writes, writable_refusal, refusal, ◌or_else◌, when, can_write, FILE_MAX, TRANSFER_MAX}
+use Rattle.plain_model.specs.Refusals.{path_refusal, descriptor_refusal, path_of, descriptor_of, writes, writable_refusal, refusal, ◌or_else◌, when, can_write, TRANSFER_MAX}
 use Rattle.plain_model.proofs.Looking.{refusal-reading}
 use Rattle.plain_reference.proofs.OrLemmas.{or_none}
 use Rattle.plain_reference.proofs.WalkLemmas.{found-look}
@@ -51,6 +51,6 @@ by_handle s c k h x handle node none reads =
     ∙ ap (λ (e : Option Errno). e or_else descriptor_refusal s (handle_of s.tables c (descriptor_of k)) (handle_node s.tree (handle_of s.tables c (descriptor_of k))) c k) (sym none)
     ∙ sym (refusal-reading s c k reads)
 
--- the lines of a write that begins at a place
-abbrev pub write_rule : Option Handle → ℕ → List ℕ → Option Errno
-write_rule h at bytes = when (is_none h) EBADF or_else when (nat_lt TRANSFER_MAX (length bytes)) EINVAL or_else when (not (can_write h)) EBADF or_else when (nat_lt 0 (length bytes) && not (nat_lt at FILE_MAX)) EFBIG
+-- the lines of a write that begins at a place, where a file has at most so many bytes
+abbrev pub write_rule : ℕ → Option Handle → ℕ → List ℕ → Option Errno
+write_rule limit h at bytes = when (is_none h) EBADF or_else when (nat_lt TRANSFER_MAX (length bytes)) EINVAL or_else when (not (can_write h)) EBADF or_else when (nat_lt 0 (length bytes) && not (nat_lt at limit)) EFBIG

@@ -13,7 +13,7 @@ silent_all tables = map (λ table. silent table.client []) tables
 
 -- what a mount was told
 abbrev pub options_of : MountOptions → machine.MountOptions
-options_of o = record { redirects = o.redirects; metacopy = o.metacopy; read_only = o.read_only }
+options_of o = record { redirects = o.redirects; metacopy = o.metacopy; read_only = o.read_only; file_limit = o.file_limit }
 
 -- the state without watches: no client has a hook
 abbrev pub unwatched_of : Unwatched → State

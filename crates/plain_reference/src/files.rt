@@ -8,7 +8,6 @@ ghost use Rattle.plain_reference.specs.Slots.{tree_of};
 ghost use Rattle.plain_reference.specs.States.{unwatched_of, Mute};
 
 use crate::clients::open_handle;
-use crate::handle_refusals::FILE_MAX;
 use crate::handles::place_of;
 use crate::node::bytes_in;
 use crate::unwatched::Unwatched;
@@ -45,11 +44,11 @@ fn written(alloc: Global, bytes: &[u8], at: usize, new: &[u8]) -> Result<Vec<u8>
     Ok(all)
 }
 
-// What of a write fits.
-fn fitting(at: u64, bytes: &[u8]) -> &[u8]
-    ensures { result.now ≡ fitting at bytes.now }
+// What of a write fits into a file of at most `limit` bytes.
+fn fitting(limit: u64, at: u64, bytes: &[u8]) -> &[u8]
+    ensures { result.now ≡ fitting limit at bytes.now }
 {
-    let room = FILE_MAX.saturating_sub(at) as usize;
+    let room = limit.saturating_sub(at) as usize;
     &bytes[..bytes.len().min(room)]
 }
 
@@ -104,7 +103,7 @@ impl Unwatched {
         }
         let handle = self.handle(client, descriptor);
         let at = self.write_place(handle);
-        let new = fitting(at, bytes.as_slice());
+        let new = fitting(self.options.file_limit, at, bytes.as_slice());
         let old = bytes_in(self.handle_node(handle));
         let all = written(self.alloc, old, at as usize, new)?;
         self.fill(client, descriptor, all);

@@ -15,9 +15,6 @@ use crate::node::{Node, is_folder};
 use crate::unwatched::Unwatched;
 use ov_base::{Bytes, Errno};
 
-/// The most bytes of a file.
-pub const FILE_MAX: u64 = 1_048_576;
-
 /// The most bytes of one read or write.
 const TRANSFER_MAX: u32 = 65_536;
 
@@ -57,9 +54,9 @@ fn can_write(handle: Option<&Handle>) -> bool
     }
 }
 
-// The lines of a write that begins at a place.
-fn write_line(handle: Option<&Handle>, at: u64, bytes: &[u8]) -> Option<Errno>
-    ensures { result ≡ (rule.when (is_none (option_copied handle.entry)) Errno.EBADF or_else rule.when (nat_lt rule.TRANSFER_MAX (length bytes.now)) Errno.EINVAL or_else rule.when (not (rule.can_write (option_copied handle.entry))) Errno.EBADF or_else rule.when (nat_lt 0 (length bytes.now) && not (nat_lt at rule.FILE_MAX)) Errno.EFBIG) }
+// The lines of a write that begins at a place, where a file has at most `limit` bytes.
+fn write_line(limit: u64, handle: Option<&Handle>, at: u64, bytes: &[u8]) -> Option<Errno>
+    ensures { result ≡ (rule.when (is_none (option_copied handle.entry)) Errno.EBADF or_else rule.when (nat_lt rule.TRANSFER_MAX (length bytes.now)) Errno.EINVAL or_else rule.when (not (rule.can_write (option_copied handle.entry))) Errno.EBADF or_else rule.when (nat_lt 0 (length bytes.now) && not (nat_lt at limit)) Errno.EFBIG) }
 {
     if handle.is_none() {
         return Some(Errno::EBADF);
@@ -70,14 +67,14 @@ fn write_line(handle: Option<&Handle>, at: u64, bytes: &[u8]) -> Option<Errno>
     if !can_write(handle) {
         return Some(Errno::EBADF);
     }
-    if bytes.len() > 0 && at >= FILE_MAX {
+    if bytes.len() > 0 && at >= limit {
         return Some(Errno::EFBIG);
     }
     None
 }
 
-fn truncate_line(handle: Option<&Handle>, size: u64) -> Option<Errno>
-    ensures { result ≡ (rule.when (is_none (option_copied handle.entry)) Errno.EBADF or_else rule.when (not (rule.can_write (option_copied handle.entry))) Errno.EINVAL or_else rule.when (nat_lt rule.FILE_MAX size) Errno.EFBIG) }
+fn truncate_line(limit: u64, handle: Option<&Handle>, size: u64) -> Option<Errno>
+    ensures { result ≡ (rule.when (is_none (option_copied handle.entry)) Errno.EBADF or_else rule.when (not (rule.can_write (option_copied handle.entry))) Errno.EINVAL or_else rule.when (nat_lt limit size) Errno.EFBIG) }
 {
     if handle.is_none() {
         return Some(Errno::EBADF);
@@ -85,7 +82,7 @@ fn truncate_line(handle: Option<&Handle>, size: u64) -> Option<Errno>
     if !can_write(handle) {
         return Some(Errno::EINVAL);
     }
-    if size > FILE_MAX {
+    if size > limit {
         return Some(Errno::EFBIG);
     }
     None
@@ -150,13 +147,15 @@ impl Unwatched {
         ensures { result ≡ refusal (unwatched_of self.now) client (call.Write descriptor bytes.now) }
     {
         let handle = self.handle(client, descriptor);
-        write_line(handle, self.write_place(handle), bytes.as_slice())
+        let at = self.write_place(handle);
+        write_line(self.options.file_limit, handle, at, bytes.as_slice())
     }
 
     pub(crate) fn truncate_refusal(&self, client: u32, descriptor: u32, size: u64) -> Option<Errno>
         ensures { result ≡ refusal (unwatched_of self.now) client (call.Truncate descriptor size) }
     {
-        truncate_line(self.handle(client, descriptor), size)
+        let handle = self.handle(client, descriptor);
+        truncate_line(self.options.file_limit, handle, size)
     }
 
     pub(crate) fn list_refusal(&self, client: u32, descriptor: u32, count: u32) -> Option<Errno>

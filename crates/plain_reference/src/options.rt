@@ -9,4 +9,6 @@ pub struct MountOptions {
     pub metacopy: bool,
     /// Whether nothing may be written.
     pub read_only: bool,
+    /// The most bytes that a write or a truncate may give a file.
+    pub file_limit: u64,
 }

@@ -123,7 +123,6 @@ fn receipts_of<N: MountName, F: Callback + Drop, R: Rule>(
         session: _,
         receipts,
         hooks: _,
-        lost: _,
     } = left;
     receipts
 }

@@ -202,8 +202,10 @@ where
         let options = ServeOptions {
             socket: path,
             workers: 1,
+            history: 100_000,
             sessions: Some(sessions),
             idle,
+            closing: None,
             verbose: true,
         };
         let blank = blank_of::<F, R>(alloc, keys, EMPTY)?;

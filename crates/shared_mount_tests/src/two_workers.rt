@@ -142,8 +142,10 @@ where
     let options = ServeOptions {
         socket: path,
         workers: 2,
+        history: 100_000,
         sessions: Some(1),
         idle: None,
+        closing: None,
         verbose: false,
     };
     let blank = blank_of::<F, R>(alloc, keys, EMPTY)?;

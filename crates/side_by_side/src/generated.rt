@@ -1,6 +1,6 @@
 // Scripts made by a seeded generator, on the engine and on the slow reference.
 use crate::dice::Dice;
-use crate::engine::{look_ups_difference, run_of};
+use crate::engine::{look_ups_difference, look_ups_difference_in_turn, run_of};
 use crate::manifests::Manifests;
 use crate::playing::reference_difference;
 use crate::random_calls::{push_call, push_open_of};
@@ -52,6 +52,24 @@ fn script_difference(
     let engine = run_of(alloc, keys, manifest, Some(script))?;
     let text = engine.text.as_slice();
     if let Some(kept) = look_ups_difference(alloc, keys, manifest, script, text)? {
+        return Ok(Some(format!(in alloc; "with {kept} look-ups kept")?));
+    }
+    let found = reference_difference(alloc, manifest, Some(script), text)?;
+    Ok(found)
+}
+
+/// How the engine and the reference differ in what they answer to a script. A further number of kept look-ups goes by turns, and each number
+/// goes with each manifest.
+pub fn script_difference_in_turn(
+    alloc: Global,
+    keys: RandomState,
+    turn: u64,
+    (manifest, script): (&[u8], &[u8]),
+) -> io::Result<Option<String>> {
+    let engine = run_of(alloc, keys, manifest, Some(script))?;
+    let text = engine.text.as_slice();
+    let kept = look_ups_difference_in_turn(alloc, keys, turn, (manifest, script), text)?;
+    if let Some(kept) = kept {
         return Ok(Some(format!(in alloc; "with {kept} look-ups kept")?));
     }
     let found = reference_difference(alloc, manifest, Some(script), text)?;

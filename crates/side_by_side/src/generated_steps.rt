@@ -1,9 +1,8 @@
 // Scripts of calls in steps made by a seeded generator, on the engine and on the slow reference.
 use crate::dice::Dice;
-use crate::engine::{look_ups_difference_in_turn, run_of};
 use crate::expanded::push_line;
+use crate::generated::script_difference_in_turn;
 use crate::manifests::{Manifest, Manifests};
-use crate::playing::reference_difference;
 use crate::random_calls::push_open_of;
 use crate::random_steps::{FILES, PLACES, push_turn};
 use crate::random_watches::push_arm_of;
@@ -68,27 +67,10 @@ fn step_difference(
     seed: u64,
 ) -> io::Result<Option<String>> {
     let hooks = hooks_by_slot(alloc)?;
-    match drafted(alloc, keys, manifest, hooks.as_slice(), seed)? {
-        Some(script) => script_difference(alloc, keys, seed, (manifest.text, script.as_bytes())),
-        None => Ok(Some(String::from_str(alloc, "there is no mount")?)),
-    }
-}
-
-// A further number of kept look-ups goes by turns, and each number goes with each manifest.
-fn script_difference(
-    alloc: Global,
-    keys: RandomState,
-    seed: u64,
-    (manifest, script): (&[u8], &[u8]),
-) -> io::Result<Option<String>> {
-    let engine = run_of(alloc, keys, manifest, Some(script))?;
-    let text = engine.text.as_slice();
-    let kept = look_ups_difference_in_turn(alloc, keys, seed >> 2, (manifest, script), text)?;
-    if let Some(kept) = kept {
-        return Ok(Some(format!(in alloc; "with {kept} look-ups kept")?));
-    }
-    let found = reference_difference(alloc, manifest, Some(script), text)?;
-    Ok(found)
+    let Some(script) = drafted(alloc, keys, manifest, hooks.as_slice(), seed)? else {
+        return Ok(Some(String::from_str(alloc, "there is no mount")?));
+    };
+    script_difference_in_turn(alloc, keys, seed >> 2, (manifest.text, script.as_bytes()))
 }
 
 // The script of a seed. None where there is no mount.

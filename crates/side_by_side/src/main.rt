@@ -10,6 +10,7 @@ mod engine;
 mod entries;
 mod expanded;
 mod generated;
+mod generated_limits;
 mod generated_steps;
 mod history;
 mod kept_trees;
@@ -22,6 +23,7 @@ mod pending;
 mod plain_layer;
 mod playing;
 mod random_calls;
+mod random_limits;
 mod random_steps;
 mod random_watches;
 mod rows;
@@ -34,6 +36,7 @@ mod told_layers;
 mod tree_lines;
 
 use crate::generated::play_generated;
+use crate::generated_limits::play_generated_limits;
 use crate::generated_steps::play_generated_steps;
 use crate::playing::{Verdict, judged};
 use crate::rows::rows_in;
@@ -105,7 +108,8 @@ fn main(rt: HostRuntime) -> io::Result<()> {
     for manifest in MANIFESTS {
         play_generated(&rt, keys, manifest)?;
     }
-    play_generated_steps(&rt, keys)
+    play_generated_steps(&rt, keys)?;
+    play_generated_limits(&rt, keys)
 }
 
 // Plays the rows of a file, tells of each, and counts those that agree.

@@ -13,6 +13,9 @@ use std::alloc::{AllocError, Global};
 use std::collections::BTreeMap;
 use toml::{Table, Value};
 
+/// The most bytes of a file where a manifest doesn't say otherwise.
+const FILE_LIMIT: u64 = 1_048_576;
+
 /// The reference, what its mount began with, its history, and the calls in steps of its clients.
 #[derive(Drop)]
 pub struct PlainMount {
@@ -52,11 +55,21 @@ fn opened(alloc: Global, manifest: &Table) -> Result<Option<(Reference, usize)>,
         redirects: is_on(manifest, "redirect_dir"),
         metacopy: is_on(manifest, "metacopy"),
         read_only: !has_upper(manifest),
+        file_limit: file_limit_of(manifest),
     };
     match reference_of(alloc, layers.as_slice(), options)? {
         Some(reference) => Ok(Some((reference, layers.len()))),
         None => Ok(None),
     }
+}
+
+// The most bytes of a file.
+fn file_limit_of(manifest: &Table) -> u64 {
+    manifest
+        .get("file_limit")
+        .and_then(Value::as_integer)
+        .and_then(|limit| u64::try_from(limit).ok())
+        .unwrap_or(FILE_LIMIT)
 }
 
 // Whether a manifest has an option on.
@@ -139,6 +152,7 @@ pub fn lines_of(alloc: Global, layers: &[PlainLayer<'_>]) -> Result<String, Allo
         redirects: false,
         metacopy: false,
         read_only: false,
+        file_limit: FILE_LIMIT,
     };
     if let Some(reference) = reference_of(alloc, layers, options)? {
         push_tree(alloc, &reference, &mut lines)?;

@@ -7,7 +7,7 @@ use Rattle.ov_session.specs.declared.exchange.Exchange.TheVariants.{Departed}
 use Rattle.locked_history.specs.Claims.{Claim, IsAttachOf}
 use Rattle.mount_door.specs.Advancing.{Advances, Standing}
 use Rattle.socket_server.specs.declared.served.Served.{Served}
-use Rattle.socket_server.specs.declared.served.Served.TheVariants.{Done, Failed}
+use Rattle.socket_server.specs.declared.served.Served.TheVariants.{Done, Failed, Stopped}
 use Rattle.socket_server.specs.declared.worker.Worked.{Worked}
 
 -- where a client stands that was just attached
@@ -16,7 +16,6 @@ beginning client came = record {
   client = client;
   number = 2;
   receipts = came ∷ [];
-  lost = false;
 }
 
 -- THE CLIENT OF A CONNECTION was attached with hooks of these tags, and went on as its exchanges
@@ -32,20 +31,22 @@ pub record IsClient (tags : List ℕ) (receipts : List Claim) : Type 0 where
   pub went : Advances (beginning client came) (told ++ Departed farewell ∷ []) left
   pub all : left.receipts ≡ receipts
 
--- how the server ends: it fails where one of its workers did
-abbrev pub end_of : Bool → Served
-end_of true = Failed
-end_of false = Done
+-- how the server ends: it fails where one of its workers did, and else is stopped where one was
+abbrev pub end_of : Bool → Bool → Served
+end_of true stopped = Failed
+end_of false true = Stopped
+end_of false false = Done
 
 -- the receipts of all that the clients of a worker did
 abbrev pub receipts_in : {N : Type 0} → Worked N → List Claim
 receipts_in worked = flat_map (λ receipts. receipts.items) worked.clients.items
 
--- each client of a worker was one of a connection; where the worker didn't fail, it took as many
--- connections as it was to, without a number 2^64 - 1, and each had a client or was refused one
+-- each client of a worker was one of a connection; where the worker didn't fail and wasn't stopped,
+-- it took as many connections as it was to, without a number 2^64 - 1, and each had a client or was
+-- refused one
 pub record IsWork {N : Type 0} (tags : List ℕ) (sessions : Option ℕ) (worked : Worked N) : Type 0 where
   pub clients : All (λ receipts. IsClient tags receipts.items) worked.clients.items
-  pub all : worked.failed ≡ false →
+  pub all : worked.failed ≡ false → worked.stopped ≡ false →
       length worked.clients.items + worked.refused ≡ unwrap_or sessions 18446744073709551615
 
 -- so many workers served, and these are the receipts of all that their clients did
@@ -56,3 +57,4 @@ pub record Serves (N : Type 0) (tags : List ℕ) (count : ℕ) (sessions : Optio
   pub work : All (IsWork tags sessions) workers
   pub all : receipts ≡ flat_map receipts_in workers
   pub end : served ≡ end_of (list_any (λ worked. worked.failed) workers)
+      (list_any (λ worked. worked.stopped) workers)

@@ -36,6 +36,11 @@ impl Connection {
         self.stream.set_write_timeout(limit)
     }
 
+    /// Its stream.
+    pub(crate) fn stream(&self) -> &UnixStream {
+        &self.stream
+    }
+
     /// Whether a read or a write waited too long.
     pub(crate) fn timed_out(&self) -> bool {
         self.timed_out.load(Ordering::SeqCst)

@@ -7,7 +7,8 @@ use std::alloc::{AllocError, Global};
 use std::fmt;
 use std::fmt::{Display, Formatter, Write};
 
-/// What is told of a session, or how many lines were lost. To tell it takes no memory.
+/// What is told of a session or of the history, or how many lines were lost. To tell it takes no
+/// memory.
 #[derive(Clone, Copy)]
 pub(crate) enum Line {
     Begins {
@@ -24,6 +25,10 @@ pub(crate) enum Line {
         ending: Ending,
         timed_out: bool,
     },
+    /// Nine tenths of a history of so many places are used.
+    NineTenths(usize),
+    /// All places of a history are used.
+    Full(usize),
     Lost(u64),
 }
 
@@ -51,6 +56,18 @@ impl Display for Line {
                 write!(
                     f,
                     "overlayd: session {session} ends after {calls} calls: {how}\n"
+                )
+            }
+            Line::NineTenths(places) => {
+                write!(
+                    f,
+                    "overlayd: nine tenths of the history's {places} places are used\n"
+                )
+            }
+            Line::Full(places) => {
+                write!(
+                    f,
+                    "overlayd: the history is full: its {places} places are used\n"
                 )
             }
             Line::Lost(count) => write!(f, "overlayd: lines lost: {count}\n"),

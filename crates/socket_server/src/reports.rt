@@ -1,11 +1,14 @@
 // What a server tells on standard error, and its counts.
+use crate::history_marks::HistoryMarks;
 use crate::lines::{Line, Waiting};
+use locked_history::{Mount, MountName};
 use ov_base::Errno;
 use ov_session::Ending;
 use std::alloc::{AllocError, Global};
 use std::io::Eprint;
 use std::sync::atomic::{AtomicBool, AtomicU64, Ordering};
 use std::sync::{Condvar, Mutex, Wait};
+use watch_table::{Callback, Rule};
 
 /// How many lines wait at most to be told.
 const LINES_MOST: usize = 1_024;
@@ -21,6 +24,7 @@ pub struct Reports<'r, E: Eprint + Wait> {
     changed: Condvar,
     sessions: AtomicU64,
     calls: AtomicU64,
+    history: HistoryMarks,
     failed: AtomicBool,
 }
 
@@ -35,6 +39,7 @@ impl<'r, E: Eprint + Wait> Reports<'r, E> {
             changed: Condvar::new(),
             sessions: AtomicU64::new(0),
             calls: AtomicU64::new(0),
+            history: HistoryMarks::new(),
             failed: AtomicBool::new(false),
         })
     }
@@ -48,6 +53,15 @@ impl<'r, E: Eprint + Wait> Reports<'r, E> {
         }
     }
 
+    /// So many workers serve, since the system gives no more threads, of those that were asked for.
+    pub(crate) fn lacks(&self, serving: usize, asked: usize) {
+        if self.verbose {
+            let _ = self.rt.eprint(format_args!(
+                "overlayd: {serving} of {asked} workers serve: the system gives no more threads\n"
+            ));
+        }
+    }
+
     /// A connection came. Sessions are numbered from 1.
     pub fn comes(&self) -> u64 {
         self.sessions
@@ -57,6 +71,7 @@ impl<'r, E: Eprint + Wait> Reports<'r, E> {
 
     /// A session began.
     pub fn begins(&self, session: u64, client: u64) {
+        self.history.comes();
         self.put(Line::Begins { session, client });
     }
 
@@ -68,12 +83,36 @@ impl<'r, E: Eprint + Wait> Reports<'r, E> {
     /// A session ended, as it did or since its connection waited too long.
     pub fn ends(&self, session: u64, calls: u64, ending: Ending, timed_out: bool) {
         self.calls.fetch_add(calls, Ordering::SeqCst);
+        self.history.goes();
         self.put(Line::Ends {
             session,
             calls,
             ending,
             timed_out,
         });
+    }
+
+    /// Tells once each that nine tenths and all of a mount's history of so many places are used. A
+    /// place that is kept for the detach of a client is used.
+    pub(crate) fn looks<N: MountName, F: Callback, R: Rule>(
+        &self,
+        mount: &Mount<N, F, R>,
+        places: usize,
+    ) {
+        if !self.verbose {
+            return;
+        }
+        if self.history.comes_to_nine_tenths(mount, places) {
+            self.put(Line::NineTenths(places));
+        }
+        if self.history.comes_to_all(mount, places) {
+            self.put(Line::Full(places));
+        }
+    }
+
+    /// Whether more is told than failures.
+    pub(crate) fn is_verbose(&self) -> bool {
+        self.verbose
     }
 
     /// A worker can't go on. It is told once by a server.

@@ -3,6 +3,8 @@
 pub enum Served {
     /// Each worker took its connections, and served or refused each.
     Done,
+    /// It was closed before: no worker failed, and one at least took fewer connections.
+    Stopped,
     /// A worker could not go on, which was told.
     Failed,
 }

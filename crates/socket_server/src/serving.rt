@@ -1,5 +1,5 @@
 // All workers of a server.
-ghost use Rattle.std.specs.Prelude.{◌≡◌, ◌++◌, ◌≤◌, All, IfOk, List, OnOk, filter, length, map};
+ghost use Rattle.std.specs.Prelude.{◌≡◌, ◌≢◌, ◌++◌, ◌≤◌, All, IfOk, List, None, OnOk, false, filter, length, map};
 ghost use Rattle.std.specs.List.{flat_map, list_any};
 ghost use Rattle.locked_history.specs.Claims.{Claim, StandsIn, is_past_end, uncounted};
 ghost use Rattle.locked_history.specs.Entries.{history_of};
@@ -9,8 +9,11 @@ ghost use Rattle.locked_history.specs.Views.{core_past, entries_past};
 ghost use Rattle.socket_server.specs.Working.{IsWork, Serves, receipts_in};
 ghost use Rattle.socket_server.specs.Working as working;
 
+use crate::closing::Closing;
+use crate::keeper::Keeper;
 use crate::reports::Reports;
 use crate::served::Served;
+use crate::threads::threads_to_be_had;
 use crate::worker::{Worked, work};
 use locked_history::{Blank, Mount, MountName, Past, Receipt};
 use std::alloc::{AllocError, Global};
@@ -23,17 +26,21 @@ use std::thread::Threads;
 use watch_table::{Callback, Hook, Rule};
 
 /// How a server serves.
-#[derive(Clone, Copy, Debug, PartialEq, Eq)]
+#[derive(Clone, Copy)]
 pub struct ServeOptions<'a> {
     /// The path of its socket, which is told where it listens.
     pub socket: &'a str,
     /// How many connections it serves at once.
     pub workers: usize,
+    /// How many places the history of its mount has; it tells when they are used.
+    pub history: usize,
     /// After how many sessions each worker ends; none where they never do.
     pub sessions: Option<u64>,
     /// After how many seconds, at least one, a connection ends that sends nothing or takes nothing;
     /// none where it never does.
     pub idle: Option<u64>,
+    /// What ends it before; none where nothing does.
+    pub closing: Option<&'a Closing>,
     /// Whether it tells what it does.
     pub verbose: bool,
 }
@@ -66,6 +73,7 @@ fn gathered<N: MountName>(
             clients,
             refused: _,
             failed: _,
+            stopped: _,
         } = worked;
         put_all(&mut all, clients)?;
     }
@@ -79,11 +87,24 @@ fn has_failed<N: MountName>(workers: &[Worked<N>]) -> bool
     workers.iter().any(|worked| worked.failed)
 }
 
-// How the server ended.
-fn end_of(failed: bool) -> Served
-    ensures { result ≡ working.end_of failed }
+// Whether one of the workers was stopped.
+fn was_stopped<N: MountName>(workers: &[Worked<N>]) -> bool
+    ensures { result ≡ list_any (λ worked. worked.stopped) workers.now }
 {
-    if failed { Served::Failed } else { Served::Done }
+    workers.iter().any(|worked| worked.stopped)
+}
+
+// How the server ended.
+fn end_of(failed: bool, stopped: bool) -> Served
+    ensures { result ≡ working.end_of failed stopped }
+{
+    if failed {
+        Served::Failed
+    } else if stopped {
+        Served::Stopped
+    } else {
+        Served::Done
+    }
 }
 
 // Has the workers serve, and their lines end when all have ended.
@@ -104,19 +125,22 @@ where
     ensures count { IfOk result (λ left. length left.items ≡ options.now.workers) }
     ensures work { IfOk result (λ left.
         All (IsWork (map (λ h. h.tag) hooks.now) options.now.sessions) left.items) }
+    ensures stopped { options.now.closing ≡ None
+        → IfOk result (λ left. All (λ worked. worked.stopped ≡ false) left.items) }
 {
     let left = thread::map_indices(
         rt,
         alloc,
         options.workers,
-        &|_| work(rt, alloc, listener, mount, hooks, reports, options),
+        &|worker| work(worker, rt, alloc, listener, mount, hooks, reports, options),
     );
     reports.close();
     left
 }
 
-// What the first of two threads does, which has the workers serve, or else the second, which tells
-// their lines and leaves nothing.
+// What the second of two threads does, which has the workers serve, or else the first, which tells
+// their lines and leaves nothing. Where the system gives no thread more, the second is done first, in
+// the thread that asks for both.
 fn work_or_tell<N, F, R, H>(
     thread: usize,
     rt: &H,
@@ -132,11 +156,13 @@ where
     F: Callback + Copy + Send + Sync,
     R: Rule + Send + Sync,
     H: Threads + Wait + Eprint + Sync,
-    ensures count { thread ≡ 0 → IfOk result (λ left. length left.items ≡ options.now.workers) }
+    ensures count { thread ≡ 1 → IfOk result (λ left. length left.items ≡ options.now.workers) }
     ensures work { IfOk result (λ left.
         All (IsWork (map (λ h. h.tag) hooks.now) options.now.sessions) left.items) }
+    ensures stopped { options.now.closing ≡ None
+        → IfOk result (λ left. All (λ worked. worked.stopped ≡ false) left.items) }
 {
-    if thread == 0 {
+    if thread == 1 {
         work_all(rt, alloc, listener, mount, hooks, reports, options)
     } else {
         reports.tell_all();
@@ -162,6 +188,8 @@ where
     ensures count { IfOk result (λ left. length left.items ≡ options.now.workers) }
     ensures work { IfOk result (λ left.
         All (IsWork (map (λ h. h.tag) hooks.now) options.now.sessions) left.items) }
+    ensures stopped { options.now.closing ≡ None
+        → IfOk result (λ left. All (λ worked. worked.stopped ≡ false) left.items) }
 {
     let mut left = thread::map_indices(
         rt,
@@ -169,12 +197,29 @@ where
         2,
         &|thread| work_or_tell(thread, rt, alloc, listener, mount, hooks, reports, options),
     )?;
-    left.swap_remove(0)
+    left.swap_remove(1)
+}
+
+// Tells where fewer workers serve than were asked for, for want of threads: this one is a worker's,
+// and one of those that can be had tells the lines.
+fn tell_of_threads<H: Threads + Wait + Eprint + Sync>(
+    rt: &H,
+    reports: &Reports<'_, H>,
+    workers: usize,
+) {
+    if !reports.is_verbose() {
+        return;
+    }
+    let serving = threads_to_be_had(rt, workers).max(1);
+    if serving < workers {
+        reports.lacks(serving, workers);
+    }
 }
 
 /// Serves the clients of a mount, each with copies of these hooks, until all workers have ended. The
 /// receipts of all that they did are handed back, and how the server ended: `Done` only where each
-/// worker took its connections, and each of these had a client or was refused one.
+/// worker took its connections, and each of these had a client or was refused one, and `Stopped` only
+/// where something ends it.
 pub fn serve_mount<N, F, R, H>(
     rt: &H,
     alloc: Global,
@@ -189,12 +234,16 @@ where
     F: Callback + Copy + Send + Sync,
     R: Rule + Send + Sync,
     H: Threads + Wait + Eprint + Sync,
-    ensures { IfOk result (λ r. Serves N (map (λ h. h.tag) hooks.now)
+    ensures served { IfOk result (λ r. Serves N (map (λ h. h.tag) hooks.now)
         options.now.workers options.now.sessions r.0.items r.1) }
+    ensures stopped { IfOk result (λ r. options.now.closing ≡ None → r.1 ≢ Served.Stopped) }
 {
     reports.listens(options.socket, options.workers);
+    tell_of_threads(rt, reports, options.workers);
     let workers = work_and_tell(rt, alloc, listener, mount, hooks, reports, options)?;
-    let end = end_of(has_failed(workers.as_slice()));
+    let failed = has_failed(workers.as_slice());
+    let stopped = was_stopped(workers.as_slice());
+    let end = end_of(failed, stopped);
     let receipts = gathered(alloc, workers)?;
     Ok((receipts, end))
 }
@@ -227,6 +276,7 @@ where
         options.now.workers options.now.sessions receipts r.2
         × All (StandsIn (entries_past r.0)) receipts
         × (r.1.items ≡ filter (is_past_end (entries_past r.0)) (map uncounted receipts))) }
+    ensures stopped { IfOk result (λ r. options.now.closing ≡ None → r.2 ≢ Served.Stopped) }
 {
     let mount: Mount<N, F, R> = Mount::open(blank);
     let (receipts, end) = serve_mount(rt, alloc, listener, &mount, hooks, reports, options)?;
@@ -234,20 +284,23 @@ where
     Ok((past, left, end))
 }
 
-// The same, told of on standard error. No type of its signature names the mount.
-fn serve_named<N, F, R, H>(
+// The same, told of on standard error; the core is lent to a keeper then. No type of its signature
+// names the mount.
+fn serve_named<N, F, R, H, K>(
     rt: &H,
     alloc: Global,
     listener: &UnixListener,
     blank: Blank<F, R>,
     hooks: &[Hook<F, R>],
     options: &ServeOptions<'_>,
+    keeper: &mut K,
 ) -> Result<Served, AllocError>
 where
     N: MountName + Send + Sync,
     F: Callback + Copy + Send + Sync,
     R: Rule + Send + Sync,
     H: Threads + Wait + Eprint + Sync,
+    K: Keeper,
     requires { IsNamed N.cells N.name N.parts N.opening blank }
 {
     let reports = Reports::new(rt, alloc, options.verbose)?;
@@ -255,22 +308,27 @@ where
         rt, alloc, listener, blank, hooks, &reports, options,
     )?;
     reports.sums_up(past.len());
+    keeper.keep(past.core());
     Ok(end)
 }
+
 /// Serves the clients of a blank mount on a socket, each with copies of these hooks, until all
-/// workers have ended. What they did is one legal history, which ends in the state of the core.
-pub fn serve_on<F, R, H>(
+/// workers have ended. What they did is one legal history, which ends in the state of the core that
+/// the keeper is lent then.
+pub fn serve_on<F, R, H, K>(
     rt: &H,
     alloc: Global,
     listener: &UnixListener,
     blank: Blank<F, R>,
     hooks: &[Hook<F, R>],
     options: &ServeOptions<'_>,
+    keeper: &mut K,
 ) -> Result<Served, AllocError>
 where
     F: Callback + Copy + Send + Sync,
     R: Rule + Send + Sync,
     H: Threads + Wait + Eprint + Sync,
+    K: Keeper,
 {
-    serve_named::<Brand, F, R, H>(rt, alloc, listener, blank, hooks, options)
+    serve_named::<Brand, F, R, H, K>(rt, alloc, listener, blank, hooks, options, keeper)
 }

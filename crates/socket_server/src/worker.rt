@@ -1,14 +1,15 @@
 // A worker: it takes one connection after the other. The client of a connection is attached, its
 // session is run, and it is detached before its stream is closed.
-ghost use Rattle.std.specs.Prelude.{◌≡◌, ◌+◌, ◌<◌, ◌∷◌, [], All, IfOk, MatchResult, OnErr, false, length, map, true};
+ghost use Rattle.std.specs.Prelude.{◌≡◌, ◌+◌, ◌<◌, ◌∷◌, [], All, IfOk, MatchResult, None, OnErr, false, length, map, true};
 ghost use Rattle.std.specs.Vec.{vec_capacity, vec_len};
 ghost use Rattle.locked_history.specs.Claims.{Claim, IsAttachOf};
 ghost use Rattle.socket_server.specs.Working.{IsClient, IsWork};
 
 use crate::connection::Connection;
+use crate::guard::Guard;
 use crate::reports::Reports;
 use crate::serving::ServeOptions;
-use locked_history::{Mount, MountName, Open, Receipt, Session};
+use locked_history::{Mount, MountName, Receipt, Session};
 use mount_door::{Departure, run_session};
 use ov_base::Errno;
 use ov_devices::{CountedReader, CountedWriter};
@@ -21,12 +22,14 @@ use std::sync::Wait;
 use watch_table::{Callback, Hook, Rule};
 
 /// What a worker leaves of the connections that it took: the receipts of each client that was
-/// attached, how many connections were refused a client, and whether it could not go on.
+/// attached, how many connections were refused a client, whether it could not go on, and whether it
+/// was stopped since the server was closed.
 #[derive(Drop)]
 pub(crate) struct Worked<N: MountName> {
     pub(crate) clients: Vec<Vec<Receipt<N>>>,
     pub(crate) refused: u64,
     pub(crate) failed: bool,
+    pub(crate) stopped: bool,
 }
 
 // Other hooks of the same tags and callbacks.
@@ -74,10 +77,10 @@ fn attach<N: MountName, F: Callback + Copy, R: Rule, H: Wait>(
 
 // Runs the session of a client that was just attached with copies of these hooks, over its
 // connection.
-fn converse<N: MountName, F: Callback + Copy, R: Rule, H: Wait>(
+fn converse<N: MountName, F: Callback + Copy, R: Rule, H: Wait + Eprint>(
     rt: &H,
     alloc: Global,
-    mount: &Mount<N, F, R>,
+    guard: &Guard<'_, '_, N, F, R, H>,
     hooks: &[Hook<F, R>],
     connection: &Connection,
     session: Session,
@@ -95,8 +98,8 @@ fn converse<N: MountName, F: Callback + Copy, R: Rule, H: Wait>(
     run_session(
         rt,
         alloc,
-        mount,
-        &Open,
+        guard.mount,
+        guard,
         session,
         receipts,
         &mut input,
@@ -118,9 +121,8 @@ fn limited(connection: &Connection, idle: Option<u64>) -> io::Result<()> {
 fn serve<N: MountName, F: Callback + Copy, R: Rule, H: Wait + Eprint>(
     rt: &H,
     alloc: Global,
-    mount: &Mount<N, F, R>,
+    guard: &Guard<'_, '_, N, F, R, H>,
     hooks: &[Hook<F, R>],
-    reports: &Reports<'_, H>,
     connection: &Connection,
     idle: Option<u64>,
     worked: &mut Worked<N>,
@@ -134,6 +136,7 @@ fn serve<N: MountName, F: Callback + Copy, R: Rule, H: Wait + Eprint>(
         (λ _. length worked.new.clients.items ≡ length worked.old.clients.items) }
     ensures refused { worked.new.refused ≡ worked.old.refused }
     ensures failed { OnErr result (worked.new.failed ≡ worked.old.failed) }
+    ensures stopped { worked.new.stopped ≡ worked.old.stopped }
 {
     let Ok(()) = worked.clients.reserve(1) else {
         return Err(Errno::ENOMEM);
@@ -141,31 +144,35 @@ fn serve<N: MountName, F: Callback + Copy, R: Rule, H: Wait + Eprint>(
     let Ok(()) = limited(connection, idle) else {
         return Err(Errno::EINVAL);
     };
+    let Ok(()) = guard.enters(rt, connection.stream()) else {
+        return Err(Errno::EMFILE);
+    };
     let number = connection.number;
-    let (session, own) = attach(rt, alloc, mount, hooks)?;
-    reports.begins(number, session.client);
+    let (session, own) = attach(rt, alloc, guard.mount, hooks)?;
+    guard.reports.begins(number, session.client);
     let Departure {
         ending,
         calls,
         session: _,
         receipts,
         hooks: back,
-        lost: _,
-    } = converse(rt, alloc, mount, hooks, connection, session, own);
-    reports.ends(number, calls, ending, connection.timed_out());
+    } = converse(rt, alloc, guard, hooks, connection, session, own);
+    guard
+        .reports
+        .ends(number, calls, ending, connection.timed_out());
     worked.clients.push_reserved(receipts);
     worked.failed = back.is_none();
     Ok(())
 }
 
-// Takes a connection and serves it, or refuses it a client; or it can't take one.
+// Takes a connection and serves it, or refuses it a client; or it can't take one, or takes none since
+// the server is closed.
 fn take<N: MountName, F: Callback + Copy, R: Rule, H: Wait + Eprint>(
     rt: &H,
     alloc: Global,
     listener: &UnixListener,
-    mount: &Mount<N, F, R>,
+    guard: &Guard<'_, '_, N, F, R, H>,
     hooks: &[Hook<F, R>],
-    reports: &Reports<'_, H>,
     idle: Option<u64>,
     worked: &mut Worked<N>,
 )
@@ -174,24 +181,34 @@ fn take<N: MountName, F: Callback + Copy, R: Rule, H: Wait + Eprint>(
         worked.old.clients.items
         → All (λ receipts. IsClient (map (λ h. h.tag) hooks.now) receipts.items)
         worked.new.clients.items }
-    ensures count { worked.new.failed ≡ false → length worked.new.clients.items + worked.new.refused
+    ensures count { worked.new.failed ≡ false → worked.new.stopped ≡ false
+        → length worked.new.clients.items + worked.new.refused
         ≡ (length worked.old.clients.items + worked.old.refused) + 1 }
+    ensures stopped { guard.now.closing ≡ None → worked.new.stopped ≡ worked.old.stopped }
 {
-    let Ok((stream, _)) = listener.accept() else {
+    let outcome = listener.accept();
+    if guard.is_closed() {
+        worked.stopped = true;
+        return;
+    }
+    let Ok((stream, _)) = outcome else {
         worked.failed = true;
         return;
     };
-    let connection = Connection::new(reports.comes(), stream);
-    if let Err(errno) = serve(rt, alloc, mount, hooks, reports, &connection, idle, worked) {
+    let connection = Connection::new(guard.reports.comes(), stream);
+    if let Err(errno) = serve(rt, alloc, guard, hooks, &connection, idle, worked) {
         connection.refuse(errno);
-        reports.refuses(connection.number, errno);
+        guard.reports.refuses(connection.number, errno);
         worked.refused += 1;
     }
+    guard.leaves(rt);
+    guard.look();
 }
 
 /// Takes connections, so many or nearly without an end, and serves each. It ends early where it can
-/// take none, or a client's detach is refused, which is told.
+/// take none, or a client's detach is refused, which is told, and where the server is closed.
 pub(crate) fn work<N: MountName, F: Callback + Copy, R: Rule, H: Wait + Eprint>(
+    worker: usize,
     rt: &H,
     alloc: Global,
     listener: &UnixListener,
@@ -200,27 +217,29 @@ pub(crate) fn work<N: MountName, F: Callback + Copy, R: Rule, H: Wait + Eprint>(
     reports: &Reports<'_, H>,
     options: &ServeOptions<'_>,
 ) -> Worked<N>
-    ensures { IsWork (map (λ h. h.tag) hooks.now) options.now.sessions result }
+    ensures work { IsWork (map (λ h. h.tag) hooks.now) options.now.sessions result }
+    ensures stopped { options.now.closing ≡ None → result.stopped ≡ false }
 {
     let mut worked = Worked {
         clients: Vec::new(alloc),
         refused: 0,
         failed: false,
+        stopped: false,
+    };
+    let guard = Guard {
+        mount,
+        places: options.history,
+        reports,
+        closing: options.closing,
+        worker,
     };
     let idle = options.idle;
     for _ in 0..options.sessions.unwrap_or(u64::MAX) {
-        take(
-            rt,
-            alloc,
-            listener,
-            mount,
-            hooks,
-            reports,
-            idle,
-            &mut worked,
-        );
+        take(rt, alloc, listener, &guard, hooks, idle, &mut worked);
         if worked.failed {
             reports.fails();
+        }
+        if worked.failed || worked.stopped {
             break;
         }
     }

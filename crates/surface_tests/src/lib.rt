@@ -1,6 +1,6 @@
 //! Tests of what no script reaches: sessions on a core, streams that fail, command lines, options, schedules of jobs, callbacks that are
-//! asked, hooks that are too many, marks that no manifest makes, places that are freed, and public functions that no command calls. Scripts
-//! and manifests with what they come to are rows of `side_by_side`.
+//! asked, hooks that are too many, marks and long files that no manifest makes, places that are freed, and public functions that no command
+//! calls. Scripts and manifests with what they come to are rows of `side_by_side`.
 #![tactic(auto)]
 
 #[cfg(test)]
@@ -15,6 +15,8 @@ mod freed_places;
 mod hooks;
 #[cfg(test)]
 mod interleaved;
+#[cfg(test)]
+mod long_files;
 #[cfg(test)]
 mod look_ups;
 #[cfg(test)]

@@ -6,19 +6,21 @@ use std::test::Fail;
 
 #[test]
 fn options_of_manifests(rt: HostRuntime) -> Result<(), Fail> {
-    for (top, redirects, metacopy, history) in [
-        ("", false, false, 100_000),
+    for (top, redirects, metacopy, history, file_limit) in [
+        ("", false, false, 100_000, 1_048_576),
         (
-            "redirect_dir = \"on\"\nmetacopy = \"on\"\nhistory = 7\n",
+            "redirect_dir = \"on\"\nmetacopy = \"on\"\nhistory = 7\nfile_limit = 1\n",
             true,
             true,
             7,
+            1,
         ),
         (
-            "redirect_dir = \"off\"\nhistory = 1000000\n",
+            "redirect_dir = \"off\"\nhistory = 1000000\nfile_limit = 0x100_0000_0000\n",
             false,
             false,
             1_000_000,
+            1_099_511_627_776,
         ),
     ] {
         let manifest = format!(in rt.alloc(); "{top}layer = [{{}}, {{}}]")?;
@@ -26,6 +28,7 @@ fn options_of_manifests(rt: HostRuntime) -> Result<(), Fail> {
         assert_eq!(rt; options.redirects, redirects, "{top}");
         assert_eq!(rt; options.metacopy, metacopy, "{top}");
         assert_eq!(rt; options.history, history, "{top}");
+        assert_eq!(rt; options.file_limit, file_limit, "{top}");
         assert_eq!(rt; lowers.len(), 1);
     }
     Ok(())

@@ -195,7 +195,7 @@ fn shows<F: Callback + Copy, H: Rule>(
 }
 
 // Opens a file for reading, or else for writing.
-fn open<F: Callback + Copy, H: Rule>(
+pub fn open<F: Callback + Copy, H: Rule>(
     rt: &impl Abort,
     alloc: Global,
     core: &mut Core<F, H>,
@@ -215,7 +215,7 @@ fn open<F: Callback + Copy, H: Rule>(
 }
 
 // Whether a file has these bytes and no more.
-fn has_bytes<F: Callback + Copy, H: Rule>(
+pub fn has_bytes<F: Callback + Copy, H: Rule>(
     rt: &impl Abort,
     alloc: Global,
     core: &mut Core<F, H>,

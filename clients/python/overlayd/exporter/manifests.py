@@ -177,7 +177,7 @@ class _Lines(_Source):
         """A line before the first entry of a layer."""
         if key == "upper" and value in (b"true", b"false"):
             self.has_upper = value == b"true"
-        elif key not in ("redirect_dir", "metacopy", "history"):
+        elif key not in ("redirect_dir", "metacopy", "history", "file_limit"):
             raise OtherForm(f"the key {key} before the first entry")
 
     def data(self, file: objects.File) -> bytes:

@@ -18,8 +18,8 @@ _KEYS: Dict[str, Tuple[type, Tuple[str, ...]]] = {
 _TYPES = {str: "a text", int: "a whole number", bool: "true or false", list: "an array of arrays "
           "of two texts", Table: "a table"}
 _ORDER = ("kind", "path", "key", "value", "parent", "exists", "link")
-_TOP = ("key", "redirect_dir", "metacopy", "history", "layers")
-_OPTIONS = ("layer", "upper", "redirect_dir", "metacopy", "history")
+_TOP = ("key", "redirect_dir", "metacopy", "history", "file_limit", "layers")
+_OPTIONS = ("layer", "upper", "redirect_dir", "metacopy", "history", "file_limit")
 _BYTES = ("text", "hex", "zeros")
 _UNKNOWN = "of a kind that is none"
 _REDIRECT = "a redirect is one name, or a path from / with a name"
@@ -74,6 +74,7 @@ class _Check:
         self.faults: List[Fault] = []
         self.place = ""
         self.entries = 0
+        self.file_limit = limits.FILE_LIMIT
 
     def manifest(self, top: Table) -> Checked:
         """The whole: its options, and then entry by entry."""
@@ -86,6 +87,7 @@ class _Check:
         self.metacopy(top, has_upper)
         self.option(top, "history", int, _is_history,
                     f"from {limits.HISTORY_LEAST} to {limits.HISTORY_MOST}")
+        self.limit(top)
         given, before = top.members.get("layer"), len(self.faults)
         layers = self.tables(given, "layer")
         most = limits.LOWERS_MOST + has_upper
@@ -136,6 +138,15 @@ class _Check:
         else:
             self.option(top, "metacopy", str, lambda word: word == "off",
                         '"off", where redirect_dir isn\'t "on"')
+
+    def limit(self, top: Table) -> None:
+        """The most bytes of a file; where what is said of it is at fault, the files aren't."""
+        self.option(top, "file_limit", int, _is_file_limit,
+                    f"from {limits.FILE_LIMIT_LEAST} to {limits.FILE_LIMIT_MOST}")
+        found = top.members.get("file_limit")
+        if found is not None:
+            is_limit = _is(found.value, int) and _is_file_limit(found.value)
+            self.file_limit = found.value if is_limit else limits.FILE_LIMIT_MOST
 
     def tables(self, found: Optional[Found], key: str) -> List[Found]:
         """The tables of an array."""
@@ -233,7 +244,7 @@ class _Entry:
         elif not _is(found.value, of_type) or key == "attrs" and not _are_pairs(found.value):
             self._tell(key, "key", f"{_TYPES[of_type]}; {_named(found.value)}")
         else:
-            for what in _value_faults(key, found.value):
+            for what in _value_faults(key, found.value, self._within.file_limit):
                 self._tell(key, "value", what)
 
     def _required(self, kind: str) -> None:
@@ -292,6 +303,10 @@ def _is_history(value: int) -> bool:
     return limits.HISTORY_LEAST <= value <= limits.HISTORY_MOST
 
 
+def _is_file_limit(value: int) -> bool:
+    return limits.FILE_LIMIT_LEAST <= value <= limits.FILE_LIMIT_MOST
+
+
 def path_fault(text: str) -> Optional[str]:
     """Why a text is no path; None where it is one."""
     raw = text.encode("utf-8")
@@ -313,20 +328,21 @@ def _are_pairs(values: List[Found]) -> bool:
                and all(isinstance(part.value, str) for part in one.value) for one in values)
 
 
-def _value_faults(key: str, value: Any) -> Iterator[str]:
-    """What is wrong with a value that has the right type."""
+def _value_faults(key: str, value: Any, file_limit: int) -> Iterator[str]:
+    """What is wrong with a value that has the right type, where a file has at most so many bytes.
+    """
     most = {"mode": limits.MODE_BITS, "uid": limits.OWNER_MOST, "gid": limits.OWNER_MOST,
-            "zeros": limits.FILE_BYTES}.get(key)
+            "zeros": file_limit}.get(key)
     if most is not None and not 0 <= value <= most:
         shown = "0o7777" if key == "mode" else str(most)
         yield f"from 0 to {shown}, and not {value}"
-    if key == "text" and len(value.encode("utf-8")) > limits.FILE_BYTES:
-        yield f"at most {limits.FILE_BYTES} bytes"
+    if key == "text" and len(value.encode("utf-8")) > file_limit:
+        yield f"at most {file_limit} bytes"
     if key == "hex":
         if len(value) % 2 or value.strip("0123456789abcdef"):
             yield "two lower case hexadecimal digits for each byte"
-        elif len(value) > 2 * limits.FILE_BYTES:
-            yield f"at most {limits.FILE_BYTES} bytes"
+        elif len(value) > 2 * file_limit:
+            yield f"at most {file_limit} bytes"
     if key == "target" and not (0 < len(value.encode("utf-8")) <= limits.TARGET_BYTES
                                 and "\0" not in value):
         yield f"1 to {limits.TARGET_BYTES} bytes without NUL"

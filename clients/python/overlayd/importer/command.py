@@ -15,7 +15,7 @@ from . import limits
 from .checking import check
 from .directories import Identity
 from .images import Choice
-from .plan import Wish, plan, write
+from .plan import Wish, file_limit_of, plan, write
 from .telling import PROGRAM, Refused, Report, shown
 from .writing import ManifestWriter
 
@@ -41,13 +41,18 @@ else mode 0755 and owner 0:0. A hard link to a file of a lower layer makes a cop
 file whose bytes are in a lower layer (metacopy) is written with its own attributes and these bytes.
 
 left out, each in one line on standard error (--quiet: not), with a sum at the end:
-  fifos, sockets and devices; files of more than 1,048,576 bytes; names, targets and attributes
-  that aren't UTF-8 or are longer than a manifest takes (name 255 bytes, path and target 4,095,
-  value 1,024; 64 attributes); attributes other than user. ones. Times are never kept.
+  fifos, sockets and devices; files of more bytes than --file-limit says; names, targets and
+  attributes that aren't UTF-8 or are longer than a manifest takes (name 255 bytes, path and target
+  4,095, value 1,024; 64 attributes); attributes other than user. ones. Times are never kept.
 In the place of what is left out stands a whiteout where there are layers below, so that nothing
 older shows there. With --strict the first such thing ends the import, and nothing is written.
 Refused in any case: files whose bytes are in a lower layer (metacopy) where the layers below have
 none for them; tars that aren't whole.
+
+the most bytes of a file: a mount lets files grow to 1,048,576 bytes (1 MiB) where its manifest says
+no other file_limit. With --file-limit N the manifest says N. Without it, it says nothing where each
+file fits, and else as many whole MiB as the largest file needs. That leaves this file less than a
+MiB to grow: give --file-limit where programs are to write larger ones.
 
 checking a manifest: --check FILE reads one that is there, whole, and prints a line for each of its
 faults: file, line, layer and entry, path, key, and what is allowed. What overlayd says of it, which
@@ -94,6 +99,9 @@ def parser() -> argparse.ArgumentParser:
                             "--redirect-dir on, or --read-only")
     words.add_argument("--history", type=_history, metavar="N",
                        help="the manifest's history, 2 to 1000000 (100000 where it isn't said)")
+    words.add_argument("--file-limit", type=_file_limit, metavar="N",
+                       help="the manifest's file_limit, the most bytes of a file, 1 to "
+                            "1099511627776 (what the largest file needs where it isn't said)")
     return words
 
 
@@ -101,6 +109,13 @@ def _history(text: str) -> int:
     count = int(text)
     if not limits.HISTORY_LEAST <= count <= limits.HISTORY_MOST:
         raise argparse.ArgumentTypeError("not from 2 to 1000000")
+    return count
+
+
+def _file_limit(text: str) -> int:
+    count = int(text)
+    if not limits.FILE_LIMIT_LEAST <= count <= limits.FILE_LIMIT_MOST:
+        raise argparse.ArgumentTypeError("not from 1 to 1099511627776")
     return count
 
 
@@ -185,12 +200,13 @@ class Output:
 def run(words: argparse.Namespace, report: Report) -> None:
     """Imports what the command line says."""
     wish = Wish(words.sources, Choice(words.image, words.platform), words.empty_upper,
-                words.redirect_dir, words.metacopy, words.history, words.read_only)
+                words.redirect_dir, words.metacopy, words.history, words.read_only,
+                words.file_limit)
     output = Output(words.output, waits=words.strict)
     try:
         layers = plan(wish, report, output.identities())
         writer = ManifestWriter(output.stream, wish.redirect_dir, wish.metacopy, wish.history,
-                                upper=not wish.read_only)
+                                upper=not wish.read_only, file_limit=file_limit_of(wish, layers))
         write(layers, writer, report)
         output.keep()
     except BaseException:

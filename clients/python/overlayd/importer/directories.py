@@ -39,11 +39,14 @@ class _Open(NamedTuple):
 
 
 class DirectoryLayer(Content, Layer):
-    """A directory of the file system as a layer; `below` has the layers under it."""
+    """A directory of the file system as a layer; `below` has the layers under it. A file of more
+    than `most` bytes is left out."""
 
-    def __init__(self, path: str, report: Report, skip: Set[Identity], below: Merge) -> None:
+    def __init__(self, path: str, report: Report, skip: Set[Identity], below: Merge,
+                 most: int) -> None:
         self.name = path
         self.covers = True
+        self.most = most
         self._path = os.fsencode(path)
         self._report = report
         self._skip = skip
@@ -68,6 +71,27 @@ class DirectoryLayer(Content, Layer):
         found = self._marks(self._path, "/", follow=True)
         return Directory(status.st_mode & limits.MODE_BITS, status.st_uid, status.st_gid,
                          found.attrs)
+
+    def largest(self) -> int:
+        """How many bytes its largest file has. Where no tree was needed before, none is made:
+        sizes alone are asked for."""
+        if self._tree is not None:
+            return super().largest()
+        largest, todo = 0, [self._path]
+        while todo:
+            with os.scandir(todo.pop()) as entries:
+                for entry in entries:
+                    if entry.is_dir(follow_symlinks=False):
+                        todo.append(entry.path)
+                    elif entry.is_file(follow_symlinks=False):
+                        largest = max(largest, self._counted(os.lstat(entry.path)))
+        return largest
+
+    def _counted(self, status: os.stat_result) -> int:
+        """The size of a file; 0 where it is left out for that, or is the unfinished manifest."""
+        if (status.st_dev, status.st_ino) in self._skip or status.st_size > self.most:
+            return 0
+        return status.st_size
 
     def write(self, layer: LayerWriter) -> None:
         """Writes the layer, as it is walked where no tree was needed before."""
@@ -178,7 +202,7 @@ class DirectoryLayer(Content, Layer):
         found = self._marks(full, path)
         if found.whiteout and status.st_size == 0:
             return WHITEOUT
-        if status.st_size > limits.FILE_BYTES:
+        if status.st_size > self.most:
             self._too_large(path, status.st_size)
             return None
         file = File(status.st_mode & limits.MODE_BITS, status.st_uid, status.st_gid, found.attrs,
@@ -199,7 +223,7 @@ class DirectoryLayer(Content, Layer):
 
     def _too_large(self, path: str, size: int) -> None:
         self._report.leave_out(self.name, path, OVER_LIMIT,
-                               f"a file of {size:,} bytes; at most {limits.FILE_BYTES:,} fit")
+                               limits.size_fault(size, self.most))
 
     def _directory(self, full: bytes, path: str, status: os.stat_result) -> Directory:
         found = self._marks(full, path)
@@ -251,7 +275,7 @@ class DirectoryLayer(Content, Layer):
 
     def _read(self, file: File, path: str) -> Optional[bytes]:
         """The bytes of a file; None where it has grown over the limit meanwhile."""
-        most = limits.FILE_BYTES + 1
+        most = self.most + 1
         with open(self._raw(file), "rb", buffering=0) as stream:
             data = stream.read(min(file.size + 1, most))
             while len(data) != file.size and len(data) < most:

@@ -6,7 +6,9 @@ from typing import Optional
 NAME_BYTES = 255
 PATH_BYTES = 4095
 TARGET_BYTES = 4095
-FILE_BYTES = 1_048_576
+FILE_LIMIT = 1_048_576
+FILE_LIMIT_LEAST = 1
+FILE_LIMIT_MOST = 1 << 40
 ATTRIBUTES_MOST = 64
 VALUE_BYTES = 1024
 OWNER_MOST = 4_294_967_295
@@ -35,6 +37,19 @@ def name_fault(raw: bytes) -> Optional[str]:
     if text_of(raw) is None:
         return "its name isn't UTF-8"
     return None
+
+
+def limit_for(largest: int) -> Optional[int]:
+    """The file_limit of a manifest whose largest file has so many bytes: as many MiB as it needs;
+    None where the limit that holds without the key is enough."""
+    if largest <= FILE_LIMIT:
+        return None
+    return -(-largest // FILE_LIMIT) * FILE_LIMIT
+
+
+def size_fault(size: int, most: int) -> str:
+    """Why a file of so many bytes is left out, of which there may be `most`."""
+    return f"a file of {size:,} bytes; at most {most:,} fit"
 
 
 def path_fault(path: str) -> Optional[str]:

@@ -2,7 +2,7 @@
 
 from typing import List, Optional, Sequence, Tuple, cast
 
-from .objects import Directory, File, Names, Object, Whiteout
+from .objects import Directory, File, Names, Object, Whiteout, walk
 
 Found = Tuple[int, Object]
 Place = Tuple[int, Directory]
@@ -18,6 +18,11 @@ class Layer:
     def root(self) -> Directory:
         """The root, of which nothing but its own attributes is asked."""
         return self.tree()
+
+    def largest(self) -> int:
+        """How many bytes its largest file has; 0 where it has none."""
+        sizes = (node.size for _, node in walk(self.tree()) if isinstance(node, File))
+        return max(sizes, default=0)
 
 
 class TreeLayer(Layer):

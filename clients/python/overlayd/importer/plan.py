@@ -29,6 +29,7 @@ class Wish(NamedTuple):
     metacopy: Optional[str] = None
     history: Optional[int] = None
     read_only: bool = False
+    file_limit: Optional[int] = None
 
 
 def _sources(text: str, choice: Choice) -> Tuple[List[Source], bool]:
@@ -63,7 +64,7 @@ def plan(wish: Wish, report: Report, skip: Set[Identity]) -> List[Writable]:
         sources, is_image = _sources(text, wish.choice)
         found += sources
         needs_upper = needs_upper or (number == 0 and is_image)
-    layers = _layers(found, report, skip)
+    layers = _layers(found, report, skip, wish.file_limit or limits.FILE_LIMIT_MOST)
     needs_upper = not wish.read_only and (needs_upper or len(layers) == 1)
     lowers = len(layers) - (0 if needs_upper or wish.read_only else 1)
     if lowers > limits.LOWERS_MOST:
@@ -77,15 +78,17 @@ def plan(wish: Wish, report: Report, skip: Set[Identity]) -> List[Writable]:
     return layers
 
 
-def _layers(sources: List[Source], report: Report, skip: Set[Identity]) -> List[Writable]:
-    """The layers of the sources, the highest first, down to one that hides all below it."""
+def _layers(sources: List[Source], report: Report, skip: Set[Identity],
+            most: int) -> List[Writable]:
+    """The layers of the sources, the highest first, down to one that hides all below it. A file of
+    more than `most` bytes is left out."""
     layers: List[Writable] = []
     for source in reversed(sources):
         layer: Union[DirectoryLayer, TarLayer]
         if isinstance(source, Blob):
-            layer = TarLayer(source, report, Merge(layers))
+            layer = TarLayer(source, report, Merge(layers), most)
         else:
-            layer = DirectoryLayer(source, report, skip, Merge(layers))
+            layer = DirectoryLayer(source, report, skip, Merge(layers), most)
         layer.covers = bool(layers)
         if isinstance(layer, TarLayer) and layer.tree().opaque:
             report.note(f"{shown(layer.name)}: its root is opaque: what is below it is left away")
@@ -101,6 +104,18 @@ def _empty_over(below: List[Writable]) -> Directory:
         return Directory(0o755, 0, 0)
     root = below[0].root()
     return Directory(root.mode, root.uid, root.gid, root.attrs)
+
+
+def file_limit_of(wish: Wish, layers: List[Writable]) -> Optional[int]:
+    """The most bytes of a file that the manifest says: what is asked for, or what its largest file
+    needs; None where it says nothing. A file that grows over it meanwhile is left out."""
+    limit = wish.file_limit
+    if limit is None:
+        limit = limits.limit_for(max(layer.largest() for layer in layers))
+    for layer in layers:
+        if isinstance(layer, DirectoryLayer):
+            layer.most = limit or limits.FILE_LIMIT
+    return limit
 
 
 def write(layers: List[Writable], writer: ManifestWriter, report: Report) -> None:

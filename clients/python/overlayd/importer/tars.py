@@ -68,11 +68,13 @@ def raw_of(text: str) -> bytes:
 
 
 class TarLayer(Content, Layer):
-    """A tar as a layer; `below` has the layers under it."""
+    """A tar as a layer; `below` has the layers under it. A file of more than `most` bytes is left
+    out."""
 
-    def __init__(self, blob: Blob, report: Report, below: Merge) -> None:
+    def __init__(self, blob: Blob, report: Report, below: Merge, most: int) -> None:
         self.name = blob.name
         self.covers = True
+        self.most = most
         self._blob = blob
         self._report = report
         self._below = below
@@ -264,9 +266,9 @@ class _Reading:
         found = self._marks(member)
         if found.whiteout and member.size == 0:
             return WHITEOUT
-        if member.size > limits.FILE_BYTES:
-            self._leave_out(member, OVER_LIMIT, f"a file of {member.size:,} bytes; at most "
-                                                f"{limits.FILE_BYTES:,} fit")
+        if member.size > self._layer.most:
+            fault = limits.size_fault(member.size, self._layer.most)
+            self._leave_out(member, OVER_LIMIT, fault)
             return None
         uid, gid = self._owner(member)
         file = File(member.mode & limits.MODE_BITS, uid, gid, found.attrs, member.size)

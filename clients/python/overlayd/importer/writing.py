@@ -44,7 +44,7 @@ class ManifestWriter:
 
     def __init__(self, out: BinaryIO, redirect_dir: Optional[str] = None,
                  metacopy: Optional[str] = None, history: Optional[int] = None,
-                 upper: bool = True) -> None:
+                 upper: bool = True, file_limit: Optional[int] = None) -> None:
         self._out = out
         self._began = False
         self.layers = 0
@@ -58,6 +58,8 @@ class ManifestWriter:
             self._line(f"metacopy = {quoted(metacopy)}")
         if history is not None:
             self._line(f"history = {history}")
+        if file_limit is not None:
+            self._line(f"file_limit = {file_limit}")
 
     def layer(self) -> None:
         """Begins a layer."""

@@ -16,7 +16,7 @@ returns-clause-session g c =
             (λ (t : List Exchange).
             t ++ ((s.heard.told ++ s.heard.stopped) ++ Departed s.farewell ∷ []))
             c.new-told.ensures;
-        went = rw (door.client.0, door.client.1, door.lost) at s.went;
+        went = rw (door.client.0, door.client.1) at s.went;
         written = s.written;
         appended = s.appended;
         stands = s.stands;

@@ -32,9 +32,13 @@ returns-clause-app c =
     c.in_ok-arg-5.ensures in
     let cleared = with_one _ _ _ _ _ timed c.unlink.ensures.rule c.unlink.ensures.local
     c.in_ok-arg-6.ensures in
-    IfOk-weaker c.arg-7.result _ _
-    (λ r adds. with_one _ r _ _ _ cleared c.verbose.ensures.rule c.verbose.ensures.local adds)
-    c.arg-7.ensures
+    let closed = with_one _ _ _ _ _ cleared c.until_eof.ensures.rule c.until_eof.ensures.local
+    c.in_ok-arg-7.ensures in
+    let saved = with_one _ _ _ _ _ closed c.save.ensures.rule c.save.ensures.local
+    c.in_ok-arg-8.ensures in
+    IfOk-weaker c.arg-9.result _ _
+    (λ r adds. with_one _ r _ _ _ saved c.verbose.ensures.rule c.verbose.ensures.local adds)
+    c.arg-9.ensures
 
 pub returns-clause-local : goal.returns-clause-local
 returns-clause-local c =
@@ -45,5 +49,7 @@ returns-clause-local c =
     let placed = still_local _ _ _ ended c.history.ensures.local c.in_ok-arg-4.ensures in
     let timed = still_local _ _ _ placed c.idle.ensures.local c.in_ok-arg-5.ensures in
     let cleared = still_local _ _ _ timed c.unlink.ensures.local c.in_ok-arg-6.ensures in
-    IfOk-weaker c.arg-7.result _ _
-    (λ r adds. still_local _ r _ cleared c.verbose.ensures.local adds) c.arg-7.ensures
+    let closed = still_local _ _ _ cleared c.until_eof.ensures.local c.in_ok-arg-7.ensures in
+    let saved = still_local _ _ _ closed c.save.ensures.local c.in_ok-arg-8.ensures in
+    IfOk-weaker c.arg-9.result _ _
+    (λ r adds. still_local _ r _ saved c.verbose.ensures.local adds) c.arg-9.ensures

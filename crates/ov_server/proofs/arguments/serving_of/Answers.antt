@@ -22,6 +22,10 @@ returns c =
         unlinks = flag found (codes "unlink") c.get_flag-unlink.result
             c.get_flag-unlink.ensures.value c.get_flag-unlink.ensures.other
             c.get_flag-unlink.ensures.none;
+        ends = flag found (codes "until-eof") c.get_flag-until_eof.result
+            c.get_flag-until_eof.ensures.value c.get_flag-until_eof.ensures.other
+            c.get_flag-until_eof.ensures.none;
+        saves = sym (first_value-rows found (codes "save")) ∙ sym c.get_str-save.ensures;
         tells = flag found (codes "verbose") c.get_flag-verbose.result
             c.get_flag-verbose.ensures.value c.get_flag-verbose.ensures.other
             c.get_flag-verbose.ensures.none;

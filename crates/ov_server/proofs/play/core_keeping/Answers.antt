@@ -57,7 +57,7 @@ returns-in-Ok-clause-mount g c =
     let upper = c.in_ok-upper.upper in
     let read_only = given_upper upper (core_read_only core) (rw c.in-Ok.is at c.mount_keeping.ensures.read_only) in
     record {
-      layers = holds_manifest c.args.manifest.now upper c.in_ok-upper.lowers.items (core_layers core)
+      layers = holds_manifest c.args.manifest.now upper c.in_ok-upper.lowers.items c.in_ok-upper.told (core_layers core) told.options
           (rw c.in-Ok.is at c.mount_keeping.ensures.upper) (ap (λ v. v.items) (rw c.in-Ok.is at c.mount_keeping.ensures.lowers)) told.upper told.spelled;
       told = c.in_ok-upper.told;
       is_told = told.options;

@@ -23,5 +23,5 @@ returns-in-Ok-clause-manifest c =
 pub returns-in-Ok-clause-layers : goal.returns-in-Ok-clause-layers
 returns-in-Ok-clause-layers c =
     let told = c.in_ok-upper.ensures in
-    holds_manifest c.args.manifest.now c.in_ok-upper.upper c.in_ok-upper.lowers.items c.in-Ok.layers
+    holds_manifest c.args.manifest.now c.in_ok-upper.upper c.in_ok-upper.lowers.items c.in_ok-upper.field-0-2 c.in-Ok.layers told.options
     (rw (rw c.in-Ok.is at c.new.ensures.upper) c.in_ok-over.ensures.given) (ap (λ v. v.items) (rw c.in-Ok.is at c.new.ensures.lowers)) told.upper told.spelled

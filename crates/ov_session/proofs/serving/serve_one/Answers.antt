@@ -2,6 +2,7 @@ use Rattle.std.proofs.Common.{◌≡◌, [], ◌∷◌, Option, Some, Result, Ok
 use Rattle.ov_base.specs.declared.call.Call.{Call}
 use Rattle.ov_base.specs.declared.errno.Errno.{Errno}
 use Rattle.ov_frames.specs.Asked.{asked_of}
+use Rattle.ov_frames.specs.Lending.{answer_of}
 use Rattle.ov_frames.specs.declared.answer.Answer.{Answer}
 use Rattle.ov_frames.specs.declared.answer.Answer.TheVariants.{NotTaken}
 use Rattle.ov_session.specs.Serving.{Answers}
@@ -72,7 +73,7 @@ returns-in-Answered g c =
     let n = place contents failures told c.put-in-Answered.new.self asks.session asks.self in
     let call = c.in-Ok-Some-Ok.call in
     let h = c.in-Answered.ensures.told in
-    let answer = c.answer.result.now in
+    let answer = answer_of c.answer.result in
     let last = c.answer.ensures o.told call h.0 h.1 in
     let asked : asked_of c.args.request ≡ Some (Ok call)
     = cc (c.in-Ok-Some-Ok.ensures, c.in-Ok-Some-Ok.field-0-is, c.in-Ok-Some-Ok.field-0-0-is)

@@ -8,4 +8,4 @@ returns-in-Err-flush-clause-sent g c =
     sent_badly (contents c.args.output.now.sink) (contents c.put.new.self.sink)
     (contents c.flush.new.self.sink) c.args.output.now.held.items c.put.new.self.held.items
     c.flush.new.self.held.items c.args.farewell.now c.in-Err-flush.end
-    c.in_default.ensures.put c.in-Err-flush.ensures.bytes c.in-Err-flush.ensures.end
+    (rw c.lent.ensures at c.in_default.ensures.put) c.in-Err-flush.ensures.bytes c.in-Err-flush.ensures.end

@@ -13,7 +13,7 @@ returns g c =
       counted = came.3;
       told = s.heard.told ++ s.heard.stopped;
       farewell = s.farewell;
-      left = standing left.session left.receipts.items left.lost;
+      left = standing left.session left.receipts.items;
       went = rw (c.requires.number, came.1) at s.went;
       all = refl;
     }

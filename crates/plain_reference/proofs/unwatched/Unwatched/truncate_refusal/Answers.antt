@@ -5,4 +5,4 @@ use Rattle.plain_reference.proofs.RuleLemmas.{by_handle}
 use Rattle.plain_reference.proofs.unwatched.Unwatched.truncate_refusal.Goals as goal
 
 pub returns : goal.returns
-returns c = c.truncate_line.ensures ∙ by_handle (unwatched_of c.args.self.now) c.args.client (Truncate c.args.descriptor c.args.size) _ _ c.handle.ensures refl refl refl
+returns c = c.truncate_line.ensures ∙ by_handle (unwatched_of c.args.self.now) c.args.client (Truncate c.args.descriptor c.args.size) _ _ c.handle-handle.ensures refl refl refl

@@ -23,7 +23,7 @@ returns-then-is_empty-clause-step c =
     let k = Write c.args.descriptor bytes in
     let empty : nat_eq (length bytes) 0 ≡ true = ap (λ (bs : List ℕ). nat_eq (length bs) 0) (sym c.as_slice.ensures) ∙ sym c.is_empty.ensures ∙ c.if-is_empty.true in
     taken_step s s c.args.client k (Written 0) c.in_default.ensures
-    (record { answer = ap Written (none_fit (write_place s.tree (handle_of ks c.args.client c.args.descriptor)) bytes empty); state = sym (ap (λ (a : State). record a { instances = s.instances }) (written_after s c.args.client c.args.descriptor bytes true empty)); heard = silence (subjects s c.args.client k) ks })
+    (record { answer = ap Written (none_fit s.options.file_limit (write_place s.tree (handle_of ks c.args.client c.args.descriptor)) bytes empty); state = sym (ap (λ (a : State). record a { instances = s.instances }) (written_after s c.args.client c.args.descriptor bytes true empty)); heard = silence (subjects s c.args.client k) ks })
 
 pub returns-clause-step : goal.returns-clause-step
 returns-clause-step c =
@@ -37,15 +37,16 @@ returns-clause-step c =
     let bytes = c.args.bytes.now in
     let h = handle_of ks c.args.client fd in
     let start = write_place t h in
+    let limit : ℕ = old.options.file_limit in
     let some : nat_eq (length bytes) 0 ≡ false = ap (λ (bs : List ℕ). nat_eq (length bs) 0) (sym c.as_slice.ensures) ∙ sym c.is_empty.ensures ∙ c.if-is_empty.false in
     let at : c.write_place-at.result ≡ start = c.write_place-at.ensures ∙ ap (write_place t) c.handle-handle.ensures in
-    let fit : c.fitting-new.result.now ≡ fitting start bytes = c.fitting-new.ensures ∙ (λ i. fitting (at i) (c.as_slice-2.ensures i)) in
+    let fit : c.fitting-new.result.now ≡ fitting limit start bytes = c.fitting-new.ensures ∙ (λ i. fitting limit (at i) (c.as_slice-2.ensures i)) in
     let node : shown (option_copied c.handle_node.result) ≡ handle_node t h = c.handle_node.ensures ∙ ap (handle_node t) c.handle-handle.ensures in
     let had : c.bytes_in-old.result.now ≡ bytes_of_node (handle_node t h) = c.bytes_in-old.ensures ∙ ap bytes_of_node node in
-    let all : c.in_ok-all.all.items ≡ written (bytes_of_node (handle_node t h)) start (fitting start bytes) = c.in_ok-all.ensures ∙ (λ i. written (had i) (at i) (fit i)) in
-    let tree : tree_of filled.tree.slots.items ≡ change (wrote start bytes) t (node_of_handle h) =
-    c.fill.ensures.tree ∙ ap (λ (bs : List ℕ). change (with_bytes bs) t (node_of_handle h)) all ∙ filled_alone (λ (o : Option Node). written (bytes_of_node o) start (fitting start bytes)) t h in
-    let later : Option Handle = moved_to (start + length (fitting start bytes)) h in
+    let all : c.in_ok-all.all.items ≡ written (bytes_of_node (handle_node t h)) start (fitting limit start bytes) = c.in_ok-all.ensures ∙ (λ i. written (had i) (at i) (fit i)) in
+    let tree : tree_of filled.tree.slots.items ≡ change (wrote limit start bytes) t (node_of_handle h) =
+    c.fill.ensures.tree ∙ ap (λ (bs : List ℕ). change (with_bytes bs) t (node_of_handle h)) all ∙ filled_alone (λ (o : Option Node). written (bytes_of_node o) start (fitting limit start bytes)) t h in
+    let later : Option Handle = moved_to (start + length (fitting limit start bytes)) h in
     let moved : rewound false (moved_to (c.write_place-at.result + length c.fitting-new.result.now) h) ≡ later = moved_alone _ h ∙ (λ i. moved_to (at i + length (fit i)) h) in
     let clients : filled.clients ≡ old.clients = ap (λ (x : Unwatched). x.clients) c.fill.ensures.rest in
     let serial : filled.serial ≡ old.serial = ap (λ (x : Unwatched). x.serial) c.fill.ensures.rest in

@@ -1,0 +1,90 @@
+// A layer's file of more bytes than the mount lets a file have: it is read and copied up as any other, and only grows no further.
+use crate::cores::{attached, mounted_on, reply};
+use crate::fixtures::read;
+use crate::marked_files::{has_bytes, open};
+use ov_base::{Bytes, Call, Errno, Options, Reply};
+use ov_server::{ByTag, ProgramRule};
+use overlay_core::Core;
+use std::alloc::Global;
+use std::hash::RandomState;
+use std::process::Abort;
+use std::test::Fail;
+use watch_table::{Callback, Rule};
+
+// An empty upper over a file of eleven bytes.
+const LOWER: &str = "layer = [{}, {entry = [
+  {path = '/f', kind = 'file', text = 'lower bytes'},
+]}]";
+
+#[test]
+fn a_file_over_the_limit_grows_no_further(rt: HostRuntime) -> Result<(), Fail> {
+    grows_no_further::<_, ByTag, ProgramRule>(&rt, rt.alloc(), RandomState::new(&rt)?)
+}
+
+fn grows_no_further<A: Abort, F: Callback + Copy, H: Rule>(
+    rt: &A,
+    alloc: Global,
+    keys: RandomState,
+) -> Result<(), Fail> {
+    let (upper, lowers, options) = read(alloc, keys, LOWER)?;
+    let options = Options {
+        file_limit: 10,
+        ..options
+    };
+    let mut core: Core<F, H> = mounted_on(alloc, keys, upper, lowers, options)?;
+    writes_and_cuts(rt, alloc, &mut core)
+}
+
+// Of a write that meets the limit what fits is written, over what is there, and a byte beyond is left.
+fn writes_and_cuts<F: Callback + Copy, H: Rule>(
+    rt: &impl Abort,
+    alloc: Global,
+    core: &mut Core<F, H>,
+) -> Result<(), Fail> {
+    let client = attached(core, Vec::new(alloc))?;
+    assert!(rt; has_bytes(rt, alloc, core, client, "/f", b"lower bytes")?);
+    let file = open(rt, alloc, core, client, "/f", true)?;
+    assert!(rt;
+        matches!(
+            &write(alloc, core, client, file, b"LOWER")?,
+            Reply::Written(5)
+        )
+    );
+    assert!(rt; has_bytes(rt, alloc, core, client, "/f", b"LOWER bytes")?);
+    assert!(rt;
+        matches!(
+            &write(alloc, core, client, file, b"abcdefghi")?,
+            Reply::Written(5)
+        )
+    );
+    assert!(rt; is_too_big(&write(alloc, core, client, file, b"x")?));
+    assert!(rt; is_too_big(&truncate(core, client, file, 11)?));
+    assert!(rt; has_bytes(rt, alloc, core, client, "/f", b"LOWERabcdes")?);
+    assert!(rt; matches!(&truncate(core, client, file, 10)?, Reply::Done));
+    assert!(rt; has_bytes(rt, alloc, core, client, "/f", b"LOWERabcde")?);
+    Ok(())
+}
+
+fn write<F: Callback + Copy, H: Rule>(
+    alloc: Global,
+    core: &mut Core<F, H>,
+    client: u64,
+    descriptor: u32,
+    bytes: &[u8],
+) -> Result<Reply, Fail> {
+    let bytes = Bytes::from_slice(alloc, bytes)?;
+    reply(core, client, Call::Write { descriptor, bytes })
+}
+
+fn truncate<F: Callback + Copy, H: Rule>(
+    core: &mut Core<F, H>,
+    client: u64,
+    descriptor: u32,
+    size: u64,
+) -> Result<Reply, Fail> {
+    reply(core, client, Call::Truncate { descriptor, size })
+}
+
+fn is_too_big(reply: &Reply) -> bool {
+    matches!(reply, Reply::Refused(Errno::EFBIG))
+}
