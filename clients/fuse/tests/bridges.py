@@ -12,6 +12,8 @@ from .kernel import WAIT, Kernel, pair
 
 PROGRAM = os.environ.get("OVERLAYD_FUSE", str(
     pathlib.Path(__file__).resolve().parents[3] / "out" / "overlayd-fuse-checked"))
+# How long the bridge waits for an answer where a test says nothing, on a machine that may be busy.
+PATIENCE = str(int(WAIT))
 NO_SERVER = real_server.why_not()
 ENVIRONMENT = dict(os.environ, ASAN_OPTIONS="detect_leaks=1:abort_on_error=0:exitcode=99",
                    UBSAN_OPTIONS="halt_on_error=1:exitcode=99:print_stacktrace=1")
@@ -29,7 +31,8 @@ class Bridge:
     def __init__(self, path, *options, init=True):
         near, far = pair()
         self.process = subprocess.Popen(
-            [PROGRAM, path, "--kernel", str(far.fileno()), "--verbose", *options],
+            [PROGRAM, path, "--kernel", str(far.fileno()), "--verbose", "--wait", PATIENCE,
+             *options],
             pass_fds=[far.fileno()], stdin=subprocess.DEVNULL, stderr=subprocess.PIPE, text=True,
             env=ENVIRONMENT)
         far.close()

@@ -14,7 +14,7 @@ import unittest
 import real_server
 from overlayd.importer.command import main as import_command
 
-from .bridges import ENVIRONMENT, NO_SERVER, PROGRAM
+from .bridges import ENVIRONMENT, NO_SERVER, PATIENCE, PROGRAM
 from .kernel import WAIT
 
 FUSE = "/dev/fuse"
@@ -80,7 +80,8 @@ class Mounted:
 
     def mount(self):
         self.process = subprocess.Popen(
-            [PROGRAM, self.server.path, self.here, "--verbose", *self.options],
+            [PROGRAM, self.server.path, self.here, "--verbose", "--wait", PATIENCE,
+             *self.options],
             stdin=subprocess.DEVNULL, stderr=subprocess.PIPE, text=True, env=ENVIRONMENT)
         limit = time.monotonic() + WAIT
         while not os.path.ismount(self.here):

@@ -143,6 +143,39 @@ class Files(ServerCase):
         self.refused(errno.EFBIG, kernel.fallocate, f, fh, 0, LIMIT + 1)
 
 
+class LargerFiles(ServerCase):
+    """Where the manifest lets files grow further."""
+
+    MOST = 3000000
+    MANIFEST = """file_limit = 3000000
+layer = [{}, { entry = [{ path = "/z", kind = "file", zeros = 2500000 }] }]"""
+
+    def test_up_to_the_limit_and_not_beyond(self):
+        server = self.served()
+        kernel = self.bridge(server)
+        entry, opened = kernel.create(ROOT, "n")
+        n, fh = entry.nodeid, opened.fh
+        self.assertEqual(kernel.write(n, fh, self.MOST - 5, b"abcdefgh"), 5)
+        self.refused(errno.EFBIG, kernel.write, n, fh, self.MOST, b"x")
+        self.refused(errno.EFBIG, kernel.write, n, fh, self.MOST - 5, b"abcdefgh", WRITE_CACHE)
+        self.assertEqual(kernel.read(n, fh, self.MOST - 7, 99), b"\0\0abcde")
+        self.refused(errno.EFBIG, kernel.setattr, n, SET_SIZE, size=self.MOST + 1)
+        self.refused(errno.EFBIG, kernel.fallocate, n, fh, 0, self.MOST + 1)
+        self.assertEqual(kernel.setattr(n, SET_SIZE, size=LIMIT + 1).size, LIMIT + 1)
+        self.assertEqual(self.client(server).stat("/n").st_size, LIMIT + 1)
+
+    def test_a_file_of_a_lower_layer(self):
+        kernel = self.bridge(self.served())
+        entry = kernel.walk("/z")
+        self.assertEqual(entry.attr.size, 2500000)
+        z, reader = entry.nodeid, kernel.open(entry.nodeid).fh
+        self.assertEqual(kernel.read(z, reader, 2499999, 99), b"\0")
+        writer = kernel.open(z, os.O_WRONLY).fh
+        self.assertEqual(kernel.write(z, writer, 2000000, b"new"), 3)
+        self.assertEqual(kernel.read(z, reader, 1999999, 5), b"\0new\0")
+        self.assertEqual(kernel.getattr(z).size, 2500000)
+
+
 class ManyFiles(ServerCase):
     MANIFEST = TREE
 
