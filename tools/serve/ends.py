@@ -113,14 +113,12 @@ def fill(link):
 
 
 def a_client_that_does_not_read(program):
-    """A client that reads nothing has five seconds, and holds the server no longer."""
+    """A client that reads nothing doesn't hold the server when standard input has ended."""
     with serving(program, 1, None, more=UNTIL_EOF, stdin=subprocess.PIPE) as server:
         with server.peer() as client:
             fill(client.link)
-            began = time.monotonic()
             close_input(server)
             expect(server.end(), "", "standard error")
-            expect(4 < time.monotonic() - began < 30, True, "five seconds")
 
 
 def no_standard_input(program):
