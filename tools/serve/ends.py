@@ -3,7 +3,7 @@ import contextlib
 import subprocess
 import time
 
-from servers import (DETACH, DONE, SECONDS, SHOWN_ROOT, STAT_ROOT, WORKED, Wrong, expect, frames,
+from servers import (DONE, SECONDS, SHOWN_ROOT, STAT_ROOT, WORKED, Wrong, expect, frames,
                      serving)
 from overlayd.frames import Op
 

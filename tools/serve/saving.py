@@ -16,6 +16,8 @@ NAMES = ["a", "b", "c", "\u00fc", "\u540d\u524d", "x y", '"', "'", "\\", "#", "\
 TEXTS = ["", "x", "line\n", "\n", '"""', "'''", "\\u0041", "\r\n", "\x1b[0m", "\u00e9" * 40,
          "\x02" * 30, " = ", "\ufeff", "z" * 5000]
 
+KINDS = ["dir", "dir", "file", "file", "file", "symlink", "whiteout", "link"]
+
 
 class Layer:
     """A layer that dice make: what stands at each path, in an order that a manifest may have."""
@@ -34,7 +36,7 @@ class Layer:
         path = parent.rstrip("/") + "/" + self.dice.choice(NAMES)
         if path in self.entries:
             return
-        kind = self.dice.choice(["dir", "dir", "file", "file", "file", "symlink", "whiteout", "link"])
+        kind = self.dice.choice(KINDS)
         entry = {"kind": kind}
         if kind in ("dir", "file"):
             entry.update(self.attributes())
@@ -180,6 +182,24 @@ def generated_layers(program):
             pass
 
 
+def a_large_file(program):
+    """A file over the limit that files have by default is saved too; the option that allows it
+    stands before what was saved, as in the manifest."""
+    option = b"file_limit = 3000000\n"
+    entries = {"/f": {"kind": "file", "bytes": random.Random(1).randbytes(2_000_001)}}
+    layer = Layer(0)
+    layer.entries = entries
+    with runs(program) as (folder, _):
+        (folder / "m.toml").write_bytes(option + layer.manifest())
+        words = ["serve", "m.toml", "s", "--workers", "1", "--until-eof", "--save", "saved"]
+        expect(run(program, folder, words), (0, b"", ""), "served")
+        saved = (folder / "saved").read_bytes()
+        expect(seen(saved_entries(saved)) == seen(entries), True, "the upper")
+        (folder / "again.toml").write_bytes(option + saved + LOWER)
+        shown = run(program, folder, ["play", "again.toml"], b"layer 0\n")
+        expect(shown, (0, b"d 0755 0 0 0 1 /\nf 0644 0 0 2000001 1 /f\n", ""), "read again")
+
+
 def asked(client, *fields):
     client.send(frames.request(*fields))
     status, _, _ = client.reply()
@@ -258,4 +278,5 @@ def what_cannot_be_saved(program):
         expect((folder / "out.part").exists(), False, "nothing is left beside it")
 
 
-TESTS = [generated_layers, what_clients_changed, what_no_manifest_can_say, what_cannot_be_saved]
+TESTS = [generated_layers, a_large_file, what_clients_changed, what_no_manifest_can_say,
+         what_cannot_be_saved]
