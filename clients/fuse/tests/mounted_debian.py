@@ -1,5 +1,5 @@
-"""A Debian root on a mount: packages come and go in a chroot, gcc builds, and what changed comes out
-as a layer. The variable DEBIAN names the root, as debootstrap has made it:
+"""A Debian root on a mount: packages come and go in a chroot, gcc builds, and what changed comes
+out as a layer. The variable DEBIAN names the root, as debootstrap has made it:
 
     debootstrap --variant=minbase --include=gcc,libc6-dev bookworm DIRECTORY
 """
@@ -21,6 +21,7 @@ from .mounts import Mounted, tree, why_not
 
 DEBIAN = os.environ.get("DEBIAN")
 PATIENCE = WAIT * 30
+FILES_GROW_TO = 1 << 28
 ENTER = """set -eu
 mount --bind /dev "$1/dev"
 mount -t proc proc "$1/proc"
@@ -49,7 +50,7 @@ def largest(root):
 def imported(output, *sources):
     with contextlib.redirect_stderr(io.StringIO()) as told:
         status = import_command(["-q", "--redirect-dir", "on", "--history", "1000000",
-                                 "--file-limit", str(max(1048576, largest(DEBIAN))),
+                                 "--file-limit", str(max(FILES_GROW_TO, largest(DEBIAN))),
                                  *sources, "-o", output])
     if status != 0:
         raise AssertionError(told.getvalue())
