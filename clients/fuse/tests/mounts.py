@@ -147,10 +147,15 @@ def described(path, root, with_bytes=True):
     return told
 
 
+def refuse(error):
+    """A directory that can't be listed is no empty one."""
+    raise error
+
+
 def tree(root, leaves_out=(), link_owners=True):
     """All objects below a directory; of files whose names end so not the bytes and sizes."""
     found = {}
-    for folder, folders, files in os.walk(root):
+    for folder, folders, files in os.walk(root, onerror=refuse):
         for name in folders + files:
             path = os.path.join(folder, name)
             told = described(path, root, not name.endswith(leaves_out))
@@ -165,7 +170,7 @@ def tree(root, leaves_out=(), link_owners=True):
 def times(root):
     """When each object but links was changed, its bytes and all else of it."""
     found = {}
-    for folder, folders, files in os.walk(root):
+    for folder, folders, files in os.walk(root, onerror=refuse):
         for name in folders + files:
             told = os.lstat(os.path.join(folder, name))
             if not stat.S_ISLNK(told.st_mode):

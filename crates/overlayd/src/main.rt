@@ -10,7 +10,7 @@ ghost use Rattle.locked_history.specs.Names.{blank_core};
 ghost use Rattle.ov_server.specs.Mounts.{IsMountOf};
 ghost use Rattle.overlay_core.specs.Views.{core_options};
 
-use crate::ending::{closing_in, ending_of};
+use crate::ending::{close_at_end, closing_in, ending_of};
 use crate::listening::listen;
 use crate::saving::Saver;
 use locked_history::Blank;
@@ -18,7 +18,7 @@ use ov_devices::{CountedReader, CountedWriter};
 use ov_server::{
     Fault, Invocation, Output, Serving, command_line, core_of, hooks_by_slot, play_run, show_run,
 };
-use socket_server::{ServeOptions, Served, serve_on};
+use socket_server::{Closing, ServeOptions, Served, serve_on};
 use std::alloc::Global;
 use std::env::Env;
 use std::fs::Files;
@@ -28,22 +28,33 @@ use std::net::Net;
 use std::process::ExitCode;
 use std::random::RandomSource;
 use std::rt::Runtime;
-use std::sync::Wait;
+use std::sync::{Arc, Wait};
 use std::thread::Threads;
-use std::{env, fs, io};
+use std::{env, fs, io, thread};
 use watch_table::{Callback, Hook, Rule};
 
 fn main(rt: HostRuntime) -> ExitCode {
-    match run(&rt) {
+    let closes_at_end = |closing: Arc<Closing, Global>| -> Result<(), Fault> {
+        let own = rt.clone()?;
+        match thread::spawn(&rt, move || close_at_end(&own, &closing)) {
+            Ok(_) => Ok(()),
+            Err(_) => Err(Fault::Memory),
+        }
+    };
+    match run(&rt, &closes_at_end) {
         Ok(status) => ExitCode::from(status),
         Err(fault) => report(&rt, &fault),
     }
 }
 
-// The exit status, where nothing is to be told any more.
-fn run<R: Runtime + AllocGlobal + RandomSource + Net + Threads + Wait + Send + Sync + 'static>(
-    rt: &R,
-) -> Result<u8, Fault> {
+// The exit status, where nothing is to be told any more. A thread that closes a server when standard
+// input ends is made by what is given.
+fn run<R, W>(rt: &R, closes_at_end: &W) -> Result<u8, Fault>
+where
+    R: Runtime + AllocGlobal + RandomSource + Net + Threads + Wait + Sync,
+    W: Fn(Arc<Closing, Global>) -> Result<(), Fault>,
+    requires closes { (closing : _) → W.pre closes_at_end.now closing }
+{
     let words = words(rt)?;
     let invocation = command_line(rt.alloc(), words.as_slice())?;
     let keys = keys(rt)?;
@@ -56,7 +67,7 @@ fn run<R: Runtime + AllocGlobal + RandomSource + Net + Threads + Wait + Send + S
             manifest,
             manifest_limit,
         } => play(rt, keys, manifest, manifest_limit)?,
-        Invocation::Serve(serving) => return serve(rt, keys, &serving),
+        Invocation::Serve(serving) => return serve(rt, keys, &serving, closes_at_end),
     }
     Ok(0)
 }
@@ -110,45 +121,46 @@ fn play<R: Runtime + AllocGlobal>(
     )
 }
 
-fn serve<R: Runtime + AllocGlobal + Net + Threads + Wait + Send + Sync + 'static>(
+fn serve<R, W>(
     rt: &R,
     keys: RandomState,
     serving: &Serving<'_>,
-) -> Result<u8, Fault> {
+    closes_at_end: &W,
+) -> Result<u8, Fault>
+where
+    R: Runtime + AllocGlobal + Net + Threads + Wait + Sync,
+    W: Fn(Arc<Closing, Global>) -> Result<(), Fault>,
+    requires closes { (closing : _) → W.pre closes_at_end.now closing }
+{
     if serving.save.is_some() && serving.sessions.is_none() && !serving.until_eof {
         return Err(Fault::SaveWithoutEnd);
     }
     let hooks = hooks_by_slot(rt.alloc())?;
-    serve_with(rt, keys, hooks.as_slice(), serving)
+    serve_with(rt, keys, hooks.as_slice(), serving, closes_at_end)
 }
 
 // The same with hooks of any kind. The mount is there before the socket, so that who can connect is
 // served.
-fn serve_with<F, H, R>(
+fn serve_with<F, H, R, W>(
     rt: &R,
     keys: RandomState,
     hooks: &[Hook<F, H>],
     serving: &Serving<'_>,
+    closes_at_end: &W,
 ) -> Result<u8, Fault>
 where
     F: Callback + Copy + Send + Sync,
     H: Rule + Send + Sync,
-    R: Runtime + AllocGlobal + Net + Threads + Wait + Send + Sync + 'static,
+    R: Runtime + AllocGlobal + Net + Threads + Wait + Sync,
+    W: Fn(Arc<Closing, Global>) -> Result<(), Fault>,
+    requires closes { (closing : _) → W.pre closes_at_end.now closing }
 {
     let manifest = bytes_of(rt, serving.manifest, serving.manifest_limit)?;
     let (blank, places) = blank_of(rt.alloc(), keys, manifest.as_slice(), serving)?;
     let mut saver = Saver::new(rt, serving)?;
     let listener = listen(rt, serving)?;
-    let ending = ending_of(rt, &listener, serving)?;
-    let options = ServeOptions {
-        socket: serving.socket,
-        workers: serving.workers as usize,
-        history: places as usize,
-        sessions: serving.sessions,
-        idle: serving.idle,
-        closing: closing_in(&ending),
-        verbose: serving.verbose,
-    };
+    let ending = ending_of(rt.alloc(), &listener, serving, closes_at_end)?;
+    let options = options_of(serving, places, closing_in(&ending));
     let served = serve_on(
         rt,
         rt.alloc(),
@@ -162,6 +174,23 @@ where
     match served {
         Served::Done | Served::Stopped => Ok(0),
         Served::Failed => Ok(Fault::Socket.status()),
+    }
+}
+
+// How a server is asked for, and what ends it.
+fn options_of<'a>(
+    serving: &Serving<'a>,
+    places: u32,
+    closing: Option<&'a Closing>,
+) -> ServeOptions<'a> {
+    ServeOptions {
+        socket: serving.socket,
+        workers: serving.workers as usize,
+        history: places as usize,
+        sessions: serving.sessions,
+        idle: serving.idle,
+        closing,
+        verbose: serving.verbose,
     }
 }
 

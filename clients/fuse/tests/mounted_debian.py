@@ -1,0 +1,186 @@
+"""A Debian root on a mount: packages come and go in a chroot, gcc builds, and what changed comes
+out as a layer. The variable DEBIAN names the root, as debootstrap has made it:
+
+    debootstrap --variant=minbase --include=gcc,libc6-dev bookworm DIRECTORY
+"""
+
+import contextlib
+import hashlib
+import io
+import os
+import pathlib
+import subprocess
+import unittest
+
+import real_server
+from overlayd.exporter.command import main as export_command
+from overlayd.importer.command import main as import_command
+
+from .kernel import WAIT
+from .mounts import Mounted, tree, why_not
+
+DEBIAN = os.environ.get("DEBIAN")
+PATIENCE = WAIT * 30
+FILES_GROW_TO = 1 << 28
+ENTER = """set -eu
+mount --bind /dev "$1/dev"
+mount -t proc proc "$1/proc"
+exec env -i PATH=/usr/sbin:/usr/bin:/sbin:/bin LC_ALL=C DEBIAN_FRONTEND=noninteractive \\
+    chroot "$1" sh -euc "$2"
+"""
+CONTROL = """Package: overlay-hello
+Version: 1.0
+Architecture: all
+Maintainer: nobody <nobody@example.org>
+Description: a script
+"""
+PACKAGES = """{control}Filename: ./hello.deb
+Size: {size}
+SHA256: {digest}
+
+"""
+
+
+def largest(root):
+    """How many bytes the largest file below a directory has."""
+    return max(os.lstat(os.path.join(folder, name)).st_size
+               for folder, _, names in os.walk(root) for name in names)
+
+
+def imported(output, *sources):
+    with contextlib.redirect_stderr(io.StringIO()) as told:
+        status = import_command(["-q", "--redirect-dir", "on", "--history", "1000000",
+                                 "--file-limit", str(max(FILES_GROW_TO, largest(DEBIAN))),
+                                 *sources, "-o", output])
+    if status != 0:
+        raise AssertionError(told.getvalue())
+    return pathlib.Path(output).read_text("utf-8")
+
+
+class Root(Mounted):
+    """A mount of a root, or of layers over it."""
+
+    def __init__(self, *sources):
+        self.sources = sources
+        super().__init__(lambda base: None, "--times", overlay=False)
+
+    def serve(self, base):
+        server = real_server.Server(imported(self.path("mount.toml"), *self.sources))
+        server.client().close()
+        return server
+
+    def run(self, script):
+        """What a shell prints that has the mount for its root."""
+        done = subprocess.run(["unshare", "--mount", "--propagation", "private", "sh", "-c", ENTER,
+                               "sh", self.here, script], stdin=subprocess.DEVNULL, text=True,
+                              stdout=subprocess.PIPE, stderr=subprocess.STDOUT, timeout=PATIENCE,
+                              check=False)
+        if done.returncode != 0:
+            raise AssertionError(f"status {done.returncode}: {done.stdout}")
+        return done.stdout
+
+
+class Debian(unittest.TestCase):
+    root = None
+
+    @classmethod
+    def setUpClass(cls):
+        reason = why_not() or (None if DEBIAN else "DEBIAN names no root of a Debian system")
+        if reason:
+            raise unittest.SkipTest(reason)
+        cls.root = Root(DEBIAN)
+
+    @classmethod
+    def tearDownClass(cls):
+        if cls.root:
+            cls.root.end()
+
+    def package(self):
+        """Makes a package and a repository of it, at /srv/packages."""
+        self.root.run(f"""
+            mkdir -p /srv/packages/hello/DEBIAN /srv/packages/hello/usr/bin
+            cd /srv/packages
+            printf '%s' '{CONTROL}' > hello/DEBIAN/control
+            printf '#!/bin/sh\\necho hello from a package\\n' > hello/usr/bin/overlay-hello
+            chmod 755 hello/usr/bin/overlay-hello
+            dpkg-deb --build --root-owner-group hello hello.deb
+            rm -r hello""")
+        folder = pathlib.Path(self.root.here, "srv", "packages")
+        data = (folder / "hello.deb").read_bytes()
+        (folder / "Packages").write_text(PACKAGES.format(
+            control=CONTROL, size=len(data), digest=hashlib.sha256(data).hexdigest()))
+
+    def test_a_package_comes_and_goes(self):
+        self.package()
+        told = self.root.run("""
+            dpkg -i /srv/packages/hello.deb
+            overlay-hello
+            dpkg --verify overlay-hello
+            dpkg -r overlay-hello
+            test ! -e /usr/bin/overlay-hello && echo gone
+            dpkg --audit""")
+        self.assertIn("\nhello from a package\n", told)
+        self.assertEqual(told.splitlines()[-1], "gone")
+
+    def test_an_archive_of_local_files(self):
+        self.package()
+        told = self.root.run("""
+            mkdir /tmp/lists
+            echo 'deb [trusted=yes] file:/srv/packages ./' > /tmp/lists/local.list
+            only="-o Dir::Etc::sourcelist=/tmp/lists/local.list -o Dir::Etc::sourceparts=/none"
+            apt-get $only update
+            apt-get $only install -y overlay-hello
+            overlay-hello
+            apt-get $only remove -y overlay-hello
+            test ! -e /usr/bin/overlay-hello && echo gone
+            rm -r /tmp/lists""")
+        self.assertIn("\nhello from a package\n", told)
+        self.assertEqual(told.splitlines()[-1], "gone")
+
+    def test_what_packages_have_is_right(self):
+        """But for what the import leaves out, which is no file of a package."""
+        self.assertEqual(self.root.run("dpkg --verify"), "")
+
+    def test_gcc(self):
+        if not os.path.exists(os.path.join(DEBIAN, "usr", "bin", "gcc")):
+            self.skipTest("the root has no gcc")
+        told = self.root.run("""
+            cd /root
+            printf '#include <stdio.h>\\nint main(void) { return puts("built") < 0; }\\n' > hello.c
+            gcc -O2 -o hello hello.c
+            ./hello""")
+        self.assertEqual(told, "built\n")
+
+    def test_the_export_over_the_import_is_the_same_tree(self):
+        self.root.run("""
+            rm -r /usr/share/doc/base-files
+            echo changed >> /etc/hostname.changed
+            mv /etc/skel /etc/skel.moved
+            mkdir /etc/skel; echo new > /etc/skel/new
+            chmod 700 /usr/share/base-files
+            ln -s hostname.changed /etc/link; cp /usr/bin/perl /root/perl
+            rm /usr/bin/perl; cp -a /root/perl /usr/bin/perl""")
+        subprocess.run(["sync", "-f", self.root.here], check=True)
+        layer = self.root.path("change.tar")
+        with contextlib.redirect_stderr(io.StringIO()) as told:
+            status = export_command([self.root.path("mount.toml"), self.root.server.path,
+                                     "--layer", layer])
+        self.assertEqual(status, 0, told.getvalue())
+        again = Root(layer, DEBIAN)
+        self.addCleanup(again.end)
+        self.same(tree(self.root.here), tree(again.here))
+
+    def same(self, here, there):
+        """But for link counts, since the server doesn't tell which names lead to one file."""
+        self.assertEqual(sorted(here), sorted(there))
+        for path, told in there.items():
+            self.assertEqual(without_links(here[path]), without_links(told), path)
+
+
+def without_links(told):
+    """What `described` told, but for the number of links, which stands behind a size."""
+    return told[:5] + told[6:] if len(told) > 5 else told
+
+
+if __name__ == "__main__":
+    unittest.main()
