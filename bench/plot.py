@@ -31,13 +31,13 @@ def table():
             rows.append(cells)
     heading, rows = rows[0], rows[2:]
     columns = [heading.index(name) for name, _ in SERIES]
-    return [(label(row, heading), [number(row[column]) for column in columns]) for row in rows]
+    return [(label(row), [number(row[column]) for column in columns]) for row in rows]
 
 
-def label(row, heading):
-    """The load's own name, and its run."""
+def label(row):
+    """The load's own name."""
     name = re.match(r"`(\w+)`", row[0])
-    return f"{name[1] if name else row[0]} ({row[heading.index('run')]})"
+    return name[1] if name else row[0]
 
 
 def number(cell):
