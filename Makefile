@@ -22,8 +22,8 @@ help:
 	@echo "make build-fuse    build the bridge to FUSE and leave it at out/overlayd-fuse"
 	@echo "make test-fuse     tests it, without FUSE or root; on the program where it is built"
 	@echo "make test-fuse-mounted  tests it as root, with real programs beside the kernel's overlayfs"
-	@echo "make install       copy that program, the Python tools and the manual to $(PREFIX),"
-	@echo "                   or to where PREFIX and DESTDIR say"
+	@echo "make install       copy that program, the Python tools, the manual and the bridge, where it is"
+	@echo "                   built, to $(PREFIX), or to where PREFIX and DESTDIR say"
 	@echo "make clean         remove all that was built and proved"
 
 show:
@@ -74,6 +74,11 @@ install:
 	  printf '#!/bin/sh\nPYTHONPATH="%s$${PYTHONPATH:+:$$PYTHONPATH}" exec python3 -m %s "$$@"\n' \
 	    "$(PREFIX)/lib/overlayd" "overlayd.$${tool}er" > "$$to" && chmod 755 "$$to" || exit 1; \
 	done
+	if test -x out/overlayd-fuse; then \
+	  install -D -m 755 out/overlayd-fuse "$(DESTDIR)$(PREFIX)/bin/overlayd-fuse" && \
+	  install -D -m 644 clients/fuse/overlayd-fuse.1 \
+	    "$(DESTDIR)$(PREFIX)/share/man/man1/overlayd-fuse.1"; \
+	fi
 
 clean:
 	rm -rf out crates/*/out clients/python/build clients/python/*.egg-info
