@@ -392,13 +392,14 @@ impl<F: Callback, R: Rule> Core<F, R> {
         ensures kept { CoreKeeps self.old self.new }
     {
         self.waiting.clear();
-        let turn = answer(&mut self.watched, job);
-        match &turn {
-            Turn::Done(_) => self.finished += 1,
-            Turn::NoMemory => {}
+        match answer(&mut self.watched, job) {
+            Turn::Done(reply) => {
+                self.finished += 1;
+                Turn::Done(reply)
+            }
+            Turn::NoMemory => Turn::NoMemory,
             Turn::More => unreachable!(),
         }
-        turn
     }
 
     /// Gives up a job, with its temp, and hands its call back; nothing that is shown changes.

@@ -11,11 +11,11 @@ pub invariant_of-self : goal.invariant_of-self
 invariant_of-self g c =
     let self = c.args.self.now in
     let old = self.watched in
-    let new = c.answer-turn.new.watched in
+    let new = c.answer.new.watched in
     let job = c.args.job.now in
-    let reads = rw c.in-Done.is at c.answer-turn.ensures.reads in
+    let reads = c.in-Done.ensures.reads in
     record {
-      agrees = state-goes g.R.Rule.shows old.mount new.mount old.notifier new.notifier job.client (Called job.call c.in-Done.field-0) self.agrees reads.turns.0;
+      agrees = state-goes g.R.Rule.shows old.mount new.mount old.notifier new.notifier job.client (Called job.call c.in-Done.reply) self.agrees reads.turns.0;
       begins = has-begun (self.finished + 1) (machine_options false self.options) new.mount new.notifier (some-more self.finished);
       given = given-more old.mount.clients.next new.mount.clients.next self.finished self.given reads.clients.next;
       short = self.short;
@@ -29,8 +29,8 @@ pub invariant_of-self-in-NoMemory : goal.invariant_of-self-in-NoMemory
 invariant_of-self-in-NoMemory g c =
     let self = c.args.self.now in
     let old = self.watched in
-    let new = c.answer-turn.new.watched in
-    let reads = rw c.in-NoMemory.is at c.answer-turn.ensures.reads in
+    let new = c.answer.new.watched in
+    let reads = c.in-NoMemory.ensures.reads in
     let there = old.mount.clients.rising c.args.job.now.client c.requires.attached in
     record {
       agrees = state-stays old.mount new.mount old.notifier new.notifier self.agrees reads.turns.0;
@@ -46,14 +46,14 @@ invariant_of-self-in-NoMemory g c =
 pub returns-in-Done-clause-turn : goal.returns-in-Done-clause-turn
 returns-in-Done-clause-turn g c =
     let old = c.args.self.now.watched in
-    let new = c.answer-turn.new.watched in
+    let new = c.answer.new.watched in
     let job = c.args.job.now in
-    let reads = rw c.in-Done.is at c.answer-turn.ensures.reads in
+    let reads = c.in-Done.ensures.reads in
     let turns = reads.turns in
-    rw c.in-Done.is (subst (λ b. GoesAs b g.R.Rule.shows old.mount old.notifier job.client (Called job.call c.in-Done.field-0) new.mount new.notifier) (sym c.requires.read_only) turns.0, turns.1)
+    (subst (λ b. GoesAs b g.R.Rule.shows old.mount old.notifier job.client (Called job.call c.in-Done.reply) new.mount new.notifier) (sym c.requires.read_only) turns.0, turns.1)
 
 pub returns-in-Done-clause-marks : goal.returns-in-Done-clause-marks
-returns-in-Done-clause-marks g c = c.answer-turn.ensures.reads.marks
+returns-in-Done-clause-marks g c = c.in-Done.ensures.reads.marks
 
 pub returns-in-NoMemory-clause-marks : goal.returns-in-NoMemory-clause-marks
-returns-in-NoMemory-clause-marks g c = c.answer-turn.ensures.reads.marks
+returns-in-NoMemory-clause-marks g c = c.in-NoMemory.ensures.reads.marks
