@@ -64,19 +64,19 @@ pub one-text : (s t : List ℕ) (p : Path) → path_of_text s ≡ Ok p → path_
 one-text s t p e f = spelled-text s p e ∙ sym (spelled-text t p f)
 
 -- an entry without a fault has a path text and an item
-record IsRead (limit : ℕ) (m : Members) (p : Path) (i : Item) : Type 0 where
+record IsRead (limit : ℕ) (blobs : List (List ℕ)) (m : Members) (p : Path) (i : Item) : Type 0 where
   k : EntryKind
-  is_item : item_of limit k m ≡ Ok i
+  is_item : item_of limit blobs k m ≡ Ok i
   text : List ℕ
   is_text : text_at (codes "path") m ≡ Some text
   is_path : path_of_text text ≡ Ok p
 
-is-read : (limit : ℕ) (m : Members) (p : Path) (i : Item) → read limit m ≡ Ok (p, i) → IsRead limit m p i
-is-read limit m p i e =
+is-read : (limit : ℕ) (blobs : List (List ℕ)) (m : Members) (p : Path) (i : Item) → read limit blobs m ≡ Ok (p, i) → IsRead limit blobs m p i
+is-read limit blobs m p i e =
     let k = then-ok (kind_of m) _ (p, i) e in
     let q = then-ok (path_of m) _ (p, i) k.2 in
     let c = then-ok (checked k.0 q.0 m) _ (p, i) q.2 in
-    let j = then-ok (item_of limit k.0 m) _ (p, i) c.2 in
+    let j = then-ok (item_of limit blobs k.0 m) _ (p, i) c.2 in
     let pair : (q.0, j.0) ≡ (p, i) = unwrap _ _ j.2 in
     let same_path : q.0 ≡ p = ap (λ (x : Path × Item). x.0) pair in
     let same_item : j.0 ≡ i = ap (λ (x : Path × Item). x.1) pair in
@@ -93,13 +93,13 @@ is-read limit m p i e =
     unwrap x y e = cc
 
 -- whether the path to which an entry leads is listed tells whether a further name stands there
-pub tells : (limit : ℕ) (texts : List (List ℕ)) (before : List Entry) (m : Members) (p : Path) (i : Item) (b : Bool) → Lists texts before → read limit m ≡ Ok (p, i) → b ≡ option_map_or (has_text texts) (text_at (codes "to") m) false → Tells before i b
-tells limit texts before m p (put.Object o) b lists e is = tt
-tells limit texts before m p put.Whiteout b lists e is = tt
-tells limit texts before m p (put.Link None) b lists e is = tt
-tells limit texts before m p (put.Link (Some to)) b lists e is =
-    let r = is-read limit m p (put.Link (Some to)) e in
-    let text = bound (λ text. result_ok (path_of_text text)) (text_at (codes "to") m) to (link-item limit r.k m (Some to) r.is_item) in
+pub tells : (limit : ℕ) (blobs : List (List ℕ)) (texts : List (List ℕ)) (before : List Entry) (m : Members) (p : Path) (i : Item) (b : Bool) → Lists texts before → read limit blobs m ≡ Ok (p, i) → b ≡ option_map_or (has_text texts) (text_at (codes "to") m) false → Tells before i b
+tells limit blobs texts before m p (put.Object o) b lists e is = tt
+tells limit blobs texts before m p put.Whiteout b lists e is = tt
+tells limit blobs texts before m p (put.Link None) b lists e is = tt
+tells limit blobs texts before m p (put.Link (Some to)) b lists e is =
+    let r = is-read limit blobs m p (put.Link (Some to)) e in
+    let text = bound (λ text. result_ok (path_of_text text)) (text_at (codes "to") m) to (link-item limit blobs r.k m (Some to) r.is_item) in
     is ∙ ap (λ (o : Option (List ℕ)). option_map_or (has_text texts) o false) text.1 ∙ lists text.0 to (result_ok-some (path_of_text text.0) to text.2)
 
 or-false : (b : Bool) → b || false ≡ b
@@ -123,9 +123,9 @@ lists-kept texts before after p i lists plain w =
     at q (inr off) = ap (λ (b : Bool). is_further (cond b (Some i) (put_at before q))) (sym off)
 
 -- with a further name its text is listed too
-pub lists-more : (limit : ℕ) (texts more : List (List ℕ)) (before after : List Entry) (m : Members) (p : Path) (i : Item) → Lists texts before → read limit m ≡ Ok (p, i) → is_further (Some i) ≡ true → ((text : List ℕ) → text_at (codes "path") m ≡ Some text → (other : List ℕ) → has_text more other ≡ (bytes_eq other text || has_text texts other)) → with_entry before p i ≡ Ok after → Lists more after
-lists-more limit texts more before after m p i lists e further adds w =
-    let r = is-read limit m p i e in
+pub lists-more : (limit : ℕ) (blobs : List (List ℕ)) (texts more : List (List ℕ)) (before after : List Entry) (m : Members) (p : Path) (i : Item) → Lists texts before → read limit blobs m ≡ Ok (p, i) → is_further (Some i) ≡ true → ((text : List ℕ) → text_at (codes "path") m ≡ Some text → (other : List ℕ) → has_text more other ≡ (bytes_eq other text || has_text texts other)) → with_entry before p i ≡ Ok after → Lists more after
+lists-more limit blobs texts more before after m p i lists e further adds w =
+    let r = is-read limit blobs m p i e in
     subst (Lists more) (placed-is before p i after w) (λ text q is. adds r.text r.is_text text ∙ at r.text r.is_path text q is (cases_Bool (same_path p q)))
   where
     at : (own : List ℕ) → path_of_text own ≡ Ok p → (text : List ℕ) (q : Path) → path_of_text text ≡ Ok q → (same_path p q ≡ true) ⊎ (same_path p q ≡ false) → (bytes_eq text own || has_text texts text) ≡ is_further (cond (same_path p q) (Some i) (put_at before q))

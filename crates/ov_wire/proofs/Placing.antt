@@ -340,9 +340,9 @@ planted set old new a before name path i to_further (Err (error.Fault f)) d tell
 planted set old new a before name path i to_further (Err (error.Memory e)) d tells parent none layer h = tt
 
 -- an entry as it is spelled
-pub spelled-is : (limit : ℕ) (before : List Entry) (d : Data) (m : Members) (p : Path) (i : Item) → as_table d ≡ Some m → read limit m ≡ Ok (p, i) → with_spelled limit before d ≡ with_entry before p i
-spelled-is limit before d m p i t r =
-    ap (λ (o : Option Members). and_then (ok_or o fault.Kind) (λ m. and_then (read limit m) (λ e. with_entry before e.0 e.1))) t
+pub spelled-is : (limit : ℕ) (blobs : List (List ℕ)) (before : List Entry) (d : Data) (m : Members) (p : Path) (i : Item) → as_table d ≡ Some m → read limit blobs m ≡ Ok (p, i) → with_spelled limit blobs before d ≡ with_entry before p i
+spelled-is limit blobs before d m p i t r =
+    ap (λ (o : Option Members). and_then (ok_or o fault.Kind) (λ m. and_then (read limit blobs m) (λ e. with_entry before e.0 e.1))) t
     ∙ ap (λ (x : Result (Path × Item) EntryFault). and_then x (λ e. with_entry before e.0 e.1)) r
 
 abbrev checked : Bool → Result (Unit {0}) EntryFault

@@ -7,8 +7,8 @@ use Rattle.toml.specs.declared.value.Value.{Value}
 use Rattle.plain_model.specs.Layers.{Layer, IsLayer, AreLayers}
 use Rattle.std.specs.Option.{option_and_then, option_map_or, unwrap_or}
 use Rattle.std.specs.Str.{bytes_eq}
-use Rattle.ov_wire.specs.ManifestEntries.{and_then, members_all, text_at}
-use Rattle.ov_wire.specs.Manifests.{checked, entries_in, file_limit_of, file_limit_within, history_of, history_within, is_top_key, may_metacopy, metacopy_named, metacopy_of, options_of, redirects_named, redirects_of, whole_of, Refuses}
+use Rattle.ov_wire.specs.ManifestEntries.{and_then, is_array_of, members_all, text_at}
+use Rattle.ov_wire.specs.Manifests.{blobs_checked, checked, entries_in, file_limit_of, file_limit_within, has_upper, history_of, history_within, is_layer_count, is_text, is_top_key, layer_count, may_metacopy, metacopy_named, metacopy_of, options_of, redirects_named, redirects_of, whole_of, Refuses}
 use Rattle.ov_base.specs.declared.attributes.Attributes.{Attributes}
 use Rattle.ov_base.specs.declared.options.Options.{Options}
 use Rattle.layer_tree.specs.Tree.{Tree, layer_of}
@@ -24,65 +24,65 @@ use Rattle.ov_wire.specs.declared.manifest.fault.ManifestFault.TheVariants as wh
 pub left : (xs : List Value) (i : ℕ) (x : Value) → i < length xs → x ≡ get_or xs i x → drop i xs ≡ x ∷ drop (i + 1) xs
 left xs i x within is = drop_more xs i x within ∙ ap (λ y. y ∷ drop (i + 1) xs) (sym is)
 
-module _ (limit : ℕ) (xs : List Value) (i : ℕ) (before : List Entry) where
+module _ (limit : ℕ) (blobs : List (List ℕ)) (xs : List Value) (i : ℕ) (before : List Entry) where
   -- one entry on
-  pub entry-on : (x : Value) (after : List Entry) → i < length xs → x ≡ get_or xs i x → with_spelled limit before (view x) ≡ Ok after → entries_from limit i before (items_view (drop i xs)) ≡ entries_from limit (i + 1) after (items_view (drop (i + 1) xs))
+  pub entry-on : (x : Value) (after : List Entry) → i < length xs → x ≡ get_or xs i x → with_spelled limit blobs before (view x) ≡ Ok after → entries_from limit blobs i before (items_view (drop i xs)) ≡ entries_from limit blobs (i + 1) after (items_view (drop (i + 1) xs))
   entry-on x after within is w =
-      ap (λ ys. entries_from limit i before (items_view ys)) (left xs i x within is)
-      ∙ ap (λ r. and_then (numbered i r) (λ more. entries_from limit (suc i) more (items_view (drop (i + 1) xs)))) w
-      ∙ ap (λ j. entries_from limit j after (items_view (drop (i + 1) xs))) (sym (add-one i))
+      ap (λ ys. entries_from limit blobs i before (items_view ys)) (left xs i x within is)
+      ∙ ap (λ r. and_then (numbered i r) (λ more. entries_from limit blobs (suc i) more (items_view (drop (i + 1) xs)))) w
+      ∙ ap (λ j. entries_from limit blobs j after (items_view (drop (i + 1) xs))) (sym (add-one i))
 
   -- an entry at fault
-  pub entry-fault : (x : Value) (f : EntryFault) → i < length xs → x ≡ get_or xs i x → with_spelled limit before (view x) ≡ Err f → entries_from limit i before (items_view (drop i xs)) ≡ Err (i, f)
+  pub entry-fault : (x : Value) (f : EntryFault) → i < length xs → x ≡ get_or xs i x → with_spelled limit blobs before (view x) ≡ Err f → entries_from limit blobs i before (items_view (drop i xs)) ≡ Err (i, f)
   entry-fault x f within is w =
-      ap (λ ys. entries_from limit i before (items_view ys)) (left xs i x within is)
-      ∙ ap (λ r. and_then (numbered i r) (λ more. entries_from limit (suc i) more (items_view (drop (i + 1) xs)))) w
+      ap (λ ys. entries_from limit blobs i before (items_view ys)) (left xs i x within is)
+      ∙ ap (λ r. and_then (numbered i r) (λ more. entries_from limit blobs (suc i) more (items_view (drop (i + 1) xs)))) w
 
   -- no entry is left
-  pub entries-end : length xs ≤ i → entries_from limit i before (items_view (drop i xs)) ≡ Ok before
-  entries-end past = ap (λ ys. entries_from limit i before (items_view ys)) (drop_all i xs past)
+  pub entries-end : length xs ≤ i → entries_from limit blobs i before (items_view (drop i xs)) ≡ Ok before
+  entries-end past = ap (λ ys. entries_from limit blobs i before (items_view ys)) (drop_all i xs past)
 
 -- one more layer
-pub AreSpelled-push : (limit : ℕ) (Ls : List Layer) (xs : List Value) (L : Layer) (x : Value) → AreSpelled limit Ls (items_view xs) → IsSpelled limit L (entries_in (view x)) → AreSpelled limit (Ls ++ L ∷ []) (items_view (xs ++ x ∷ []))
-AreSpelled-push limit [] [] L x h s = (s, tt)
-AreSpelled-push limit [] (y ∷ ys) L x h s = absurd h
-AreSpelled-push limit (M ∷ Ls) [] L x h s = absurd h
-AreSpelled-push limit (M ∷ Ls) (y ∷ ys) L x h s = (h.0, AreSpelled-push limit Ls ys L x h.1 s)
+pub AreSpelled-push : (limit : ℕ) (blobs : List (List ℕ)) (Ls : List Layer) (xs : List Value) (L : Layer) (x : Value) → AreSpelled limit blobs Ls (items_view xs) → IsSpelled limit blobs L (entries_in (view x)) → AreSpelled limit blobs (Ls ++ L ∷ []) (items_view (xs ++ x ∷ []))
+AreSpelled-push limit blobs [] [] L x h s = (s, tt)
+AreSpelled-push limit blobs [] (y ∷ ys) L x h s = absurd h
+AreSpelled-push limit blobs (M ∷ Ls) [] L x h s = absurd h
+AreSpelled-push limit blobs (M ∷ Ls) (y ∷ ys) L x h s = (h.0, AreSpelled-push limit blobs Ls ys L x h.1 s)
 
 pub AreLayers-push : (Ls : List Layer) (L : Layer) → AreLayers Ls → IsLayer L → AreLayers (Ls ++ L ∷ [])
 AreLayers-push [] L h s = (s, tt)
 AreLayers-push (M ∷ Ls) L h s = (h.0, AreLayers-push Ls L h.1 s)
 
-module _ (limit : ℕ) (xs : List Value) (i j : ℕ) where
+module _ (limit : ℕ) (blobs : List (List ℕ)) (xs : List Value) (i j : ℕ) where
   -- a layer without a fault
-  pub layer-on : (x : Value) (entries : List Entry) → i < length xs → x ≡ get_or xs i x → entries_of limit (entries_in (view x)) ≡ Ok entries → layers_fault limit j (items_view (drop i xs)) ≡ layers_fault limit (j + 1) (items_view (drop (i + 1) xs))
+  pub layer-on : (x : Value) (entries : List Entry) → i < length xs → x ≡ get_or xs i x → entries_of limit blobs (entries_in (view x)) ≡ Ok entries → layers_fault limit blobs j (items_view (drop i xs)) ≡ layers_fault limit blobs (j + 1) (items_view (drop (i + 1) xs))
   layer-on x entries within is e =
-      ap (λ ys. layers_fault limit j (items_view ys)) (left xs i x within is)
-      ∙ ap (λ r. fault_or j r (layers_fault limit (suc j) (items_view (drop (i + 1) xs)))) e
-      ∙ ap (λ k. layers_fault limit k (items_view (drop (i + 1) xs))) (sym (add-one j))
+      ap (λ ys. layers_fault limit blobs j (items_view ys)) (left xs i x within is)
+      ∙ ap (λ r. fault_or j r (layers_fault limit blobs (suc j) (items_view (drop (i + 1) xs)))) e
+      ∙ ap (λ k. layers_fault limit blobs k (items_view (drop (i + 1) xs))) (sym (add-one j))
 
   -- a layer at fault
-  pub layer-fault : (x : Value) (number : ℕ) (f : EntryFault) → i < length xs → x ≡ get_or xs i x → entries_of limit (entries_in (view x)) ≡ Err (number, f) → layers_fault limit j (items_view (drop i xs)) ≡ Some (whole.Entry j number f)
+  pub layer-fault : (x : Value) (number : ℕ) (f : EntryFault) → i < length xs → x ≡ get_or xs i x → entries_of limit blobs (entries_in (view x)) ≡ Err (number, f) → layers_fault limit blobs j (items_view (drop i xs)) ≡ Some (whole.Entry j number f)
   layer-fault x number f within is e =
-      ap (λ ys. layers_fault limit j (items_view ys)) (left xs i x within is)
-      ∙ ap (λ r. fault_or j r (layers_fault limit (suc j) (items_view (drop (i + 1) xs)))) e
+      ap (λ ys. layers_fault limit blobs j (items_view ys)) (left xs i x within is)
+      ∙ ap (λ r. fault_or j r (layers_fault limit blobs (suc j) (items_view (drop (i + 1) xs)))) e
 
 -- an entry at fault is told with its number
-pub told : (limit : ℕ) (xs : List Value) (i : ℕ) (before : List Entry) (x : Value) (index : ℕ) (L : Layer) (a : Attributes) (e : EntryError) (r : ManifestFault) → r ≡ fault_at index i e → i < length xs → x ≡ get_or xs i x → entries_of limit (items_view xs) ≡ entries_from limit i before (items_view (drop i xs)) → Places {T = Bool} (λ s. s) L a (with_spelled limit before (view x)) (Err e) → ReadsLayer limit index (items_view xs) (Err r)
-told limit xs i before x index L a (error.Fault f) r is within at so_far p =
-    subst (λ (r : ManifestFault). ReadsLayer limit index (items_view xs) (Err r)) (sym is) (refl, so_far ∙ entry-fault limit xs i before x f within at p)
-told limit xs i before x index L a (error.Memory m) r is within at so_far p =
-    subst (λ (r : ManifestFault). ReadsLayer limit index (items_view xs) (Err r)) (sym is) tt
+pub told : (limit : ℕ) (blobs : List (List ℕ)) (xs : List Value) (i : ℕ) (before : List Entry) (x : Value) (index : ℕ) (L : Layer) (a : Attributes) (e : EntryError) (r : ManifestFault) → r ≡ fault_at index i e → i < length xs → x ≡ get_or xs i x → entries_of limit blobs (items_view xs) ≡ entries_from limit blobs i before (items_view (drop i xs)) → Places {T = Bool} (λ s. s) L a (with_spelled limit blobs before (view x)) (Err e) → ReadsLayer limit blobs index (items_view xs) (Err r)
+told limit blobs xs i before x index L a (error.Fault f) r is within at so_far p =
+    subst (λ (r : ManifestFault). ReadsLayer limit blobs index (items_view xs) (Err r)) (sym is) (refl, so_far ∙ entry-fault limit blobs xs i before x f within at p)
+told limit blobs xs i before x index L a (error.Memory m) r is within at so_far p =
+    subst (λ (r : ManifestFault). ReadsLayer limit blobs index (items_view xs) (Err r)) (sym is) tt
 
-module _ (limit : ℕ) (old new : List Tree) (t : Tree) (xs : List Value) (i : ℕ) (x : Value) (grown : new ≡ old ++ t ∷ []) where
+module _ (limit : ℕ) (blobs : List (List ℕ)) (old new : List Tree) (t : Tree) (xs : List Value) (i : ℕ) (x : Value) (grown : new ≡ old ++ t ∷ []) where
   -- the layers with one more are as they are spelled
-  pub spelled-on : i < length xs → x ≡ get_or xs i x → AreSpelled limit (map layer_of old) (items_view (take i xs)) → IsSpelled limit (layer_of t) (entries_in (view x)) → AreSpelled limit (map layer_of new) (items_view (take (i + 1) xs))
+  pub spelled-on : i < length xs → x ≡ get_or xs i x → AreSpelled limit blobs (map layer_of old) (items_view (take i xs)) → IsSpelled limit blobs (layer_of t) (entries_in (view x)) → AreSpelled limit blobs (map layer_of new) (items_view (take (i + 1) xs))
   spelled-on within is h s =
       let more : take (i + 1) xs ≡ take i xs ++ x ∷ [] = take_more xs i x within ∙ ap (λ y. take i xs ++ y ∷ []) (sym is) in
-      subst (λ ts. AreSpelled limit (map layer_of ts) (items_view (take (i + 1) xs))) (sym grown)
-      (subst (λ Ls. AreSpelled limit Ls (items_view (take (i + 1) xs))) (sym (map-append layer_of old (t ∷ [])))
-      (subst (λ ys. AreSpelled limit (map layer_of old ++ layer_of t ∷ []) (items_view ys)) (sym more)
-      (AreSpelled-push limit (map layer_of old) (take i xs) (layer_of t) x h s)))
+      subst (λ ts. AreSpelled limit blobs (map layer_of ts) (items_view (take (i + 1) xs))) (sym grown)
+      (subst (λ Ls. AreSpelled limit blobs Ls (items_view (take (i + 1) xs))) (sym (map-append layer_of old (t ∷ [])))
+      (subst (λ ys. AreSpelled limit blobs (map layer_of old ++ layer_of t ∷ []) (items_view ys)) (sym more)
+      (AreSpelled-push limit blobs (map layer_of old) (take i xs) (layer_of t) x h s)))
 
   -- the layers with one more are layers
   pub layers-on : AreLayers (map layer_of old) → IsLayer (layer_of t) → AreLayers (map layer_of new)
@@ -91,35 +91,36 @@ module _ (limit : ℕ) (old new : List Tree) (t : Tree) (xs : List Value) (i : �
       (subst AreLayers (sym (map-append layer_of old (t ∷ []))) (AreLayers-push (map layer_of old) (layer_of t) h s))
 
 -- a layer's fault is the first, where none was before
-pub first-told : (limit i : ℕ) (items : Items) (later : Option ManifestFault) (e : ManifestFault) → ReadsLayer limit i items (Err e) → IsTold (fault_or i (entries_of limit items) later) e
-first-told limit i items later (whole.Entry layer number f) h = ap (λ r. fault_or i r later) h.1 ∙ ap (λ (l : ℕ). Some (whole.Entry l number f)) (sym h.0)
-first-told limit i items later (whole.Memory m) h = tt
-first-told limit i items later whole.NotToml h = absurd h
-first-told limit i items later whole.Key h = absurd h
-first-told limit i items later whole.RedirectDir h = absurd h
-first-told limit i items later whole.Metacopy h = absurd h
-first-told limit i items later whole.History h = absurd h
-first-told limit i items later whole.FileLimit h = absurd h
-first-told limit i items later whole.Layers h = absurd h
+pub first-told : (limit : ℕ) (blobs : List (List ℕ)) (i : ℕ) (items : Items) (later : Option ManifestFault) (e : ManifestFault) → ReadsLayer limit blobs i items (Err e) → IsTold (fault_or i (entries_of limit blobs items) later) e
+first-told limit blobs i items later (whole.Entry layer number f) h = ap (λ r. fault_or i r later) h.1 ∙ ap (λ (l : ℕ). Some (whole.Entry l number f)) (sym h.0)
+first-told limit blobs i items later (whole.Memory m) h = tt
+first-told limit blobs i items later whole.NotToml h = absurd h
+first-told limit blobs i items later whole.Key h = absurd h
+first-told limit blobs i items later whole.RedirectDir h = absurd h
+first-told limit blobs i items later whole.Metacopy h = absurd h
+first-told limit blobs i items later whole.History h = absurd h
+first-told limit blobs i items later whole.FileLimit h = absurd h
+first-told limit blobs i items later whole.Blobs h = absurd h
+first-told limit blobs i items later whole.Layers h = absurd h
 
 -- layers that are as they are spelled have no fault
-pub spelled-faultless : (limit i : ℕ) (Ls : List Layer) (items : Items) → AreSpelled limit Ls items → layers_fault limit i items ≡ None
-spelled-faultless limit i [] no_items h = refl
-spelled-faultless limit i [] (item d rest) h = absurd h
-spelled-faultless limit i (L ∷ Ls) no_items h = absurd h
-spelled-faultless limit i (L ∷ Ls) (item d rest) h = ap (λ r. fault_or i r (layers_fault limit (suc i) rest)) (h.0).1 ∙ spelled-faultless limit (suc i) Ls rest h.1
+pub spelled-faultless : (limit : ℕ) (blobs : List (List ℕ)) (i : ℕ) (Ls : List Layer) (items : Items) → AreSpelled limit blobs Ls items → layers_fault limit blobs i items ≡ None
+spelled-faultless limit blobs i [] no_items h = refl
+spelled-faultless limit blobs i [] (item d rest) h = absurd h
+spelled-faultless limit blobs i (L ∷ Ls) no_items h = absurd h
+spelled-faultless limit blobs i (L ∷ Ls) (item d rest) h = ap (λ r. fault_or i r (layers_fault limit blobs (suc i) rest)) (h.0).1 ∙ spelled-faultless limit blobs (suc i) Ls rest h.1
 
 -- a fault of the entries is that of the manifest, whose whole has none
-pub told-of-entries : (m : Members) (options : Options) (e : ManifestFault) → whole_of m ≡ Ok options → IsTold (layers_fault options.file_limit 0 (layer_items m)) e → IsTold (fault_of (manifest_of m)) e
-told-of-entries m options e w h = subst (λ o. IsTold o e) (sym (ap (λ r. fault_of (and_then r (λ (o : Options). unless_fault (layers_fault o.file_limit 0 (layer_items m)) o))) w ∙ of (layers_fault options.file_limit 0 (layer_items m)))) h
+pub told-of-entries : (blobs : List (List ℕ)) (m : Members) (options : Options) (e : ManifestFault) → whole_of m ≡ Ok options → IsTold (layers_fault options.file_limit blobs 0 (layer_items m)) e → IsTold (fault_of (manifest_of blobs m)) e
+told-of-entries blobs m options e w h = subst (λ o. IsTold o e) (sym (ap (λ r. fault_of (and_then r (λ (o : Options). unless_fault (layers_fault o.file_limit blobs 0 (layer_items m)) o))) w ∙ of (layers_fault options.file_limit blobs 0 (layer_items m)))) h
   where
     of : (o : Option ManifestFault) → fault_of (unless_fault o options) ≡ o
     of None = refl
     of (Some f) = refl
 
 -- a manifest without a fault is its options
-pub options-of-entries : (m : Members) (options : Options) → whole_of m ≡ Ok options → layers_fault options.file_limit 0 (layer_items m) ≡ None → manifest_of m ≡ Ok options
-options-of-entries m options w none = ap (λ r. and_then r (λ (o : Options). unless_fault (layers_fault o.file_limit 0 (layer_items m)) o)) w ∙ ap (λ f. unless_fault f options) none
+pub options-of-entries : (blobs : List (List ℕ)) (m : Members) (options : Options) → whole_of m ≡ Ok options → layers_fault options.file_limit blobs 0 (layer_items m) ≡ None → manifest_of blobs m ≡ Ok options
+options-of-entries blobs m options w none = ap (λ r. and_then r (λ (o : Options). unless_fault (layers_fault o.file_limit blobs 0 (layer_items m)) o)) w ∙ ap (λ f. unless_fault f options) none
 
 -- what tells each fault refuses by it
 pub refuses-told : {T : Type 0} (r : Result T ManifestFault) (wanted : Result Options ManifestFault) → IfErr r (IsTold (fault_of wanted)) → IfOk r (λ _. is_ok wanted ≡ true) → IfErr wanted (Refuses r)
@@ -133,6 +134,7 @@ refuses-told (Err whole.RedirectDir) (Err f) told ok = cc
 refuses-told (Err whole.Metacopy) (Err f) told ok = cc
 refuses-told (Err whole.History) (Err f) told ok = cc
 refuses-told (Err whole.FileLimit) (Err f) told ok = cc
+refuses-told (Err whole.Blobs) (Err f) told ok = cc
 refuses-told (Err whole.Layers) (Err f) told ok = cc
 
 -- what isn't that fault, and goes on to none, isn't it
@@ -177,6 +179,9 @@ most-toml : (z : ℤ) → file_limit_within z ≡ Err whole.NotToml → ⊥
 most-toml (pos n) is = either-toml (nat_le 1 n && nat_le n 1099511627776) (Ok n) (Err whole.FileLimit) (value-toml n (Ok n) refl) (limit-toml (Err whole.FileLimit) refl) is
 most-toml (negsuc n) is = limit-toml (file_limit_within (negsuc n)) refl is
 
+blobs-toml : {T : Type 0} (r : Result T ManifestFault) → r ≡ Err whole.Blobs → r ≡ Err whole.NotToml → ⊥
+blobs-toml r e is = cc
+
 word-toml : (word : List ℕ) → redirects_named word ≡ Err whole.NotToml → ⊥
 word-toml word =
     either-toml (bytes_eq word (codes "on")) (Ok true) _ (value-toml true (Ok true) refl)
@@ -188,8 +193,11 @@ copies-toml may word =
     (either-toml may (Ok true) (Err whole.Metacopy) (value-toml true (Ok true) refl) (metacopy-toml (Err whole.Metacopy) refl))
     (either-toml (bytes_eq word (codes "off")) (Ok false) (Err whole.Metacopy) (value-toml false (Ok false) refl) (metacopy-toml (Err whole.Metacopy) refl))
 
--- THE OPTIONS OF A TEXT THAT IS TOML ARE NEVER REFUSED FOR NOT BEING SO
-pub options-toml : (m : Members) → options_of m ≡ Err whole.NotToml → ⊥
+layers-toml : {T : Type 0} (r : Result T ManifestFault) → r ≡ Err whole.Layers → r ≡ Err whole.NotToml → ⊥
+layers-toml r e is = cc
+
+-- the options of a text that is TOML are never refused for not being so
+options-toml : (m : Members) → options_of m ≡ Err whole.NotToml → ⊥
 options-toml m =
     then-toml (checked m) _ (either-toml (members_all is_top_key m) (Ok tt) (Err whole.Key) (value-toml tt (Ok tt) refl) (key-toml (Err whole.Key) refl))
     (λ unit. then-toml (redirects_of m) _
@@ -197,4 +205,11 @@ options-toml m =
     (λ redirects. then-toml (metacopy_of (may_metacopy redirects m) m) _
     (said-toml (text_at (codes "metacopy") m) (metacopy_named (may_metacopy redirects m)) (Ok false) (copies-toml (may_metacopy redirects m)) (value-toml false (Ok false) refl))
     (λ metacopy. then-toml (history_of m) _ (length-toml (unwrap_or (option_and_then as_integer (get_member (codes "history") m)) (pos 100000))) (λ history. then-toml (file_limit_of m) _ (most-toml (unwrap_or (option_and_then as_integer (get_member (codes "file_limit") m)) (pos 1048576)))
-    (λ file_limit. let options : Options = record { redirects = redirects; metacopy = metacopy; history = history; file_limit = file_limit } in value-toml options (Ok options) refl)))))
+    (λ file_limit. then-toml (blobs_checked m) _ (either-toml (option_map_or (is_array_of is_text) (get_member (codes "blobs") m) true) (Ok tt) (Err whole.Blobs) (value-toml tt (Ok tt) refl) (blobs-toml (Err whole.Blobs) refl))
+    (λ unit. let options : Options = record { redirects = redirects; metacopy = metacopy; history = history; file_limit = file_limit } in value-toml options (Ok options) refl))))))
+
+-- NOR IS THE WHOLE
+pub whole-toml : (m : Members) → whole_of m ≡ Err whole.NotToml → ⊥
+whole-toml m =
+    then-toml (options_of m) _ (options-toml m)
+    (λ options. either-toml (is_layer_count (has_upper m) (layer_count m)) (Ok options) (Err whole.Layers) (value-toml options (Ok options) refl) (layers-toml (Err whole.Layers) refl))

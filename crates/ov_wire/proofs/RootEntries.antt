@@ -122,21 +122,21 @@ same-root : (i j : Item) → ok j ≡ Ok i → root_of (Some j) ≡ root_of (Som
 same-root i j e = let same : j ≡ i = cc in ap (λ (x : Item). root_of (Some x)) same
 
 -- what puts a directory is of kind `dir`, and gives its attributes
-directory-item : (limit : ℕ) (k : EntryKind) (m : Members) (i : Item) → item_of limit k m ≡ Ok i → is_directory (Some i) ≡ true → (k ≡ kind.Directory) × (attributes_of 493 m ≡ Ok (root_of (Some i)))
-directory-item limit kind.Directory m i h d =
+directory-item : (limit : ℕ) (blobs : List (List ℕ)) (k : EntryKind) (m : Members) (i : Item) → item_of limit blobs k m ≡ Ok i → is_directory (Some i) ≡ true → (k ≡ kind.Directory) × (attributes_of 493 m ≡ Ok (root_of (Some i)))
+directory-item limit blobs kind.Directory m i h d =
     let a = then-ok (attributes_of 493 m) _ i h in
     let b = then-ok (marks_of m) _ i a.2 in
     (refl, a.1 ∙ ap Ok (same-root i (put.Object (object.Directory a.0 b.0)) b.2))
-directory-item limit kind.File m i h d =
+directory-item limit blobs kind.File m i h d =
     let a = then-ok (attributes_of 420 m) _ i h in
-    let b = then-ok (bytes_of limit m) _ i a.2 in
+    let b = then-ok (bytes_of limit blobs m) _ i a.2 in
     absurd (other-item i _ b.2 refl d)
-directory-item limit kind.SymbolicLink m i h d =
+directory-item limit blobs kind.SymbolicLink m i h d =
     let a = then-ok (attributes_of 511 m) _ i h in
     let b = then-ok (target_of m) _ i a.2 in
     absurd (other-item i _ b.2 refl d)
-directory-item limit kind.Whiteout m i h d = absurd (other-item i put.Whiteout h refl d)
-directory-item limit kind.HardLink m i h d = absurd (other-item i (put.Link (path_to m)) h refl d)
+directory-item limit blobs kind.Whiteout m i h d = absurd (other-item i put.Whiteout h refl d)
+directory-item limit blobs kind.HardLink m i h d = absurd (other-item i (put.Link (path_to m)) h refl d)
 
 -- an entry at `/` is the first there, and a directory
 placed-root : (before : List Entry) (i : Item) (after : List Entry) → with_entry before [] i ≡ Ok after → (is_directory (Some i) ≡ true) × (is_some (put_at before []) ≡ false) × (put_at after [] ≡ Some i)
@@ -152,12 +152,12 @@ placed-below : (before : List Entry) (n : Name) (p : Path) (i : Item) (after : L
 placed-below before n p i after h = ap (λ (es : List Entry). put_at es []) (sym (placed-is before (n ∷ p) i after h))
 
 -- what is put at `/` stays so
-keeps-root : (limit number : ℕ) (before : List Entry) (items : Items) (final : List Entry) → entries_from limit number before items ≡ Ok final → (i : Item) → put_at before [] ≡ Some i → put_at final [] ≡ Some i
-keeps-root limit number before no_items final h i e = let same : before ≡ final = cc in ap (λ (es : List Entry). put_at es []) (sym same) ∙ e
-keeps-root limit number before (item d rest) final h i e =
-    let step = then-ok (numbered number (with_spelled limit before d)) _ final h in
-    let s = says limit before d step.0 (unnumbered number (with_spelled limit before d) step.0 step.1) in
-    keeps-root limit (suc number) step.0 rest final step.2 i (one s.path s.puts step.0 s.is_placed)
+keeps-root : (limit : ℕ) (blobs : List (List ℕ)) (number : ℕ) (before : List Entry) (items : Items) (final : List Entry) → entries_from limit blobs number before items ≡ Ok final → (i : Item) → put_at before [] ≡ Some i → put_at final [] ≡ Some i
+keeps-root limit blobs number before no_items final h i e = let same : before ≡ final = cc in ap (λ (es : List Entry). put_at es []) (sym same) ∙ e
+keeps-root limit blobs number before (item d rest) final h i e =
+    let step = then-ok (numbered number (with_spelled limit blobs before d)) _ final h in
+    let s = says limit blobs before d step.0 (unnumbered number (with_spelled limit blobs before d) step.0 step.1) in
+    keeps-root limit blobs (suc number) step.0 rest final step.2 i (one s.path s.puts step.0 s.is_placed)
   where
     one : (p : Path) (j : Item) (after : List Entry) → with_entry before p j ≡ Ok after → put_at after [] ≡ Some i
     one [] j after w = absurd (true≢false (sym (ap (λ (o : Option Item). is_some o) e) ∙ (placed-root before j after w).1))
@@ -178,20 +178,20 @@ not-given d m t p =
     ∙ ap (λ (b : Bool). cond (b && is_text_at (codes "kind") (codes "dir") m) (result_ok (attributes_of 493 m)) None) p
 
 -- THE ROOT'S ATTRIBUTES, where no entry is at fault, are those of the first entry that gives some
-pub root-said : (limit number : ℕ) (before : List Entry) (items : Items) (final : List Entry) → entries_from limit number before items ≡ Ok final → is_some (put_at before []) ≡ false → root_of (put_at final []) ≡ first_root items
-root-said limit number before no_items final h none =
+pub root-said : (limit : ℕ) (blobs : List (List ℕ)) (number : ℕ) (before : List Entry) (items : Items) (final : List Entry) → entries_from limit blobs number before items ≡ Ok final → is_some (put_at before []) ≡ false → root_of (put_at final []) ≡ first_root items
+root-said limit blobs number before no_items final h none =
     let same : before ≡ final = cc in
     ap (λ (es : List Entry). root_of (put_at es [])) (sym same) ∙ ap root_of (none-of (put_at before []) none)
-root-said limit number before (item d rest) final h none =
-    let step = then-ok (numbered number (with_spelled limit before d)) _ final h in
-    let s = says limit before d step.0 (unnumbered number (with_spelled limit before d) step.0 step.1) in
-    at s.table s.k s.path s.puts step.0 s.is_table s.is_kind s.is_path s.is_item s.is_placed step.2 (root-said limit (suc number) step.0 rest final step.2)
+root-said limit blobs number before (item d rest) final h none =
+    let step = then-ok (numbered number (with_spelled limit blobs before d)) _ final h in
+    let s = says limit blobs before d step.0 (unnumbered number (with_spelled limit blobs before d) step.0 step.1) in
+    at s.table s.k s.path s.puts step.0 s.is_table s.is_kind s.is_path s.is_item s.is_placed step.2 (root-said limit blobs (suc number) step.0 rest final step.2)
   where
-    at : (m : Members) (k : EntryKind) (p : Path) (i : Item) (after : List Entry) → as_table d ≡ Some m → kind_of m ≡ Ok k → path_of m ≡ Ok p → item_of limit k m ≡ Ok i → with_entry before p i ≡ Ok after → entries_from limit (suc number) after rest ≡ Ok final → (is_some (put_at after []) ≡ false → root_of (put_at final []) ≡ first_root rest) → root_of (put_at final []) ≡ unwrap_or (root_given d) (first_root rest)
+    at : (m : Members) (k : EntryKind) (p : Path) (i : Item) (after : List Entry) → as_table d ≡ Some m → kind_of m ≡ Ok k → path_of m ≡ Ok p → item_of limit blobs k m ≡ Ok i → with_entry before p i ≡ Ok after → entries_from limit blobs (suc number) after rest ≡ Ok final → (is_some (put_at after []) ≡ false → root_of (put_at final []) ≡ first_root rest) → root_of (put_at final []) ≡ unwrap_or (root_given d) (first_root rest)
     at m k [] i after t is_kind is_path is_item w later onward =
         let placed = placed-root before i after w in
-        let dir = directory-item limit k m i is_item placed.0 in
-        ap root_of (keeps-root limit (suc number) after rest final later i placed.2)
+        let dir = directory-item limit blobs k m i is_item placed.0 in
+        ap root_of (keeps-root limit blobs (suc number) after rest final later i placed.2)
         ∙ sym (ap (λ (o : Option Attributes). unwrap_or o (first_root rest)) (given d m (root_of (Some i)) t (root-path m is_path) (directory-text m (is_kind ∙ ap Ok dir.0)) dir.1))
     at m k (n ∷ p) i after t is_kind is_path is_item w later onward =
         onward (ap (λ (o : Option Item). is_some o) (placed-below before n p i after w) ∙ none)

@@ -32,7 +32,7 @@ result_ok-some (Ok y) x h = cc
 result_ok-some (Err e) x h = absurd (cc)
 
 -- an entry that is not at fault: its table, its kind, its path and what it puts there
-pub record Says (limit : ℕ) (before : List Entry) (d : Data) (after : List Entry) : Type 0 where
+pub record Says (limit : ℕ) (blobs : List (List ℕ)) (before : List Entry) (d : Data) (after : List Entry) : Type 0 where
   pub table : Members
   pub k : EntryKind
   pub path : Path
@@ -40,18 +40,18 @@ pub record Says (limit : ℕ) (before : List Entry) (d : Data) (after : List Ent
   pub is_table : as_table d ≡ Some table
   pub is_kind : kind_of table ≡ Ok k
   pub is_path : path_of table ≡ Ok path
-  pub is_item : item_of limit k table ≡ Ok puts
+  pub is_item : item_of limit blobs k table ≡ Ok puts
   pub is_placed : with_entry before path puts ≡ Ok after
 
 -- such an entry in its steps
-pub says : (limit : ℕ) (before : List Entry) (d : Data) (after : List Entry) → with_spelled limit before d ≡ Ok after → Says limit before d after
-says limit before d after h =
+pub says : (limit : ℕ) (blobs : List (List ℕ)) (before : List Entry) (d : Data) (after : List Entry) → with_spelled limit blobs before d ≡ Ok after → Says limit blobs before d after
+says limit blobs before d after h =
     let m = then-ok (ok_or (as_table d) fault.Kind) _ after h in
-    let e = then-ok (read limit m.0) _ after m.2 in
+    let e = then-ok (read limit blobs m.0) _ after m.2 in
     let k = then-ok (kind_of m.0) _ e.0 e.1 in
     let p = then-ok (path_of m.0) _ e.0 k.2 in
     let c = then-ok (checked k.0 p.0 m.0) _ e.0 p.2 in
-    let i = then-ok (item_of limit k.0 m.0) _ e.0 c.2 in
+    let i = then-ok (item_of limit blobs k.0 m.0) _ e.0 c.2 in
     let pair : (p.0, i.0) ≡ e.0 = unwrap _ _ i.2 in
     record {
       table = m.0;
@@ -74,18 +74,18 @@ unnumbered number (Ok y) x e = cc
 unnumbered number (Err f) x e = absurd (cc)
 
 -- what puts a further name is of kind `link`, and gives where it leads
-pub link-item : (limit : ℕ) (k : EntryKind) (m : Members) (to : Option Path) → item_of limit k m ≡ Ok (put.Link to) → path_to m ≡ to
-link-item limit kind.Directory m to h =
+pub link-item : (limit : ℕ) (blobs : List (List ℕ)) (k : EntryKind) (m : Members) (to : Option Path) → item_of limit blobs k m ≡ Ok (put.Link to) → path_to m ≡ to
+link-item limit blobs kind.Directory m to h =
     let a = then-ok (attributes_of 493 m) _ (put.Link to) h in
     let b = then-ok (marks_of m) _ (put.Link to) a.2 in
     let e = b.2 in absurd (cc)
-link-item limit kind.File m to h =
+link-item limit blobs kind.File m to h =
     let a = then-ok (attributes_of 420 m) _ (put.Link to) h in
-    let b = then-ok (bytes_of limit m) _ (put.Link to) a.2 in
+    let b = then-ok (bytes_of limit blobs m) _ (put.Link to) a.2 in
     let e = b.2 in absurd (cc)
-link-item limit kind.SymbolicLink m to h =
+link-item limit blobs kind.SymbolicLink m to h =
     let a = then-ok (attributes_of 511 m) _ (put.Link to) h in
     let b = then-ok (target_of m) _ (put.Link to) a.2 in
     let e = b.2 in absurd (cc)
-link-item limit kind.Whiteout m to h = absurd (cc)
-link-item limit kind.HardLink m to h = cc
+link-item limit blobs kind.Whiteout m to h = absurd (cc)
+link-item limit blobs kind.HardLink m to h = cc

@@ -147,9 +147,9 @@ attributes-within default m a small e =
     })
 
 -- the bytes that an entry gives
-bytes-within : (limit : ℕ) (m : Members) (bytes : List ℕ) → bytes_of limit m ≡ Ok bytes → length bytes ≤ limit
-bytes-within limit m bytes e =
-    let given = then-ok (bytes_given limit m) _ bytes e in
+bytes-within : (limit : ℕ) (blobs : List (List ℕ)) (m : Members) (bytes : List ℕ) → bytes_of limit blobs m ≡ Ok bytes → length bytes ≤ limit
+bytes-within limit blobs m bytes e =
+    let given = then-ok (bytes_given limit blobs m) _ bytes e in
     of given.0 (nat_lt limit (length given.0)) refl given.2
   where
     of : (given : List ℕ) (b : Bool) → nat_lt limit (length given) ≡ b → cond b (Err fault.Value) (Ok given) ≡ Ok bytes → length bytes ≤ limit
@@ -224,21 +224,21 @@ marks-within m x e =
     said (λ (y : Marks). (r : Redirect) → y.redirect ≡ Some r → IsSpelledRedirect r) (record { opaque = opaque_of m; redirect = s.0 }) x s.2
     (redirect-within (text_at (codes "redirect") m) s.0 s.1)
 
-item-within : (limit : ℕ) (k : EntryKind) (m : Members) (i : Item) → item_of limit k m ≡ Ok i → IsItemWithin limit i
-item-within limit kind.Directory m i e =
+item-within : (limit : ℕ) (blobs : List (List ℕ)) (k : EntryKind) (m : Members) (i : Item) → item_of limit blobs k m ≡ Ok i → IsItemWithin limit i
+item-within limit blobs kind.Directory m i e =
     let a = then-ok (attributes_of 493 m) _ i e in
     let b = then-ok (marks_of m) _ i a.2 in
     said (IsItemWithin limit) (put.Object (object.Directory a.0 b.0)) i b.2 (attributes-within 493 m a.0 (omega arith) a.1, marks-within m b.0 b.1)
-item-within limit kind.File m i e =
+item-within limit blobs kind.File m i e =
     let a = then-ok (attributes_of 420 m) _ i e in
-    let b = then-ok (bytes_of limit m) _ i a.2 in
-    said (IsItemWithin limit) _ i b.2 (attributes-within 420 m a.0 (omega arith) a.1, bytes-within limit m b.0 b.1)
-item-within limit kind.SymbolicLink m i e =
+    let b = then-ok (bytes_of limit blobs m) _ i a.2 in
+    said (IsItemWithin limit) _ i b.2 (attributes-within 420 m a.0 (omega arith) a.1, bytes-within limit blobs m b.0 b.1)
+item-within limit blobs kind.SymbolicLink m i e =
     let a = then-ok (attributes_of 511 m) _ i e in
     let b = then-ok (target_of m) _ i a.2 in
     said (IsItemWithin limit) _ i b.2 (attributes-within 511 m a.0 (omega arith) a.1, target-within m b.0 b.1)
-item-within limit kind.Whiteout m i e = said (IsItemWithin limit) put.Whiteout i e tt
-item-within limit kind.HardLink m i e = said (IsItemWithin limit) (put.Link (path_to m)) i e tt
+item-within limit blobs kind.Whiteout m i e = said (IsItemWithin limit) put.Whiteout i e tt
+item-within limit blobs kind.HardLink m i e = said (IsItemWithin limit) (put.Link (path_to m)) i e tt
 
 path-within : (m : Members) (p : Path) → path_of m ≡ Ok p → IsSpelledPath p
 path-within m p e =
@@ -251,13 +251,13 @@ AreEntriesWithin limit [] = Unit {0}
 AreEntriesWithin limit (e ∷ es) = IsSpelledPath e.0 × IsItemWithin limit e.1 × AreEntriesWithin limit es
 
 -- entries none of which is at fault are within the limits
-entries-within : (limit number : ℕ) (before : List Entry) (items : Items) (final : List Entry) → AreEntriesWithin limit before → entries_from limit number before items ≡ Ok final → AreEntriesWithin limit final
-entries-within limit number before no_items final h e = let same : before ≡ final = cc in subst (AreEntriesWithin limit) same h
-entries-within limit number before (item d rest) final h e =
-    let step = then-ok (numbered number (with_spelled limit before d)) _ final e in
-    let s = says limit before d step.0 (unnumbered number (with_spelled limit before d) step.0 step.1) in
-    let more : AreEntriesWithin limit ((s.path, s.puts) ∷ before) = (path-within s.table s.path s.is_path, item-within limit s.k s.table s.puts s.is_item, h) in
-    entries-within limit (suc number) step.0 rest final (subst (AreEntriesWithin limit) (placed-is before s.path s.puts step.0 s.is_placed) more) step.2
+entries-within : (limit : ℕ) (blobs : List (List ℕ)) (number : ℕ) (before : List Entry) (items : Items) (final : List Entry) → AreEntriesWithin limit before → entries_from limit blobs number before items ≡ Ok final → AreEntriesWithin limit final
+entries-within limit blobs number before no_items final h e = let same : before ≡ final = cc in subst (AreEntriesWithin limit) same h
+entries-within limit blobs number before (item d rest) final h e =
+    let step = then-ok (numbered number (with_spelled limit blobs before d)) _ final e in
+    let s = says limit blobs before d step.0 (unnumbered number (with_spelled limit blobs before d) step.0 step.1) in
+    let more : AreEntriesWithin limit ((s.path, s.puts) ∷ before) = (path-within s.table s.path s.is_path, item-within limit blobs s.k s.table s.puts s.is_item, h) in
+    entries-within limit blobs (suc number) step.0 rest final (subst (AreEntriesWithin limit) (placed-is before s.path s.puts step.0 s.is_placed) more) step.2
 
 -- what entries put at a path
 put-within : (limit : ℕ) (entries : List Entry) (p : Path) (i : Item) → AreEntriesWithin limit entries → put_at entries p ≡ Some i → IsSpelledPath p × IsItemWithin limit i
@@ -401,13 +401,13 @@ module _ (limit : ℕ) (L : Layer) (entries : List Entry) (s : IsAsSaid L entrie
   }
 
 -- layers that are as their entries say are within the limits
-pub spelled-within : (limit : ℕ) (Ls : List Layer) (items : Items) → AreSpelled limit Ls items → All (IsWithinLimits limit) Ls
-spelled-within limit [] items h = All-nil (IsWithinLimits limit)
-spelled-within limit (L ∷ Ls) no_items h = absurd h
-spelled-within limit (L ∷ Ls) (item d rest) h = All-cons (IsWithinLimits limit) L Ls (layer-within limit L (h.0).0 (h.0).2 (entries-within limit 0 [] (entries_in d) (h.0).0 tt (h.0).1)) (spelled-within limit Ls rest h.1)
+pub spelled-within : (limit : ℕ) (blobs : List (List ℕ)) (Ls : List Layer) (items : Items) → AreSpelled limit blobs Ls items → All (IsWithinLimits limit) Ls
+spelled-within limit blobs [] items h = All-nil (IsWithinLimits limit)
+spelled-within limit blobs (L ∷ Ls) no_items h = absurd h
+spelled-within limit blobs (L ∷ Ls) (item d rest) h = All-cons (IsWithinLimits limit) L Ls (layer-within limit L (h.0).0 (h.0).2 (entries-within limit blobs 0 [] (entries_in d) (h.0).0 tt (h.0).1)) (spelled-within limit blobs Ls rest h.1)
 
 -- and their paths are short
-pub spelled-short : (limit : ℕ) (Ls : List Layer) (items : Items) → AreSpelled limit Ls items → All HasShortPaths Ls
-spelled-short limit [] items h = All-nil HasShortPaths
-spelled-short limit (L ∷ Ls) no_items h = absurd h
-spelled-short limit (L ∷ Ls) (item d rest) h = All-cons HasShortPaths L Ls (layer-short limit L (h.0).0 (h.0).2 (entries-within limit 0 [] (entries_in d) (h.0).0 tt (h.0).1)) (spelled-short limit Ls rest h.1)
+pub spelled-short : (limit : ℕ) (blobs : List (List ℕ)) (Ls : List Layer) (items : Items) → AreSpelled limit blobs Ls items → All HasShortPaths Ls
+spelled-short limit blobs [] items h = All-nil HasShortPaths
+spelled-short limit blobs (L ∷ Ls) no_items h = absurd h
+spelled-short limit blobs (L ∷ Ls) (item d rest) h = All-cons HasShortPaths L Ls (layer-short limit L (h.0).0 (h.0).2 (entries-within limit blobs 0 [] (entries_in d) (h.0).0 tt (h.0).1)) (spelled-short limit blobs Ls rest h.1)

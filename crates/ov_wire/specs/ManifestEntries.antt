@@ -1,5 +1,5 @@
 -- What an entry of a manifest says: its kind, its path and what it puts there, or its first fault before it is placed.
-use Rattle.std.specs.Prelude.{◌≡◌, codes, ℕ, ℤ, pos, negsuc, ◌+◌, ◌-◌, ◌*◌, List, [], ◌++◌, replicate, Bool, true, false, ◌&&◌, ◌||◌, not, nat_le, nat_lt, ◌∷◌, length, Option, Some, None, is_some, option_map, Result, Ok, Err, is_ok, IsTrue, if◌then◌else◌}
+use Rattle.std.specs.Prelude.{◌≡◌, codes, ℕ, ℤ, pos, negsuc, ◌+◌, ◌-◌, ◌*◌, List, [], ◌++◌, replicate, take, drop, slice_get, Bool, true, false, ◌&&◌, ◌||◌, not, nat_le, nat_lt, ◌∷◌, length, Option, Some, None, is_some, option_map, Result, Ok, Err, is_ok, IsTrue, if◌then◌else◌}
 use Rattle.std.specs.Option.{option_and_then, option_map_or, ok_or, unwrap_or}
 use Rattle.std.specs.Result.{result_ok}
 use Rattle.std.specs.Str.{bytes_eq}
@@ -125,12 +125,13 @@ takes k path key value =
     else (if bytes_eq key (codes "uid") || bytes_eq key (codes "gid") then has_owner k && is_some (as_integer value)
     else (if bytes_eq key (codes "attrs") then has_mode k && is_array_of is_pair value
     else (if bytes_eq key (codes "text") || bytes_eq key (codes "hex") then is_file k && is_some (as_str value)
-    else (if bytes_eq key (codes "zeros") then is_file k && is_some (as_integer value)
+    else (if bytes_eq key (codes "zeros") || bytes_eq key (codes "blob") then is_file k && is_some (as_integer value)
+    else (if bytes_eq key (codes "at") || bytes_eq key (codes "size") then is_file k && is_some (as_integer value)
     else (if bytes_eq key (codes "to") then is_hard_link k && is_some (as_str value)
     else (if bytes_eq key (codes "target") then is_link k && is_some (as_str value)
     else (if bytes_eq key (codes "opaque") then has_marks k path && is_some (as_bool value)
     else (if bytes_eq key (codes "redirect") then has_marks k path && is_some (as_str value)
-    else false)))))))))
+    else false))))))))))
 
 -- a number of 0 to the most
 abbrev pub within : ℕ → ℤ → Result ℕ EntryFault
@@ -142,9 +143,13 @@ abbrev pub number_in : ℕ → ℕ → Option ℤ → Result ℕ EntryFault
 number_in most default (Some z) = within most z
 number_in most default None = Ok default
 
+-- the whole number at a key, where there is one
+abbrev pub integer_at : List ℕ → Members → Option ℤ
+integer_at key entry = option_and_then as_integer (get_member key entry)
+
 -- the number at a key
 abbrev pub number_at : List ℕ → ℕ → ℕ → Members → Result ℕ EntryFault
-number_at key most default entry = number_in most default (option_and_then as_integer (get_member key entry))
+number_at key most default entry = number_in most default (integer_at key entry)
 
 -- whether a name and a value may be set beside these user attributes: the name is one and new, the value has at most 1,024 bytes, and
 -- there are at most 64
@@ -195,19 +200,44 @@ hex_bytes (high ∷ low ∷ rest) = option_and_then (λ b. option_map (λ bs. b 
 abbrev pub zero_bytes : ℕ → ℤ → Result (List ℕ) EntryFault
 zero_bytes limit count = and_then (within limit count) (λ n. Ok (replicate n 0))
 
--- the bytes by a text, by hexadecimal digits or by a count of zero bytes; none without them
-abbrev pub bytes_in : ℕ → Option (List ℕ) → Option (List ℕ) → Option ℤ → Result (List ℕ) EntryFault
-bytes_in limit (Some text) digits zeros = Ok text
-bytes_in limit None (Some digits) zeros = ok_or (hex_bytes digits) fault.Value
-bytes_in limit None None (Some count) = zero_bytes limit count
-bytes_in limit None None None = Ok []
+-- bytes that are at most so many
+abbrev pub limited : ℕ → List ℕ → Result (List ℕ) EntryFault
+limited limit bytes = if nat_lt limit (length bytes) then Err fault.Value else Ok bytes
 
-abbrev pub bytes_given : ℕ → Members → Result (List ℕ) EntryFault
-bytes_given limit entry = bytes_in limit (text_at (codes "text") entry) (text_at (codes "hex") entry) (option_and_then as_integer (get_member (codes "zeros") entry))
+-- the blob of a number
+abbrev pub blob_at : List (List ℕ) → ℤ → Result (List ℕ) EntryFault
+blob_at blobs (pos n) = ok_or (slice_get blobs n) fault.Value
+blob_at blobs (negsuc n) = Err fault.Value
+
+-- so many of these bytes, all of them without a number; `value` where there are fewer
+abbrev pub first_of : List ℕ → Option ℤ → Result (List ℕ) EntryFault
+first_of bytes size = and_then (number_in (length bytes) (length bytes) size) (λ count. Ok (take count bytes))
+
+-- THE BYTES OF A BLOB from a place on, or else from its start; `value` where there is no such blob, or where it ends before
+abbrev pub stretch : List (List ℕ) → ℤ → Option ℤ → Option ℤ → Result (List ℕ) EntryFault
+stretch blobs number at size =
+    and_then (blob_at blobs number) (λ blob.
+    and_then (number_in (length blob) 0 at) (λ start. first_of (drop start blob) size))
+
+-- the bytes of the blob that an entry names, at most so many
+abbrev pub part_of : ℕ → List (List ℕ) → Members → ℤ → Result (List ℕ) EntryFault
+part_of limit blobs entry number = and_then (stretch blobs number (integer_at (codes "at") entry) (integer_at (codes "size") entry)) (limited limit)
+
+-- the bytes by a text, by hexadecimal digits, by a count of zero bytes or by a part of a blob; none without them
+abbrev pub bytes_in : ℕ → (ℤ → Result (List ℕ) EntryFault) → Option (List ℕ) → Option (List ℕ) → Option ℤ → Option ℤ → Result (List ℕ) EntryFault
+bytes_in limit part (Some text) digits zeros blob = Ok text
+bytes_in limit part None (Some digits) zeros blob = ok_or (hex_bytes digits) fault.Value
+bytes_in limit part None None (Some count) blob = zero_bytes limit count
+bytes_in limit part None None None (Some number) = part number
+bytes_in limit part None None None None = Ok []
+
+abbrev pub bytes_given : ℕ → List (List ℕ) → Members → Result (List ℕ) EntryFault
+bytes_given limit blobs entry =
+    bytes_in limit (part_of limit blobs entry) (text_at (codes "text") entry) (text_at (codes "hex") entry) (integer_at (codes "zeros") entry) (integer_at (codes "blob") entry)
 
 -- the bytes that an entry gives, at most so many
-abbrev pub bytes_of : ℕ → Members → Result (List ℕ) EntryFault
-bytes_of limit entry = and_then (bytes_given limit entry) (λ bytes. if nat_lt limit (length bytes) then Err fault.Value else Ok bytes)
+abbrev pub bytes_of : ℕ → List (List ℕ) → Members → Result (List ℕ) EntryFault
+bytes_of limit blobs entry = and_then (bytes_given limit blobs entry) (limited limit)
 
 -- the target that an entry gives
 abbrev pub target_of : Members → Result (List ℕ) EntryFault
@@ -239,13 +269,13 @@ marks_of entry = and_then (redirect_in (text_at (codes "redirect") entry)) (λ r
 abbrev pub path_to : Members → Option (List (List ℕ))
 path_to entry = option_and_then (λ text. result_ok (path_of_text text)) (text_at (codes "to") entry)
 
--- what an entry of the kind puts at its path, where a file has at most so many bytes
-abbrev pub item_of : ℕ → EntryKind → Members → Result Item EntryFault
-item_of limit kind.Directory entry = and_then (attributes_of 493 entry) (λ a. and_then (marks_of entry) (λ m. Ok (puts.Object (object.Directory a m))))
-item_of limit kind.File entry = and_then (attributes_of 420 entry) (λ a. and_then (bytes_of limit entry) (λ bytes. Ok (puts.Object (object.Inode (content.File bytes) a))))
-item_of limit kind.SymbolicLink entry = and_then (attributes_of 511 entry) (λ a. and_then (target_of entry) (λ target. Ok (puts.Object (object.Inode (content.SymbolicLink target) a))))
-item_of limit kind.Whiteout entry = Ok puts.Whiteout
-item_of limit kind.HardLink entry = Ok (puts.Link (path_to entry))
+-- what an entry of the kind puts at its path, where a file has at most so many bytes and may be part of these blobs
+abbrev pub item_of : ℕ → List (List ℕ) → EntryKind → Members → Result Item EntryFault
+item_of limit blobs kind.Directory entry = and_then (attributes_of 493 entry) (λ a. and_then (marks_of entry) (λ m. Ok (puts.Object (object.Directory a m))))
+item_of limit blobs kind.File entry = and_then (attributes_of 420 entry) (λ a. and_then (bytes_of limit blobs entry) (λ bytes. Ok (puts.Object (object.Inode (content.File bytes) a))))
+item_of limit blobs kind.SymbolicLink entry = and_then (attributes_of 511 entry) (λ a. and_then (target_of entry) (λ target. Ok (puts.Object (object.Inode (content.SymbolicLink target) a))))
+item_of limit blobs kind.Whiteout entry = Ok puts.Whiteout
+item_of limit blobs kind.HardLink entry = Ok (puts.Link (path_to entry))
 
 -- whether an entry has a key
 abbrev pub has_key : List ℕ → Members → Bool
@@ -254,28 +284,33 @@ has_key key entry = is_some (get_member key entry)
 -- at most one of the keys that give bytes is there
 abbrev pub gives_bytes_once : Members → Bool
 gives_bytes_once entry =
-    if has_key (codes "text") entry then not (has_key (codes "hex") entry) && not (has_key (codes "zeros") entry)
-    else not (has_key (codes "hex") entry && has_key (codes "zeros") entry)
+    if has_key (codes "text") entry then not (has_key (codes "hex") entry || has_key (codes "zeros") entry || has_key (codes "blob") entry)
+    else (if has_key (codes "hex") entry then not (has_key (codes "zeros") entry || has_key (codes "blob") entry)
+    else not (has_key (codes "zeros") entry && has_key (codes "blob") entry))
 
--- a symbolic link has a target, a hard link has where it leads, and a file has its bytes once
+-- what is part of a blob names the blob
+abbrev pub names_blob : Members → Bool
+names_blob entry = has_key (codes "blob") entry || not (has_key (codes "at") entry || has_key (codes "size") entry)
+
+-- a symbolic link has a target, a hard link has where it leads, and a file has its bytes once, from a blob that it names
 abbrev pub has_required : EntryKind → Members → Bool
 has_required kind.SymbolicLink entry = is_some (text_at (codes "target") entry)
 has_required kind.HardLink entry = is_some (text_at (codes "to") entry)
-has_required kind.File entry = gives_bytes_once entry
+has_required kind.File entry = gives_bytes_once entry && names_blob entry
 has_required _ entry = true
 
 -- the keys are those of the kind at the path, and none that it needs is missing
 abbrev pub checked : EntryKind → List (List ℕ) → Members → Result (Unit {0}) EntryFault
 checked k path entry = if members_all (takes k path) entry && has_required k entry then Ok tt else Err fault.Key
 
--- WHAT AN ENTRY SAYS where a file has at most so many bytes: its path and what stands there, or the first of its faults `kind`, `path`,
--- `key` and `value`
-abbrev pub read : ℕ → Members → Result (List (List ℕ) × Item) EntryFault
-read limit entry =
+-- WHAT AN ENTRY SAYS where a file has at most so many bytes and may be part of these blobs: its path and what stands there, or the first of
+-- its faults `kind`, `path`, `key` and `value`
+abbrev pub read : ℕ → List (List ℕ) → Members → Result (List (List ℕ) × Item) EntryFault
+read limit blobs entry =
     and_then (kind_of entry) (λ k.
     and_then (path_of entry) (λ path.
     and_then (checked k path entry) (λ _.
-    and_then (item_of limit k entry) (λ i. Ok (path, i)))))
+    and_then (item_of limit blobs k entry) (λ i. Ok (path, i)))))
 
 -- whether it is a file without bytes of its own
 abbrev pub is_marked : Object → Bool

@@ -71,9 +71,9 @@ with_entry before (name ∷ path) i =
     else (if not (leads before i) then Err fault.Link
     else Ok ((name ∷ path, i) ∷ before)))
 
--- the entries with one more as a manifest spells it, in which a file has at most so many bytes
-abbrev pub with_spelled : ℕ → List Entry → Data → Result (List Entry) EntryFault
-with_spelled limit before d = and_then (ok_or (as_table d) fault.Kind) (λ m. and_then (read limit m) (λ e. with_entry before e.0 e.1))
+-- the entries with one more as a manifest spells it, in which a file has at most so many bytes and may be part of these blobs
+abbrev pub with_spelled : ℕ → List (List ℕ) → List Entry → Data → Result (List Entry) EntryFault
+with_spelled limit blobs before d = and_then (ok_or (as_table d) fault.Kind) (λ m. and_then (read limit blobs m) (λ e. with_entry before e.0 e.1))
 
 -- a fault beside the number of its entry
 abbrev pub numbered : {T : Type 0} → ℕ → Result T EntryFault → Result T (ℕ × EntryFault)
@@ -81,13 +81,13 @@ numbered number (Ok x) = Ok x
 numbered number (Err f) = Err (number, f)
 
 -- the entries with those that follow, from this number on
-abbrev pub entries_from : ℕ → ℕ → List Entry → Items → Result (List Entry) (ℕ × EntryFault)
-entries_from limit number before no_items = Ok before
-entries_from limit number before (item d rest) = and_then (numbered number (with_spelled limit before d)) (λ more. entries_from limit (suc number) more rest)
+abbrev pub entries_from : ℕ → List (List ℕ) → ℕ → List Entry → Items → Result (List Entry) (ℕ × EntryFault)
+entries_from limit blobs number before no_items = Ok before
+entries_from limit blobs number before (item d rest) = and_then (numbered number (with_spelled limit blobs before d)) (λ more. entries_from limit blobs (suc number) more rest)
 
--- THE ENTRIES OF A LAYER whose files have at most so many bytes, or the first fault with the number of its entry
-abbrev pub entries_of : ℕ → Items → Result (List Entry) (ℕ × EntryFault)
-entries_of limit items = entries_from limit 0 [] items
+-- THE ENTRIES OF A LAYER whose files have at most so many bytes and may be parts of these blobs, or the first fault with the number of its entry
+abbrev pub entries_of : ℕ → List (List ℕ) → Items → Result (List Entry) (ℕ × EntryFault)
+entries_of limit blobs items = entries_from limit blobs 0 [] items
 
 -- the attributes of a root: those of the directory that was put at `/`, else 0o755 and 0
 abbrev pub root_of : Option Item → Attributes
@@ -129,8 +129,8 @@ abbrev pub HasNoMark : Layer → Type 0
 HasNoMark L = HasMark L → ⊥
 
 -- the layer is as its entries say, none of which is at fault where a file has at most so many bytes
-abbrev pub IsSpelled : ℕ → Layer → Items → Type 0
-IsSpelled limit L items = (entries : List Entry) × (entries_of limit items ≡ Ok entries) × IsAsSaid L entries
+abbrev pub IsSpelled : ℕ → List (List ℕ) → Layer → Items → Type 0
+IsSpelled limit blobs L items = (entries : List Entry) × (entries_of limit blobs items ≡ Ok entries) × IsAsSaid L entries
 
 -- the fault of this entry, or an allocation failure
 abbrev pub fault_at : ℕ → ℕ → EntryError → ManifestFault
@@ -138,11 +138,11 @@ fault_at layer number (error.Fault f) = whole.Entry layer number f
 fault_at layer number (error.Memory e) = whole.Memory e
 
 -- a layer of this number as its entries say, or the first fault among them, unless memory ran out
-abbrev pub ReadsLayer : ℕ → ℕ → Items → Result Tree ManifestFault → Type 0
-ReadsLayer limit index items (Ok t) = IsSpelled limit (layer_of t) items
-ReadsLayer limit index items (Err (whole.Entry layer number f)) = (layer ≡ index) × (entries_of limit items ≡ Err (number, f))
-ReadsLayer limit index items (Err (whole.Memory e)) = Unit {0}
-ReadsLayer limit index items (Err _) = ⊥
+abbrev pub ReadsLayer : ℕ → List (List ℕ) → ℕ → Items → Result Tree ManifestFault → Type 0
+ReadsLayer limit blobs index items (Ok t) = IsSpelled limit blobs (layer_of t) items
+ReadsLayer limit blobs index items (Err (whole.Entry layer number f)) = (layer ≡ index) × (entries_of limit blobs items ≡ Err (number, f))
+ReadsLayer limit blobs index items (Err (whole.Memory e)) = Unit {0}
+ReadsLayer limit blobs index items (Err _) = ⊥
 
 -- the first fault of a layer, or else what follows
 abbrev pub fault_or : ℕ → Result (List Entry) (ℕ × EntryFault) → Option ManifestFault → Option ManifestFault
@@ -150,15 +150,15 @@ fault_or index (Ok entries) later = later
 fault_or index (Err e) later = Some (whole.Entry index e.0 e.1)
 
 -- THE FIRST FAULT OF THE ENTRIES of layers that are numbered from here, where a file has at most so many bytes
-abbrev pub layers_fault : ℕ → ℕ → Items → Option ManifestFault
-layers_fault limit index no_items = None
-layers_fault limit index (item d rest) = fault_or index (entries_of limit (entries_in d)) (layers_fault limit (suc index) rest)
+abbrev pub layers_fault : ℕ → List (List ℕ) → ℕ → Items → Option ManifestFault
+layers_fault limit blobs index no_items = None
+layers_fault limit blobs index (item d rest) = fault_or index (entries_of limit blobs (entries_in d)) (layers_fault limit blobs (suc index) rest)
 
 -- THE LAYERS ARE AS THEIR ENTRIES SAY, each in its place, where a file has at most so many bytes
-abbrev pub AreSpelled : ℕ → List Layer → Items → Type 0
-AreSpelled limit [] no_items = Unit {0}
-AreSpelled limit (L ∷ Ls) (item d rest) = IsSpelled limit L (entries_in d) × AreSpelled limit Ls rest
-AreSpelled limit _ _ = ⊥
+abbrev pub AreSpelled : ℕ → List (List ℕ) → List Layer → Items → Type 0
+AreSpelled limit blobs [] no_items = Unit {0}
+AreSpelled limit blobs (L ∷ Ls) (item d rest) = IsSpelled limit blobs L (entries_in d) × AreSpelled limit blobs Ls rest
+AreSpelled limit blobs _ _ = ⊥
 
 -- the layers that a manifest spells
 abbrev pub layer_items : Members → Items
@@ -170,8 +170,8 @@ unless_fault (Some f) x = Err f
 unless_fault None x = Ok x
 
 -- THE OPTIONS OF A MANIFEST, or its first fault: of the whole, or else of an entry
-abbrev pub manifest_of : Members → Result Options ManifestFault
-manifest_of m = and_then (whole_of m) (λ options. unless_fault (layers_fault options.file_limit 0 (layer_items m)) options)
+abbrev pub manifest_of : List (List ℕ) → Members → Result Options ManifestFault
+manifest_of blobs m = and_then (whole_of m) (λ options. unless_fault (layers_fault options.file_limit blobs 0 (layer_items m)) options)
 
 -- this fault is told, unless memory ran out
 abbrev pub IsTold : Option ManifestFault → ManifestFault → Type 0

@@ -1,5 +1,5 @@
 -- What a manifest says as a whole: its options and how many layers it has, or the first of its faults that are of no entry.
-use Rattle.std.specs.Prelude.{◌≡◌, codes, ℕ, ℤ, pos, negsuc, List, Bool, true, false, not, ◌&&◌, ◌||◌, nat_le, suc, is_some, Result, Ok, Err, if◌then◌else◌}
+use Rattle.std.specs.Prelude.{◌≡◌, codes, ℕ, ℤ, pos, negsuc, List, Bool, true, false, not, ◌&&◌, ◌||◌, nat_le, suc, is_some, [], ◌∷◌, Result, Ok, Err, if◌then◌else◌}
 use Rattle.std.specs.Option.{option_and_then, option_map_or, unwrap_or}
 use Rattle.std.specs.Str.{bytes_eq}
 use Rattle.toml.specs.Data.{Data, Items, no_items, item, Members, get_member, as_bool, as_str, as_integer, as_table}
@@ -24,7 +24,7 @@ is_layer_key key value = bytes_eq key (codes "entry") && is_array_of is_table va
 abbrev pub is_layer : Data → Bool
 is_layer d = option_map_or (members_all is_layer_key) (as_table d) false
 
--- the keys at the top, each with a value of its type
+-- the keys at the top, each with a value of its type; that of `blobs` is judged later
 abbrev pub is_top_key : List ℕ → Data → Bool
 is_top_key key value =
     if bytes_eq key (codes "redirect_dir") then is_some (as_str value)
@@ -32,7 +32,7 @@ is_top_key key value =
     else (if bytes_eq key (codes "history") || bytes_eq key (codes "file_limit") then is_some (as_integer value)
     else (if bytes_eq key (codes "upper") then is_some (as_bool value)
     else (if bytes_eq key (codes "layer") then is_array_of is_layer value
-    else false))))
+    else bytes_eq key (codes "blobs")))))
 
 -- whether there is an upper layer; without the key there is
 abbrev pub has_upper : Members → Bool
@@ -82,6 +82,22 @@ file_limit_within (negsuc n) = Err fault.FileLimit
 abbrev pub file_limit_of : Members → Result ℕ ManifestFault
 file_limit_of manifest = file_limit_within (unwrap_or (option_and_then as_integer (get_member (codes "file_limit") manifest)) (pos 1048576))
 
+abbrev pub is_text : Data → Bool
+is_text d = is_some (as_str d)
+
+-- the blobs are an array of texts, where the key is there
+abbrev pub blobs_checked : Members → Result (Unit {0}) ManifestFault
+blobs_checked manifest = if option_map_or (is_array_of is_text) (get_member (codes "blobs") manifest) true then Ok tt else Err fault.Blobs
+
+-- the texts of an array of texts
+abbrev pub texts_in : Items → List (List ℕ)
+texts_in no_items = []
+texts_in (item d rest) = unwrap_or (as_str d) [] ∷ texts_in rest
+
+-- THE NAMES OF THE BLOBS, in the order of their numbers; none without the key
+abbrev pub blob_names : Members → List (List ℕ)
+blob_names manifest = texts_in (items_at (codes "blobs") manifest)
+
 -- how many layers there are
 abbrev pub layer_count : Members → ℕ
 layer_count manifest = items_len (items_at (codes "layer") manifest)
@@ -110,10 +126,11 @@ options_of manifest =
     and_then (metacopy_of (may_metacopy redirects manifest) manifest) (λ metacopy.
     and_then (history_of manifest) (λ history.
     and_then (file_limit_of manifest) (λ file_limit.
-    Ok (record { redirects = redirects; metacopy = metacopy; history = history; file_limit = file_limit }))))))
+    and_then (blobs_checked manifest) (λ _.
+    Ok (record { redirects = redirects; metacopy = metacopy; history = history; file_limit = file_limit })))))))
 
 -- the options of a manifest of 2 to 17 layers, without an upper 2 to 16, or THE FIRST FAULT OF THE WHOLE: `key`, `redirect_dir`, `metacopy`,
--- `history`, `file_limit`, `layers`
+-- `history`, `file_limit`, `blobs`, `layers`
 abbrev pub whole_of : Members → Result Options ManifestFault
 whole_of manifest = and_then (options_of manifest) (λ options. if is_layer_count (has_upper manifest) (layer_count manifest) then Ok options else Err fault.Layers)
 
@@ -122,6 +139,11 @@ abbrev pub IsOfEntry : ManifestFault → Type 0
 IsOfEntry (fault.Entry layer entry f) = Unit {0}
 IsOfEntry (fault.Memory e) = Unit {0}
 IsOfEntry _ = ⊥
+
+-- an allocation failure
+abbrev pub IsMemory : ManifestFault → Type 0
+IsMemory (fault.Memory e) = Unit {0}
+IsMemory _ = ⊥
 
 -- the fault is this one, unless memory ran out
 abbrev pub Refuses : {T : Type 0} → Result T ManifestFault → ManifestFault → Type 0

@@ -10,7 +10,7 @@ ghost use Rattle.ov_wire.specs.ManifestEntries.{Answers, IsPlaceable};
 ghost use Rattle.ov_wire.specs.ManifestEntries as spec;
 
 use super::fault::{EntryError, EntryFault};
-use super::file_bytes::{bytes_of, gives_bytes_once};
+use super::file_bytes::{bytes_of, gives_bytes_once, names_blob};
 use super::user_attributes::{is_array_of_pairs, user_attributes_of};
 use layer_tree::{Marks, Object};
 use ov_base::{Attributes, Bytes, Content, LinkTarget, Mode, Name, Path, Redirect, UserAttributes};
@@ -36,16 +36,21 @@ pub(super) enum Item {
     Link(Option<Path>),
 }
 
-// The path of an entry and what it puts there, a file of at most `limit` bytes. The faults are looked for in the order `kind`, `path`,
-// `key`, `value`.
-pub(super) fn read(alloc: Global, limit: u64, entry: &Table) -> Result<(Path, Item), EntryError>
-    ensures answer { Answers result (spec.read limit (table_view entry.now)) }
+// The path of an entry and what it puts there, a file of at most `limit` bytes, which may be part of a blob. The faults are looked for in
+// the order `kind`, `path`, `key`, `value`.
+pub(super) fn read(
+    alloc: Global,
+    limit: u64,
+    blobs: &[Bytes],
+    entry: &Table,
+) -> Result<(Path, Item), EntryError>
+    ensures answer { Answers result (spec.read limit blobs.now (table_view entry.now)) }
     ensures placeable { IfOk result (λ r. IsPlaceable r.1) }
 {
     let kind = kind_of(entry)?;
     let path = path_of(alloc, entry)?;
     check_keys(kind, &path, entry)?;
-    let item = item_of(alloc, limit, kind, entry)?;
+    let item = item_of(alloc, limit, blobs, kind, entry)?;
     Ok((path, item))
 }
 
@@ -116,7 +121,7 @@ fn takes(kind: EntryKind, path: &Path, key: &str, value: &Value) -> bool
         "uid" | "gid" => has_owner(kind) && value.is_integer(),
         "attrs" => has_mode(kind) && is_array_of_pairs(value),
         "text" | "hex" => is_file(kind) && value.is_str(),
-        "zeros" => is_file(kind) && value.is_integer(),
+        "zeros" | "blob" | "at" | "size" => is_file(kind) && value.is_integer(),
         "to" => is_hard_link(kind) && value.is_str(),
         "target" => is_link(kind) && value.is_str(),
         "opaque" => has_marks(kind, path) && value.is_bool(),
@@ -169,14 +174,20 @@ fn has_required(kind: EntryKind, entry: &Table) -> bool
     match kind {
         EntryKind::SymbolicLink => text_at(entry, "target").is_some(),
         EntryKind::HardLink => text_at(entry, "to").is_some(),
-        EntryKind::File => gives_bytes_once(entry),
+        EntryKind::File => gives_bytes_once(entry) && names_blob(entry),
         EntryKind::Directory | EntryKind::Whiteout => true,
     }
 }
 
 // What the entry of this kind puts at its path, where its values are in their ranges.
-fn item_of(alloc: Global, limit: u64, kind: EntryKind, entry: &Table) -> Result<Item, EntryError>
-    ensures answer { Answers result (spec.item_of limit kind (table_view entry.now)) }
+fn item_of(
+    alloc: Global,
+    limit: u64,
+    blobs: &[Bytes],
+    kind: EntryKind,
+    entry: &Table,
+) -> Result<Item, EntryError>
+    ensures answer { Answers result (spec.item_of limit blobs.now kind (table_view entry.now)) }
     ensures placeable { IfOk result IsPlaceable }
 {
     match kind {
@@ -187,7 +198,7 @@ fn item_of(alloc: Global, limit: u64, kind: EntryKind, entry: &Table) -> Result<
         }
         EntryKind::File => {
             let attributes = attributes_of(alloc, entry, Mode::of_files())?;
-            let content = Content::File(bytes_of(alloc, limit, entry)?);
+            let content = Content::File(bytes_of(alloc, limit, blobs, entry)?);
             Ok(Item::Object(Object::Inode(content, attributes)))
         }
         EntryKind::SymbolicLink => {
@@ -323,7 +334,7 @@ fn target_of(alloc: Global, entry: &Table) -> Result<LinkTarget, EntryError>
 fn number_at(entry: &Table, key: &str, most: u32, default: u32) -> Result<u32, EntryFault>
     ensures { result ≡ spec.number_at key.now most default (table_view entry.now) }
 {
-    match value_at(entry, key).and_then(Value::as_integer) {
+    match integer_at(entry, key) {
         Some(number) => Ok(number_within(most as u64, number)? as u32),
         None => Ok(default),
     }
@@ -338,6 +349,13 @@ pub(super) fn number_within(most: u64, number: i64) -> Result<u64, EntryFault>
     } else {
         Err(EntryFault::Value)
     }
+}
+
+// The whole number at a key, where there is one.
+pub(super) fn integer_at(entry: &Table, key: &str) -> Option<i64>
+    ensures { result ≡ spec.integer_at key.now (table_view entry.now) }
+{
+    value_at(entry, key).and_then(Value::as_integer)
 }
 
 // The text at a key, where there is one.

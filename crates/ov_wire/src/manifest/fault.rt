@@ -54,6 +54,9 @@ pub enum ManifestFault {
     /// `file_limit` is outside 1 to 2^40.
     #[error("manifest: file_limit")]
     FileLimit,
+    /// `blobs` is no array of texts.
+    #[error("manifest: blobs")]
+    Blobs,
     /// There are more or fewer layers than a mount takes.
     #[error("manifest: layers")]
     Layers,

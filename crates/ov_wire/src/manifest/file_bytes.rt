@@ -1,27 +1,37 @@
-// The bytes of an entry of kind `file`, which one of three keys may give.
+// The bytes of an entry of kind `file`, which one of four keys may give.
 ghost use Rattle.std.specs.Prelude.{◌≡◌, ◌<◌, IfSome};
 ghost use Rattle.std.specs.Option.{ok_or};
 ghost use Rattle.toml.specs.View.{table_view};
 ghost use Rattle.ov_wire.specs.ManifestEntries.{Answers};
 ghost use Rattle.ov_wire.specs.ManifestEntries as spec;
 
-use super::entry::{number_within, text_at, value_at};
+use super::entry::{integer_at, number_within, text_at, value_at};
 use super::fault::{EntryError, EntryFault};
+use super::stretch::stretch;
 use ov_base::Bytes;
 use std::alloc::Global;
-use toml::{Table, Value};
+use toml::Table;
 
 // Whether at most one key gives the bytes.
 pub(super) fn gives_bytes_once(entry: &Table) -> bool
     ensures { result ≡ spec.gives_bytes_once (table_view entry.now) }
 {
-    let has_digits = has_key(entry, "hex");
     let has_zeros = has_key(entry, "zeros");
+    let has_blob = has_key(entry, "blob");
     if has_key(entry, "text") {
-        !has_digits && !has_zeros
+        !(has_key(entry, "hex") || has_zeros || has_blob)
+    } else if has_key(entry, "hex") {
+        !(has_zeros || has_blob)
     } else {
-        !(has_digits && has_zeros)
+        !(has_zeros && has_blob)
     }
+}
+
+// Whether there is a blob where there is a part of one.
+pub(super) fn names_blob(entry: &Table) -> bool
+    ensures { result ≡ spec.names_blob (table_view entry.now) }
+{
+    has_key(entry, "blob") || !(has_key(entry, "at") || has_key(entry, "size"))
 }
 
 fn has_key(entry: &Table, key: &str) -> bool
@@ -31,18 +41,28 @@ fn has_key(entry: &Table, key: &str) -> bool
 }
 
 // The bytes of an entry of kind `file`, at most `limit`.
-pub(super) fn bytes_of(alloc: Global, limit: u64, entry: &Table) -> Result<Bytes, EntryError>
-    ensures { Answers result (spec.bytes_of limit (table_view entry.now)) }
+pub(super) fn bytes_of(
+    alloc: Global,
+    limit: u64,
+    blobs: &[Bytes],
+    entry: &Table,
+) -> Result<Bytes, EntryError>
+    ensures { Answers result (spec.bytes_of limit blobs.now (table_view entry.now)) }
 {
-    let bytes = bytes_given(alloc, limit, entry)?;
+    let bytes = bytes_given(alloc, limit, blobs, entry)?;
     if bytes.as_slice().len() as u64 > limit {
         return Err(EntryError::Fault(EntryFault::Value));
     }
     Ok(bytes)
 }
 
-fn bytes_given(alloc: Global, limit: u64, entry: &Table) -> Result<Bytes, EntryError>
-    ensures { Answers result (spec.bytes_given limit (table_view entry.now)) }
+fn bytes_given(
+    alloc: Global,
+    limit: u64,
+    blobs: &[Bytes],
+    entry: &Table,
+) -> Result<Bytes, EntryError>
+    ensures { Answers result (spec.bytes_given limit blobs.now (table_view entry.now)) }
 {
     if let Some(text) = text_at(entry, "text") {
         return Ok(Bytes::from_slice(alloc, text.as_bytes())?);
@@ -50,10 +70,32 @@ fn bytes_given(alloc: Global, limit: u64, entry: &Table) -> Result<Bytes, EntryE
     if let Some(digits) = text_at(entry, "hex") {
         return bytes_spelled(alloc, digits.as_bytes());
     }
-    match value_at(entry, "zeros").and_then(Value::as_integer) {
-        Some(count) => zero_bytes(alloc, limit, count),
+    if let Some(count) = integer_at(entry, "zeros") {
+        return zero_bytes(alloc, limit, count);
+    }
+    match integer_at(entry, "blob") {
+        Some(number) => part_of(alloc, limit, blobs, entry, number),
         None => Ok(Bytes::new(alloc)),
     }
+}
+
+// The bytes of the blob of a number that an entry takes, at most `limit`.
+fn part_of(
+    alloc: Global,
+    limit: u64,
+    blobs: &[Bytes],
+    entry: &Table,
+    number: i64,
+) -> Result<Bytes, EntryError>
+    ensures { Answers result (spec.part_of limit blobs.now (table_view entry.now) number) }
+{
+    let at = integer_at(entry, "at");
+    let size = integer_at(entry, "size");
+    let bytes = stretch(blobs, number, at, size)?;
+    if bytes.len() as u64 > limit {
+        return Err(EntryError::Fault(EntryFault::Value));
+    }
+    Ok(Bytes::from_slice(alloc, bytes)?)
 }
 
 // So many zero bytes, at most `limit`.

@@ -22,24 +22,34 @@ use std::alloc::{AllocError, Global};
 use std::hash::RandomState;
 use toml::{Table, Value};
 
-// The layer of these entries, whose files have at most `limit` bytes. `index` is its place among the layers, for the fault.
+// The layer of these entries, whose files have at most `limit` bytes and may be parts of blobs. `index` is its place among the layers, for
+// the fault.
 pub(super) fn read_layer(
     alloc: Global,
     keys: RandomState,
     limit: u64,
+    blobs: &[Bytes],
     index: usize,
     entries: &[Value],
 ) -> Result<Layer, ManifestFault>
     ensures err { IfErr result IsOfEntry }
     ensures layer { IfOk result (λ layer. IsLayer (layer_of layer)) }
     ensures unmarked { IfOk result (λ layer. HasNoMark (layer_of layer)) }
-    ensures reads { ReadsLayer limit index (items_view entries.now) result }
+    ensures reads { ReadsLayer limit blobs.now index (items_view entries.now) result }
 {
     let mut layer = Layer::new(alloc, keys, root_attributes(alloc, entries)?)?;
     let mut links = LinkPaths::new(alloc, keys);
     let mut root_is_set = false;
     for (number, entry) in entries.iter().enumerate() {
-        match read_entry(alloc, limit, &mut layer, &mut links, root_is_set, entry) {
+        match read_entry(
+            alloc,
+            limit,
+            blobs,
+            &mut layer,
+            &mut links,
+            root_is_set,
+            entry,
+        ) {
             Ok(is_set) => root_is_set = is_set,
             Err(error) => return Err(error.at(index, number)),
         }
@@ -90,6 +100,7 @@ fn is_text_at(entry: &Table, key: &str, word: &str) -> bool
 fn read_entry(
     alloc: Global,
     limit: u64,
+    blobs: &[Bytes],
     layer: &mut Layer,
     links: &mut LinkPaths,
     root_is_set: bool,
@@ -97,13 +108,13 @@ fn read_entry(
 ) -> Result<bool, EntryError>
     ensures keeps { IsLayer (layer_of layer.old) → IsLayer (layer_of layer.new) }
     ensures unmarked { HasNoMark (layer_of layer.old) → HasNoMark (layer_of layer.new) }
-    ensures places { (a : RootAttributes) (before : List PutEntry) → IsDraft (layer_of layer.old) a root_is_set before → Lists links.old before → Places (λ is_set. is_set) (layer_of layer.new) a (with_spelled limit before (view entry.now)) result }
-    ensures lists { OnOk result ((before after : List PutEntry) → Lists links.old before → with_spelled limit before (view entry.now) ≡ Ok after → Lists links.new after) }
+    ensures places { (a : RootAttributes) (before : List PutEntry) → IsDraft (layer_of layer.old) a root_is_set before → Lists links.old before → Places (λ is_set. is_set) (layer_of layer.new) a (with_spelled limit blobs.now before (view entry.now)) result }
+    ensures lists { OnOk result ((before after : List PutEntry) → Lists links.old before → with_spelled limit blobs.now before (view entry.now) ≡ Ok after → Lists links.new after) }
 {
     let Some(entry) = entry.as_table() else {
         return Err(EntryError::Fault(EntryFault::Kind));
     };
-    let (path, item) = read(alloc, limit, entry)?;
+    let (path, item) = read(alloc, limit, blobs, entry)?;
     let to_further = is_listed(alloc, links, entry)?;
     let is_further = is_link(&item);
     let is_set = put(layer, root_is_set, &path, item, to_further)?;
