@@ -152,6 +152,13 @@ def show(program: str, manifest: Path) -> List[str]:
     return done.stdout.decode("ascii").splitlines()
 
 
+def faults(program: str, manifest: Path) -> List[str]:
+    """What a manifest is refused with, if it is."""
+    done = subprocess.run([program, "show", str(manifest)], capture_output=True, check=False)
+    assert (done.returncode == 0) == (done.stderr == b""), done.stderr
+    return done.stderr.decode("ascii").splitlines()
+
+
 def play(program: str, manifest: Path, script: str) -> List[str]:
     """The lines that a script prints."""
     done = subprocess.run([program, "play", str(manifest)], input=script.encode("ascii"),

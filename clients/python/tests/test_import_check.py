@@ -49,13 +49,13 @@ attrs = [["user.a", "1"], ["trusted.b", "2"]]
 """
 TOLD = """\
 m:1: redirect_dir: "on" or "off", and not "yes"
-m:2: colour: no such key; at the top there are layer, upper, redirect_dir, metacopy, history and \
-file_limit
+m:2: colour: no such key; at the top there are layer, upper, redirect_dir, metacopy, history, \
+file_limit and blobs
 m:9: layer 1 entry 0: /etc/motd: path: /etc is not described before; an earlier entry of kind dir \
 has to be
 m:11: layer 1 entry 0: /etc/motd: mode: from 0 to 0o7777, and not 4096
 m:12: layer 1 entry 0: /etc/motd: txet: no such key; kind file has path, kind, mode, uid, gid, \
-attrs, text, hex, zeros
+attrs, text, hex, zeros, blob, at, size
 m:15: layer 1 entry 1: etc: path: a path begins with "/", and not "etc"
 m:16: layer 1 entry 1: etc: kind: dir, file, symlink, whiteout or link, and not "folder"
 m:17: layer 1 entry 1: etc: uid: from 0 to 4294967295, and not -1
@@ -197,7 +197,7 @@ class Checks(unittest.TestCase):
         self.assertGreater(len(found), 500)
         for name, manifest, wanted in found:
             with self.subTest(name):
-                checked = check(manifest)
+                checked = check(manifest, str(ROWS))
                 self.assertEqual(checked.first, wanted)
                 self.assertEqual(bool(checked.faults), wanted is not None)
 

@@ -6,6 +6,8 @@ from typing import Any, BinaryIO, Counter as Counts, Dict, Iterable, Iterator, L
 
 from ..importer import objects
 from ..importer.merging import TreeLayer, flatten
+from ..importer.objects import Part
+from .stretches import Blobs
 from .trees import DIRECTORY, FILE, SYMLINK, Entry, Tree
 from .unsayable import Unsayable
 
@@ -107,8 +109,9 @@ def _node(entry: Dict[str, Any]) -> Optional[objects.Object]:
     if kind == "symlink":
         return objects.Symlink(entry.get("uid", 0), entry.get("gid", 0), entry["target"])
     if kind == "file":
-        file = objects.File(0, 0, 0, (), entry["size"])
-        file.place = entry["place"]
+        size, place = entry["bytes"]
+        file = objects.File(0, 0, 0, (), size)
+        file.place = place
         _describe(file, entry)
         return file
     if kind == "dir":
@@ -121,8 +124,8 @@ def _node(entry: Dict[str, Any]) -> Optional[objects.Object]:
 
 
 class _Source:
-    """Where entries come from: None begins a layer. A file's entry has its `size`, and the `place`
-    of its bytes. `has_upper` is right when the first of them came."""
+    """Where entries come from: None begins a layer. A file's entry has `bytes`: how many, and their
+    place. `has_upper` is right when the first of them came."""
 
     path = ""
     has_upper = True
@@ -142,6 +145,7 @@ class _Lines(_Source):
     def __init__(self, path: str) -> None:
         self.path = path
         self._stream: BinaryIO = open(path, "rb")
+        self._blobs = Blobs(path, [])
 
     def __del__(self) -> None:
         if hasattr(self, "_stream"):
@@ -155,45 +159,51 @@ class _Lines(_Source):
             words = line.strip()
             if words in (b"[[layer]]", b"[[layer.entry]]"):
                 if entry is not None:
-                    yield _checked(entry)
+                    yield self._checked(entry)
                 entry = None
                 if words == b"[[layer]]":
                     yield None
                 else:
-                    entry = {"size": 0, "place": None}
+                    entry = {"bytes": (0, None)}
             elif words and not words.startswith(b"#"):
                 key, value = _key_and_value(words)
                 if entry is None:
                     self._option(key, value)
                 elif key in _BYTES:
-                    entry["size"] = _size(key, value)
-                    entry["place"] = (begin, len(line))
+                    entry["bytes"] = _size(key, value), (begin, len(line))
                 else:
                     entry[key] = _value(value)
         if entry is not None:
-            yield _checked(entry)
+            yield self._checked(entry)
+
+    def _checked(self, entry: Dict[str, Any]) -> Dict[str, Any]:
+        """An entry with all its lines."""
+        if not isinstance(entry.get("path"), str) or not isinstance(entry.get("kind"), str):
+            raise OtherForm("an entry without path or kind")
+        part = self._blobs.part(entry)
+        if part is not None:
+            entry["bytes"] = part.size, part
+        return entry
 
     def _option(self, key: str, value: bytes) -> None:
         """A line before the first entry of a layer."""
         if key == "upper" and value in (b"true", b"false"):
             self.has_upper = value == b"true"
+        elif key == "blobs":
+            self._blobs = Blobs(self.path, _value(value))
         elif key not in ("redirect_dir", "metacopy", "history", "file_limit"):
             raise OtherForm(f"the key {key} before the first entry")
 
     def data(self, file: objects.File) -> bytes:
         if file.place is None:
             return b""
+        if isinstance(file.place, Part):
+            return self._blobs.read(file.place)
         assert isinstance(file.place, tuple)
         begin, length = file.place
         self._stream.seek(begin)
         key, value = _key_and_value(self._stream.read(length).strip())
         return _bytes_of(key, _value(value))
-
-
-def _checked(entry: Dict[str, Any]) -> Dict[str, Any]:
-    if not isinstance(entry.get("path"), str) or not isinstance(entry.get("kind"), str):
-        raise OtherForm("an entry without path or kind")
-    return entry
 
 
 def _key_and_value(words: bytes) -> Tuple[str, bytes]:
@@ -247,15 +257,19 @@ class _Whole(_Source):
             except tomllib.TOMLDecodeError as fault:
                 raise Unsayable(f"{path}: no TOML: {fault}") from None
         self.has_upper = self._manifest.get("upper") is not False
+        self._blobs = Blobs(path, self._manifest.get("blobs", []))
 
     def entries(self) -> Iterator[Optional[Dict[str, Any]]]:
         for layer in self._manifest.get("layer", []):
             yield None
             for entry in layer.get("entry", []):
+                part = self._blobs.part(entry)
                 key = next((key for key in _BYTES if key in entry), None)
                 data = _bytes_of(key, entry[key]) if key else b""
-                yield {**entry, "size": len(data), "place": data}
+                yield {**entry, "bytes": (part.size, part) if part else (len(data), data)}
 
     def data(self, file: objects.File) -> bytes:
+        if isinstance(file.place, Part):
+            return self._blobs.read(file.place)
         assert isinstance(file.place, bytes)
         return file.place

@@ -13,7 +13,7 @@ import tempfile
 import weakref
 import zlib
 from contextlib import contextmanager
-from typing import BinaryIO, Callable, Dict, Iterator, Optional, cast
+from typing import BinaryIO, Callable, Dict, Iterator, Optional, Tuple, cast
 
 from .telling import Refused, shown
 
@@ -53,13 +53,15 @@ def reading(name: str) -> Iterator[None]:
 
 
 class Blob:
-    """A stretch of an open file."""
+    """A stretch of an open file; `path` is that of the file, if it has one that stays."""
 
-    def __init__(self, name: str, kept: _Kept, offset: int, size: int) -> None:
+    def __init__(self, name: str, kept: _Kept, offset: int, size: int,
+                 path: Optional[str] = None) -> None:
         self.name = name
         self._kept = kept
         self._offset = offset
         self.size = size
+        self._path = path
 
     @classmethod
     def of_path(cls, path: str) -> "Blob":
@@ -68,7 +70,8 @@ class Blob:
             status = os.fstat(file.fileno())
             if not stat.S_ISREG(status.st_mode):
                 return cls.of_stream(path, cast(BinaryIO, file))
-            return cls(path, _Kept(os.dup(file.fileno())), 0, status.st_size)
+            return cls(path, _Kept(os.dup(file.fileno())), 0, status.st_size,
+                       os.path.abspath(path))
 
     @classmethod
     def of_stream(cls, name: str, stream: BinaryIO) -> "Blob":
@@ -80,7 +83,14 @@ class Blob:
 
     def part(self, name: str, offset: int, size: int) -> "Blob":
         """A stretch of this one."""
-        return Blob(f"{self.name}: {name}", self._kept, self._offset + offset, size)
+        return Blob(f"{self.name}: {name}", self._kept, self._offset + offset, size, self._path)
+
+    def in_file(self) -> Optional[Tuple[str, int]]:
+        """The path of the file that has these bytes as they are read, and where they begin there;
+        None where they are compressed, or in a temporary file."""
+        if self._path is None or self.is_compressed():
+            return None
+        return self._path, self._offset
 
     def raw(self) -> BinaryIO:
         """A stream of the bytes as they stand."""

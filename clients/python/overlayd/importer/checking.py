@@ -1,5 +1,7 @@
 """Finds all faults of a manifest, each with its line and with what would be allowed."""
 
+import os
+import stat
 from typing import Any, Callable, Dict, Iterator, List, NamedTuple, Optional, Tuple
 
 from . import limits
@@ -12,15 +14,16 @@ _KEYS: Dict[str, Tuple[type, Tuple[str, ...]]] = {
     "path": (str, KINDS), "kind": (str, KINDS), "mode": (int, ("dir", "file")),
     "uid": (int, ("dir", "file", "symlink")), "gid": (int, ("dir", "file", "symlink")),
     "attrs": (list, ("dir", "file")), "text": (str, ("file",)), "hex": (str, ("file",)),
-    "zeros": (int, ("file",)), "to": (str, ("link",)), "target": (str, ("symlink",)),
+    "zeros": (int, ("file",)), "blob": (int, ("file",)), "at": (int, ("file",)),
+    "size": (int, ("file",)), "to": (str, ("link",)), "target": (str, ("symlink",)),
     "opaque": (bool, ("dir",)), "redirect": (str, ("dir",)),
 }
 _TYPES = {str: "a text", int: "a whole number", bool: "true or false", list: "an array of arrays "
           "of two texts", Table: "a table"}
 _ORDER = ("kind", "path", "key", "value", "parent", "exists", "link")
-_TOP = ("key", "redirect_dir", "metacopy", "history", "file_limit", "layers")
-_OPTIONS = ("layer", "upper", "redirect_dir", "metacopy", "history", "file_limit")
-_BYTES = ("text", "hex", "zeros")
+_TOP = ("key", "redirect_dir", "metacopy", "history", "file_limit", "blobs", "layers")
+_OPTIONS = ("layer", "upper", "redirect_dir", "metacopy", "history", "file_limit", "blobs")
+_BYTES = ("text", "hex", "zeros", "blob")
 _UNKNOWN = "of a kind that is none"
 _REDIRECT = "a redirect is one name, or a path from / with a name"
 
@@ -43,13 +46,13 @@ class Checked(NamedTuple):
     entries: int = 0
 
 
-def check(data: bytes) -> Checked:
-    """The faults of a manifest."""
+def check(data: bytes, folder: str = "") -> Checked:
+    """The faults of a manifest that is in a folder, from which its blobs are looked for."""
     try:
         top = read(data)
     except NotToml as fault:
         return Checked([Fault(fault.line, "", "not TOML", str(fault))], "manifest: not TOML")
-    return _Check().manifest(top)
+    return _Check(folder).manifest(top)
 
 
 def _is(value: Any, kind: type) -> bool:
@@ -70,11 +73,14 @@ def _named(value: Any) -> str:
 class _Check:
     """Goes through a manifest and keeps what it finds."""
 
-    def __init__(self) -> None:
+    def __init__(self, folder: str) -> None:
         self.faults: List[Fault] = []
         self.place = ""
         self.entries = 0
         self.file_limit = limits.FILE_LIMIT
+        # the sizes of the blobs, None of one without; None where the key is at fault
+        self.blobs: Optional[List[Optional[int]]] = []
+        self._folder = folder
 
     def manifest(self, top: Table) -> Checked:
         """The whole: its options, and then entry by entry."""
@@ -88,6 +94,7 @@ class _Check:
         self.option(top, "history", int, _is_history,
                     f"from {limits.HISTORY_LEAST} to {limits.HISTORY_MOST}")
         self.limit(top)
+        names = self.blob_names(top)
         given, before = top.members.get("layer"), len(self.faults)
         layers = self.tables(given, "layer")
         most = limits.LOWERS_MOST + has_upper
@@ -98,6 +105,7 @@ class _Check:
                       f"{wanted}, and not {len(layers)}")
         whole = sorted(self.faults, key=lambda fault: _TOP.index(fault.word))
         firsts = [f"manifest: {fault.word}" for fault in whole]
+        firsts += self.read_blobs(names)
         for number, layer in enumerate(layers):
             firsts += self.layer(number, layer)
         # the keys of layers are of the whole too, and come before all entries
@@ -147,6 +155,31 @@ class _Check:
         if found is not None:
             is_limit = _is(found.value, int) and _is_file_limit(found.value)
             self.file_limit = found.value if is_limit else limits.FILE_LIMIT_MOST
+
+    def blob_names(self, top: Table) -> List[Found]:
+        """The names of the blobs; where they are at fault, what is said of their bytes isn't."""
+        found = top.members.get("blobs")
+        if found is None:
+            return []
+        names = found.value if isinstance(found.value, list) else [found]
+        bad = [one for one in names if not isinstance(one.value, str)]
+        if names is found.value and not bad:
+            return names
+        self.blobs = None
+        self.tell(found.line, "blobs", "blobs",
+                  f"an array of texts, the names of files; {_named((bad or names)[0].value)}")
+        return []
+
+    def read_blobs(self, names: List[Found]) -> Iterator[str]:
+        """Looks at the blobs; what overlayd would say of each that can't be read."""
+        for number, found in enumerate(names):
+            size, why = _size_of(os.path.join(self._folder, found.value))
+            assert self.blobs is not None
+            self.blobs.append(size)
+            if why:
+                self.tell(found.line, "blobs", "blobs",
+                          f"blob {number} can't be read, {_short(found.value)}: {why}")
+                yield f"cannot read blob {number}"
 
     def tables(self, found: Optional[Found], key: str) -> List[Found]:
         """The tables of an array."""
@@ -246,6 +279,8 @@ class _Entry:
         else:
             for what in _value_faults(key, found.value, self._within.file_limit):
                 self._tell(key, "value", what)
+            if key == "blob":
+                self._part()
 
     def _required(self, kind: str) -> None:
         for key, of_kind in (("target", "symlink"), ("to", "link")):
@@ -253,8 +288,35 @@ class _Entry:
                 self._tell(key, "key", f"a text; it is missing, and kind {kind} needs it")
         given = [key for key in _BYTES if key in self._members]
         if kind == "file" and len(given) > 1:
-            self._tell(given[1], "key", f"at most one of text, hex and zeros, and not {given[0]} "
-                       "too")
+            self._tell(given[1], "key", f"at most one of text, hex, zeros and blob, and not "
+                       f"{given[0]} too")
+        for key in ("at", "size") if kind == "file" and "blob" not in given else ():
+            if key in self._members:
+                self._tell(key, "key", "only beside blob")
+
+    def _part(self) -> None:
+        """Whether the bytes are in the blob that is named."""
+        number, start, size = (self._whole(key) for key in ("blob", "at", "size"))
+        blobs = self._within.blobs
+        if blobs is None or number is None:
+            return
+        if not 0 <= number < len(blobs):
+            there = f"there are {len(blobs)}" if blobs else "there is none"
+            self._tell("blob", "value", f"the number of a blob, of which {there}, from 0")
+            return
+        whole, start = blobs[number], start or 0
+        if whole is None or start < 0 or size is not None and size < 0:
+            return
+        if start > whole or size is not None and size > whole - start:
+            self._tell("blob" if size is None else "size", "value", f"blob {number} has {whole} "
+                       f"bytes, and not {start if size is None else start + size}")
+        elif whole - start > self._within.file_limit and size is None:
+            self._tell("blob", "value", f"at most {self._within.file_limit} bytes")
+
+    def _whole(self, key: str) -> Optional[int]:
+        """The whole number at a key, if there is one."""
+        found = self._members.get(key)
+        return found.value if found is not None and _is(found.value, int) else None
 
     def _place(self, path: str, kind: Optional[str]) -> None:
         """Whether the entry can stand where it says, after those before it."""
@@ -299,6 +361,19 @@ def _is_switch(value: str) -> bool:
     return value in ("on", "off")
 
 
+def _size_of(path: str) -> Tuple[Optional[int], str]:
+    """How many bytes a file has, or why it can't be read; neither of a pipe or a device."""
+    try:
+        status = os.stat(path)
+    except (OSError, ValueError) as fault:
+        return None, getattr(fault, "strerror", None) or "no name of a file"
+    if stat.S_ISDIR(status.st_mode):
+        return None, "a directory"
+    if not os.access(path, os.R_OK):
+        return None, "not to be read"
+    return (status.st_size if stat.S_ISREG(status.st_mode) else None), ""
+
+
 def _is_history(value: int) -> bool:
     return limits.HISTORY_LEAST <= value <= limits.HISTORY_MOST
 
@@ -332,7 +407,9 @@ def _value_faults(key: str, value: Any, file_limit: int) -> Iterator[str]:
     """What is wrong with a value that has the right type, where a file has at most so many bytes.
     """
     most = {"mode": limits.MODE_BITS, "uid": limits.OWNER_MOST, "gid": limits.OWNER_MOST,
-            "zeros": file_limit}.get(key)
+            "zeros": file_limit, "size": file_limit}.get(key)
+    if key == "at" and value < 0:
+        yield f"from 0, and not {value}"
     if most is not None and not 0 <= value <= most:
         shown = "0o7777" if key == "mode" else str(most)
         yield f"from 0 to {shown}, and not {value}"

@@ -16,6 +16,7 @@ from .checking import check
 from .directories import Identity
 from .images import Choice
 from .plan import Wish, file_limit_of, plan, write
+from .references import References
 from .telling import PROGRAM, Refused, Report, shown
 from .writing import ManifestWriter
 
@@ -53,6 +54,12 @@ the most bytes of a file: a mount lets files grow to 1,048,576 bytes (1 MiB) whe
 no other file_limit. With --file-limit N the manifest says N. Without it, it says nothing where each
 file fits, and else as many whole MiB as the largest file needs. That leaves this file less than a
 MiB to grow: give --file-limit where programs are to write larger ones.
+
+bytes by reference: with --blobs the manifest has no bytes of a tar that isn't compressed, or of a
+layer in an archive that isn't: it names the file (blobs), from its own folder where it is below
+that, and tells of each file of the layer where its bytes begin (blob, at, size). overlayd reads the
+tar then, so it has to stay as it is for as long as the manifest is used. The bytes of directories,
+of compressed tars, of standard input and of sparse files are written as ever.
 
 checking a manifest: --check FILE reads one that is there, whole, and prints a line for each of its
 faults: file, line, layer and entry, path, key, and what is allowed. What overlayd says of it, which
@@ -102,6 +109,9 @@ def parser() -> argparse.ArgumentParser:
     words.add_argument("--file-limit", type=_file_limit, metavar="N",
                        help="the manifest's file_limit, the most bytes of a file, 1 to "
                             "1099511627776 (what the largest file needs where it isn't said)")
+    words.add_argument("--blobs", action="store_true",
+                       help="name the tars that aren't compressed, and where in them the bytes of "
+                            "files are, in place of these bytes")
     return words
 
 
@@ -126,7 +136,7 @@ def check_manifest(path: str) -> int:
     else:
         with open(path, "rb") as stream:
             data = stream.read()
-    found = check(data)
+    found = check(data, "" if path == "-" else os.path.dirname(path))
     name = "standard input" if path == "-" else shown(path)
     for fault in found.faults:
         print(": ".join(part for part in (f"{name}:{fault.line}", fault.place, fault.what) if part))
@@ -202,11 +212,14 @@ def run(words: argparse.Namespace, report: Report) -> None:
     wish = Wish(words.sources, Choice(words.image, words.platform), words.empty_upper,
                 words.redirect_dir, words.metacopy, words.history, words.read_only,
                 words.file_limit)
+    folder = None if words.output == "-" else os.path.dirname(words.output)
+    references = References(folder)
     output = Output(words.output, waits=words.strict)
     try:
-        layers = plan(wish, report, output.identities())
+        layers = plan(wish, report, output.identities(), references if words.blobs else None)
         writer = ManifestWriter(output.stream, wish.redirect_dir, wish.metacopy, wish.history,
-                                upper=not wish.read_only, file_limit=file_limit_of(wish, layers))
+                                upper=not wish.read_only, file_limit=file_limit_of(wish, layers),
+                                blobs=references.names())
         write(layers, writer, report)
         output.keep()
     except BaseException:

@@ -7,7 +7,7 @@ from typing import Dict, Iterable, Iterator, List, NamedTuple, Optional, Set, Tu
 from . import limits, marks
 from .merging import Layer, Merge
 from .metacopy import read_through
-from .objects import WHITEOUT, Content, Directory, File, Object, Symlink
+from .objects import WHITEOUT, Content, Data, Directory, File, Object, Symlink
 from .telling import ATTRIBUTE, OTHER_KIND, OVER_LIMIT, UNSAYABLE, Refused, Report, shown
 from .writing import Files, LayerWriter, write_tree
 
@@ -123,7 +123,7 @@ class DirectoryLayer(Content, Layer):
                 step.parent.children = {step.name: node}
             layer.plain(step.path, node)
 
-    def read_each(self, files: Iterable[File]) -> Iterator[Tuple[File, bytes]]:
+    def read_each(self, files: Iterable[File]) -> Iterator[Tuple[File, Data]]:
         """The files with their bytes, in the order in which they are asked for."""
         for file in files:
             data = self._read(file, os.fsdecode(self._raw(file)))

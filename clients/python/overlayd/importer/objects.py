@@ -1,6 +1,6 @@
 """What stands in a layer, in the terms of a manifest."""
 
-from typing import Dict, Iterable, Iterator, List, Optional, Tuple
+from typing import Dict, Iterable, Iterator, List, NamedTuple, Optional, Tuple, Union
 
 Attributes = Tuple[Tuple[str, str], ...]
 Names = Tuple[str, ...]
@@ -51,10 +51,21 @@ class Directory(Inode):
         self.fresh = False
 
 
+class Part(NamedTuple):
+    """Bytes that stand in a blob of the manifest: its number, where they begin, how many."""
+
+    blob: int
+    at: int
+    size: int
+
+
+Data = Union[bytes, Part]
+
+
 class Content:
     """Where the bytes of files come from."""
 
-    def read_each(self, files: Iterable["File"]) -> Iterator[Tuple["File", bytes]]:
+    def read_each(self, files: Iterable["File"]) -> Iterator[Tuple["File", Data]]:
         """Each of the files with its bytes, in the order that suits the source."""
         raise NotImplementedError
 

@@ -10,6 +10,7 @@ from .directories import DirectoryLayer, Identity
 from .images import Choice, DirectoryArchive, archive_in, layers_of
 from .merging import Merge, TreeLayer, flatten
 from .objects import Directory
+from .references import References
 from .tars import TarLayer
 from .telling import Refused, Report, shown
 from .writing import LayerWriter, ManifestWriter, write_tree
@@ -56,15 +57,17 @@ def _sources(text: str, choice: Choice) -> Tuple[List[Source], bool]:
     return [blob], False
 
 
-def plan(wish: Wish, report: Report, skip: Set[Identity]) -> List[Writable]:
-    """The layers of the manifest: an upper and 1 to 16 lower ones, or 2 to 16 lower ones alone."""
+def plan(wish: Wish, report: Report, skip: Set[Identity],
+         references: Optional[References] = None) -> List[Writable]:
+    """The layers of the manifest: an upper and 1 to 16 lower ones, or 2 to 16 lower ones alone.
+    The bytes of tars are referred to where references are wanted."""
     found: List[Source] = []
     needs_upper = wish.empty_upper
     for number, text in enumerate(wish.sources):
         sources, is_image = _sources(text, wish.choice)
         found += sources
         needs_upper = needs_upper or (number == 0 and is_image)
-    layers = _layers(found, report, skip, wish.file_limit or limits.FILE_LIMIT_MOST)
+    layers = _layers(found, report, skip, wish.file_limit or limits.FILE_LIMIT_MOST, references)
     needs_upper = not wish.read_only and (needs_upper or len(layers) == 1)
     lowers = len(layers) - (0 if needs_upper or wish.read_only else 1)
     if lowers > limits.LOWERS_MOST:
@@ -78,8 +81,8 @@ def plan(wish: Wish, report: Report, skip: Set[Identity]) -> List[Writable]:
     return layers
 
 
-def _layers(sources: List[Source], report: Report, skip: Set[Identity],
-            most: int) -> List[Writable]:
+def _layers(sources: List[Source], report: Report, skip: Set[Identity], most: int,
+            references: Optional[References]) -> List[Writable]:
     """The layers of the sources, the highest first, down to one that hides all below it. A file of
     more than `most` bytes is left out."""
     layers: List[Writable] = []
@@ -94,6 +97,8 @@ def _layers(sources: List[Source], report: Report, skip: Set[Identity],
             report.note(f"{shown(layer.name)}: its root is opaque: what is below it is left away")
             layers = []
             layer.tree().opaque = False
+        if isinstance(layer, TarLayer) and references is not None:
+            layer.refer(references)
         layers.insert(0, layer)
     return layers
 

@@ -7,8 +7,9 @@ from . import limits, marks
 from .blobs import Blob, reading, skip
 from .merging import Layer, Merge
 from .metacopy import read_through
-from .objects import (WHITEOUT, Content, Directory, File, Inode, Names, Object, Symlink, at,
-                      path_text, walk)
+from .objects import (WHITEOUT, Content, Data, Directory, File, Inode, Names, Object, Part,
+                      Symlink, at, path_text, walk)
+from .references import References
 from .telling import ATTRIBUTE, LOST, OTHER_KIND, OVER_LIMIT, UNSAYABLE, Refused, Report, shown
 from .writing import LayerWriter, write_tree
 
@@ -79,6 +80,8 @@ class TarLayer(Content, Layer):
         self._report = report
         self._below = below
         self._tree: Optional[Directory] = None
+        self._number: Optional[int] = None
+        self._begin = 0
 
     def tree(self) -> Directory:
         """All that stands in it, without bytes; read once."""
@@ -86,16 +89,37 @@ class TarLayer(Content, Layer):
             self._tree = _Reading(self, self._blob, self._report, self._below).tree()
         return self._tree
 
+    def refer(self, references: References) -> None:
+        """Has the bytes of its files referred to, where it is a file that can be, and has some."""
+        in_file = self._blob.in_file()
+        if in_file is not None and any(self._refers_to(node) for _, node in walk(self.tree())):
+            self._number = references.number(in_file[0])
+            self._begin = in_file[1]
+
+    def _refers_to(self, node: Object) -> bool:
+        return (isinstance(node, File) and node.source is self and node.size > 0
+                and _place(node)[1] is None)
+
+    def _part(self, offset: int, size: int) -> Part:
+        """Where the bytes of a file are in the blob."""
+        if offset + size > self._blob.size:
+            raise EOFError("it ends too early")
+        assert self._number is not None
+        return Part(self._number, self._begin + offset, size)
+
     def write(self, layer: LayerWriter) -> None:
         """Writes the layer; the tar is read once more, for the bytes."""
         write_tree(layer, self.tree())
 
-    def read_each(self, files: Iterable[File]) -> Iterator[Tuple[File, bytes]]:
+    def read_each(self, files: Iterable[File]) -> Iterator[Tuple[File, Data]]:
         """The files with their bytes, as they come in the tar; some may have the same place."""
         here, last, data = 0, -1, b""
         with reading(self.name), self._blob.plain() as stream:
             for file in sorted(files, key=_offset):
                 offset, stretches = _place(file)
+                if self._number is not None and file.size and stretches is None:
+                    yield file, self._part(offset, file.size)
+                    continue
                 if file.size and offset != last:
                     skip(stream, offset - here)
                     data = _read(stream, file.size, stretches)

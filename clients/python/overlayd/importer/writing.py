@@ -2,10 +2,11 @@
 
 import re
 from binascii import hexlify
-from typing import BinaryIO, Dict, List, Optional, Tuple
+from typing import BinaryIO, Dict, List, Optional, Sequence, Tuple
 
 from .limits import text_of
-from .objects import Content, Directory, File, Inode, Object, Symlink, Whiteout, walk
+from .objects import (Content, Data, Directory, File, Inode, Object, Part, Symlink, Whiteout,
+                      walk)
 from .telling import Report
 
 _CONTROLS = bytes(set(range(0x20)) - set(b"\n\t")) + b"\x7f"
@@ -26,8 +27,11 @@ def quoted(text: str) -> str:
     return f'"{_escaped(text.encode("utf-8")).decode("utf-8")}"'
 
 
-def bytes_line(data: bytes) -> bytes:
-    """The line of an entry that says a file's bytes, in the shortest of the three forms."""
+def bytes_line(data: Data) -> bytes:
+    """The lines of an entry that say a file's bytes: where they stand in a blob, or themselves in
+    the shortest of the three forms."""
+    if isinstance(data, Part):
+        return b"blob = %d\nat = %d\nsize = %d\n" % data
     if not data:
         return b""
     if not data.strip(b"\0"):
@@ -44,7 +48,8 @@ class ManifestWriter:
 
     def __init__(self, out: BinaryIO, redirect_dir: Optional[str] = None,
                  metacopy: Optional[str] = None, history: Optional[int] = None,
-                 upper: bool = True, file_limit: Optional[int] = None) -> None:
+                 upper: bool = True, file_limit: Optional[int] = None,
+                 blobs: Sequence[str] = ()) -> None:
         self._out = out
         self._began = False
         self.layers = 0
@@ -60,6 +65,8 @@ class ManifestWriter:
             self._line(f"history = {history}")
         if file_limit is not None:
             self._line(f"file_limit = {file_limit}")
+        if blobs:
+            self._line(f"blobs = [{', '.join(quoted(name) for name in blobs)}]")
 
     def layer(self) -> None:
         """Begins a layer."""
@@ -82,11 +89,11 @@ class ManifestWriter:
             lines.append(f"redirect = {quoted(node.redirect)}")
         self._entry(path, "dir", lines)
 
-    def file(self, path: str, node: File, data: bytes) -> None:
+    def file(self, path: str, node: File, data: Data) -> None:
         """A file with its bytes."""
         self._entry(path, "file", self._inode_lines(node, 0o644))
         self._out.write(bytes_line(data))
-        self.bytes += len(data)
+        self.bytes += data.size if isinstance(data, Part) else len(data)
 
     def symlink(self, path: str, node: Symlink) -> None:
         """A symbolic link."""
@@ -169,7 +176,7 @@ class LayerWriter:
         elif isinstance(node, Whiteout):
             self._writer.whiteout(path)
 
-    def file(self, path: str, node: File, data: bytes) -> None:
+    def file(self, path: str, node: File, data: Data) -> None:
         """Writes a file under its first name."""
         self._report.progress(self._what, self._writer.objects, self._writer.bytes)
         self._writer.file(path, node, data)
