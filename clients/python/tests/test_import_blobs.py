@@ -92,7 +92,8 @@ class ImportTest(BlobTest):
             with self.subTest(name):
                 manifest = self.manifest("--blobs", tar, name=name)
                 self.assertEqual(head(manifest)[0], f'blobs = ["{wanted}"]')
-        with contextlib.redirect_stdout(io.TextIOWrapper(io.BytesIO())) as out:
+        with contextlib.redirect_stdout(io.TextIOWrapper(io.BytesIO())) as out, \
+                contextlib.redirect_stderr(io.StringIO()):
             self.assertEqual(main(["--blobs", "-q", tar]), 0)
             out.seek(0)
             self.assertEqual(head(out.read())[0], f'blobs = ["{tar}"]')

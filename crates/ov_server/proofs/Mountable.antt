@@ -70,24 +70,21 @@ said-numbers m o h =
     (d.1 ∙ ap Ok places, e.1 ∙ ap Ok limit)
 
 -- so are those of a manifest
-manifest-numbers : (m : Members) (o : Options) → manifest_of m ≡ Ok o → (history_of m ≡ Ok o.history) × (file_limit_of m ≡ Ok o.file_limit)
-manifest-numbers m o h =
+manifest-numbers : (blobs : List (List ℕ)) (m : Members) (o : Options) → manifest_of blobs m ≡ Ok o → (history_of m ≡ Ok o.history) × (file_limit_of m ≡ Ok o.file_limit)
+manifest-numbers blobs m o h =
     let a = then-ok (whole_of m) _ o h in
     let b = then-ok (options_of m) _ a.0 a.1 in
-    let whole : a.0 ≡ o = unless-ok (layers_fault a.0.file_limit 0 (layer_items m)) a.0 o a.2 in
+    let whole : a.0 ≡ o = unless-ok (layers_fault a.0.file_limit blobs 0 (layer_items m)) a.0 o a.2 in
     let same : b.0 ≡ a.0 = either-ok _ b.0 a.0 fault.Layers b.2 in
     subst (λ (x : Options). (history_of m ≡ Ok x.history) × (file_limit_of m ≡ Ok x.file_limit)) (same ∙ whole) (said-numbers m b.0 b.1)
 
 -- the limit of a manifest without a fault is that of its options
-pub told-limit : (m : Members) (o : Options) → manifest_of m ≡ Ok o → file_limit_of m ≡ Ok o.file_limit
-told-limit m o h = (manifest-numbers m o h).1
+pub told-limit : (blobs : List (List ℕ)) (m : Members) (o : Options) → manifest_of blobs m ≡ Ok o → file_limit_of m ≡ Ok o.file_limit
+told-limit blobs m o h = (manifest-numbers blobs m o h).1
 
-manifest-length : (m : Members) (o : Options) → manifest_of m ≡ Ok o → (2 ≤ o.history) × (o.history ≤ 1000000)
-manifest-length m o h = within-length (unwrap_or (option_and_then as_integer (get_member (codes "history") m)) (pos 100000)) o.history (manifest-numbers m o h).0
-
-pub told-length : (o : Option Members) (x : Options) → option_map manifest_of o ≡ Some (Ok x) → (2 ≤ x.history) × (x.history ≤ 1000000)
-told-length None x h = absurd (cc)
-told-length (Some m) x h = manifest-length m x (let e : Some (manifest_of m) ≡ Some (Ok x) = h in cc)
+-- so is its length of the history
+pub told-length : (blobs : List (List ℕ)) (m : Members) (o : Options) → manifest_of blobs m ≡ Ok o → (2 ≤ o.history) × (o.history ≤ 1000000)
+told-length blobs m o h = within-length (unwrap_or (option_and_then as_integer (get_member (codes "history") m)) (pos 100000)) o.history (manifest-numbers blobs m o h).0
 
 -- and so many layers with options of such a length are no fault
 pub sound-number : (has : Bool) (n : ℕ) (x : Options) (f : MountFault) → 0 < n → (has ≡ false → 2 ≤ n) → n ≤ 16 → 2 ≤ x.history → x.history ≤ 1000000 → mount_fault has n x ≡ Some f → ⊥

@@ -1,8 +1,6 @@
 -- The faults of the program.
-use Rattle.std.specs.Prelude.{◌≡◌, ℕ, ◌<◌, pred, false, cond, List, Some, None, Result, Ok, Err, IsUtf8}
-use Rattle.std.specs.Option.{option_map_or}
+use Rattle.std.specs.Prelude.{◌≡◌, ℕ, ◌<◌, pred, cond, List, Result, Ok, Err}
 use Rattle.toml.specs.Data.{Members}
-use Rattle.toml.specs.Parse.{parse_document}
 use Rattle.ov_wire.specs.Manifests.{has_upper, layer_count}
 use Rattle.ov_wire.specs.ManifestLayers.{manifest_of}
 use Rattle.clap.specs.Values.{kind_of}
@@ -15,7 +13,7 @@ use Rattle.ov_server.specs.Rosters.{Layering}
 use Rattle.ov_server.specs.declared.fault.DeviceFault.{DeviceFault}
 use Rattle.ov_server.specs.declared.fault.DeviceFault.TheVariants as device
 use Rattle.ov_server.specs.declared.fault.Fault.{Fault}
-use Rattle.ov_server.specs.declared.fault.Fault.TheVariants.{CommandLine, NotText, CannotReadManifest, Manifest, Stream, Socket, BadCommand, Memory}
+use Rattle.ov_server.specs.declared.fault.Fault.TheVariants.{CommandLine, NotText, CannotReadManifest, CannotReadBlob, Manifest, Stream, Socket, BadCommand, Memory}
 use Rattle.ov_server.specs.declared.fault.Fault.TheVariants.{SaveWithoutEnd, NoUpper, CannotSave, LeftOut}
 
 -- the exit status of what a command line comes to: 0 where help or the version is asked for
@@ -29,6 +27,7 @@ abbrev pub status_of : Fault → ℕ
 status_of (CommandLine error) = status_of_kind (kind_of error)
 status_of NotText = 2
 status_of CannotReadManifest = 1
+status_of (CannotReadBlob blob) = 1
 status_of (Manifest fault) = 1
 status_of Stream = 1
 status_of Socket = 1
@@ -65,26 +64,16 @@ no_memory = device.Memory
 abbrev pub layering_of : Members → Layering
 layering_of m = (has_upper m, cond (has_upper m) (pred (layer_count m)) (layer_count m))
 
--- those of the bytes of a manifest, none where they are no TOML
-abbrev pub layers_told : List ℕ → Layering
-layers_told bytes = option_map_or layering_of (parse_document bytes) (false, 0)
-
--- THE FIRST FAULT of the bytes of a manifest: that they are no text or no TOML, or else that of the document
-pub record IsFaultOf (bytes : List ℕ) (f : ManifestFault) : Type 0 where
-  pub not_utf8 : (IsUtf8 bytes → ⊥) → f ≡ manifest.NotToml
-  pub not_toml : parse_document bytes ≡ None → f ≡ manifest.NotToml
-  pub document : (m : Members) → IsUtf8 bytes → parse_document bytes ≡ Some m → manifest_of m ≡ Err f
-
 -- a run ends by this fault of its manifest, unless memory ran out
 abbrev pub EndsByManifest : {T : Type 0} → Result T Fault → ManifestFault → Type 0
 EndsByManifest (Ok x) wanted = ⊥
 EndsByManifest (Err Memory) wanted = Unit {0}
 EndsByManifest (Err fault) wanted = fault ≡ Manifest wanted
 
--- a run tells no fault of its manifest but the first, and ends by it where there is one, unless memory ran out
-pub record AnswersManifest {T : Type 0} (bytes : List ℕ) (result : Result T Fault) : Type 0 where
-  pub told : (f : ManifestFault) → result ≡ Err (Manifest f) → IsFaultOf bytes f
-  pub ends : (f : ManifestFault) → IsFaultOf bytes f → EndsByManifest result f
+-- a run tells no fault of its manifest, whose blobs have these bytes, but the first, and ends by it where there is one, unless memory ran out
+pub record AnswersManifest {T : Type 0} (blobs : List (List ℕ)) (m : Members) (result : Result T Fault) : Type 0 where
+  pub told : (f : ManifestFault) → result ≡ Err (Manifest f) → manifest_of blobs m ≡ Err f
+  pub ends : (f : ManifestFault) → manifest_of blobs m ≡ Err f → EndsByManifest result f
 
 -- how the reading of a manifest ends early
 abbrev pub IsManifestFault : Fault → Type 0

@@ -20,6 +20,9 @@ pub enum Fault {
     /// The manifest's file cannot be read.
     #[error("cannot read manifest")]
     CannotReadManifest,
+    /// The file of a blob of the manifest, counted from 0, cannot be read.
+    #[error("cannot read blob {blob}")]
+    CannotReadBlob { blob: usize },
     /// The manifest is at fault.
     #[error("{0}")]
     Manifest(ManifestFault),
@@ -58,7 +61,7 @@ impl Fault {
         match self {
             Fault::CommandLine(error) if !error.use_stderr() => 0,
             Fault::CommandLine(_) => 2,
-            Fault::CannotReadManifest | Fault::Manifest(_) => 1,
+            Fault::CannotReadManifest | Fault::CannotReadBlob { .. } | Fault::Manifest(_) => 1,
             Fault::Stream | Fault::Socket => 1,
             Fault::NoUpper | Fault::CannotSave | Fault::LeftOut { .. } => 1,
             Fault::NotText | Fault::SaveWithoutEnd | Fault::BadCommand { .. } => 2,

@@ -1,7 +1,8 @@
 // `play`: a script on a mount.
 ghost use Rattle.std.specs.Prelude.{◌≡◌, ℕ, ◌+◌, ◌*◌, ◌<◌, ◌≤◌, ◌^◌, [], length, nat_eq, position, IfErr, IfOk, IfSome, OnOk};
 ghost use Rattle.overlay_core.specs.Views.{core_finished};
-ghost use Rattle.ov_server.specs.Faults.{AnswersManifest, IsManifestFault, layers_told};
+ghost use Rattle.ov_server.specs.Faults.{AnswersManifest, IsManifestFault, layering_of};
+ghost use Rattle.toml.specs.View.{table_view};
 ghost use Rattle.ov_server.specs.Mounts as mounts;
 ghost use Rattle.ov_server.specs.Mounts.{IsMountOf};
 ghost use Rattle.overlay_core.specs.Histories.{HasPlaces};
@@ -16,34 +17,45 @@ use crate::devices::{Output, read_some};
 use crate::fault::{DeviceFault, Fault};
 use crate::history_length::HistoryLength;
 use crate::stage::Stage;
-use ov_base::Options;
+use ov_base::{Bytes, Options};
 use ov_devices::{Sink, Source};
-use ov_wire::manifest_of;
+use ov_wire::layers_of;
 use overlay_core::{Core, LOOK_UPS_KEPT, Unmounted};
 use std::alloc::{AllocError, Global};
 use std::hash::RandomState;
+use toml::Table;
 use watch_table::{Callback, Hook, Rule};
 
 /// How many bytes one read asks for.
 const PIECE: usize = 65_536;
 
-/// Plays the script that an input gives on the mount of the layers that the bytes of a manifest spell, and puts a line out for each
-/// command. Each client comes with copies of these hooks. The layers hash names with `keys`.
+/// Plays the script that an input gives on the mount of a manifest whose blobs have these bytes, which are let go before, and puts a line
+/// out for each command. Each client comes with copies of these hooks. The layers hash names with `keys`.
 pub fn play_run<S: Source, K: Sink, F: Callback + Copy, H: Rule>(
     alloc: Global,
     keys: RandomState,
-    manifest: &[u8],
+    manifest: Table,
+    blobs: Vec<Bytes>,
     hooks: &[Hook<F, H>],
     input: &mut S,
     output: &mut Output<K>,
 ) -> Result<(), Fault>
-    ensures ok { OnOk result (IfSome (S.remaining input.old) (IsGoodScript (layers_told manifest.now))) }
-    ensures err { IfErr result (IsRunFault (S.remaining input.old) (layers_told manifest.now)) }
+    ensures ok { OnOk result (IfSome (S.remaining input.old) (IsGoodScript (layering_of (table_view manifest)))) }
+    ensures err { IfErr result (IsRunFault (S.remaining input.old) (layering_of (table_view manifest))) }
     ensures stream { IfErr result (IsStreamFault (S.failures input.new) (S.reads input.new) (K.failures output.new.sink)) }
     ensures well { OnOk result ((S.failures input.new ≡ S.failures input.old) × (K.failures output.new.sink ≡ K.failures output.old.sink)) }
-    ensures manifest { AnswersManifest manifest.now result }
+    ensures manifest { AnswersManifest blobs.items (table_view manifest) result }
 {
-    play_run_keeping(alloc, keys, LOOK_UPS_KEPT, manifest, hooks, input, output)
+    play_run_keeping(
+        alloc,
+        keys,
+        LOOK_UPS_KEPT,
+        manifest,
+        blobs,
+        hooks,
+        input,
+        output,
+    )
 }
 
 /// `play_run` on a mount that keeps at most so many look-ups in the lower layers, or with 0 none.
@@ -51,19 +63,21 @@ pub fn play_run_keeping<S: Source, K: Sink, F: Callback + Copy, H: Rule>(
     alloc: Global,
     keys: RandomState,
     look_ups: usize,
-    manifest: &[u8],
+    manifest: Table,
+    blobs: Vec<Bytes>,
     hooks: &[Hook<F, H>],
     input: &mut S,
     output: &mut Output<K>,
 ) -> Result<(), Fault>
     requires { look_ups ≤ 65536 }
-    ensures ok { OnOk result (IfSome (S.remaining input.old) (IsGoodScript (layers_told manifest.now))) }
-    ensures err { IfErr result (IsRunFault (S.remaining input.old) (layers_told manifest.now)) }
+    ensures ok { OnOk result (IfSome (S.remaining input.old) (IsGoodScript (layering_of (table_view manifest)))) }
+    ensures err { IfErr result (IsRunFault (S.remaining input.old) (layering_of (table_view manifest))) }
     ensures stream { IfErr result (IsStreamFault (S.failures input.new) (S.reads input.new) (K.failures output.new.sink)) }
     ensures well { OnOk result ((S.failures input.new ≡ S.failures input.old) × (K.failures output.new.sink ≡ K.failures output.old.sink)) }
-    ensures manifest { AnswersManifest manifest.now result }
+    ensures manifest { AnswersManifest blobs.items (table_view manifest) result }
 {
-    let core = core_keeping(alloc, keys, look_ups, manifest, None)?;
+    let core = core_keeping(alloc, keys, look_ups, &manifest, blobs.as_slice(), None)?;
+    drop((manifest, blobs));
     let outcome = play_on(alloc, core, hooks, input, output);
     output.flush()?;
     outcome?;
@@ -97,23 +111,24 @@ fn play_on<S: Source, K: Sink, F: Callback + Copy, H: Rule>(
     outcome
 }
 
-/// The mount of the layers that the bytes of a manifest spell, without a client. Its history is as
-/// long as is told, or else as the manifest says.
+/// The mount of a manifest whose blobs have these bytes, without a client. Its history is as long as is
+/// told, or else as the manifest says.
 pub fn core_of<F: Callback + Drop, H: Rule>(
     alloc: Global,
     keys: RandomState,
-    manifest: &[u8],
+    manifest: &Table,
+    blobs: &[Bytes],
     history: Option<HistoryLength>,
 ) -> Result<Core<F, H>, Fault>
-    ensures manifest { AnswersManifest manifest.now result }
+    ensures manifest { AnswersManifest blobs.now (table_view manifest.now) result }
     ensures err { IfErr result IsManifestFault }
-    ensures mount { IfOk result (IsMountOf manifest.now history) }
-    ensures count { IfOk result (λ core. layers_in core ≡ layers_told manifest.now) }
+    ensures mount { IfOk result (IsMountOf blobs.now (table_view manifest.now) history) }
+    ensures count { IfOk result (λ core. layers_in core ≡ layering_of (table_view manifest.now)) }
     ensures begins { IfOk result BeginsOn }
     ensures finished { IfOk result (λ core. core_finished core ≡ 0) }
     ensures places { IfOk result HasPlaces }
 {
-    core_keeping(alloc, keys, LOOK_UPS_KEPT, manifest, history)
+    core_keeping(alloc, keys, LOOK_UPS_KEPT, manifest, blobs, history)
 }
 
 // The same, which keeps at most so many look-ups in the lower layers.
@@ -121,19 +136,20 @@ fn core_keeping<F: Callback + Drop, H: Rule>(
     alloc: Global,
     keys: RandomState,
     look_ups: usize,
-    manifest: &[u8],
+    manifest: &Table,
+    blobs: &[Bytes],
     history: Option<HistoryLength>,
 ) -> Result<Core<F, H>, Fault>
     requires { look_ups ≤ 65536 }
-    ensures manifest { AnswersManifest manifest.now result }
+    ensures manifest { AnswersManifest blobs.now (table_view manifest.now) result }
     ensures err { IfErr result IsManifestFault }
-    ensures mount { IfOk result (IsMountOf manifest.now history) }
-    ensures count { IfOk result (λ core. layers_in core ≡ layers_told manifest.now) }
+    ensures mount { IfOk result (IsMountOf blobs.now (table_view manifest.now) history) }
+    ensures count { IfOk result (λ core. layers_in core ≡ layering_of (table_view manifest.now)) }
     ensures begins { IfOk result BeginsOn }
     ensures finished { IfOk result (λ core. core_finished core ≡ 0) }
     ensures places { IfOk result HasPlaces }
 {
-    let (upper, lowers, told) = manifest_of(alloc, keys, manifest)?;
+    let (upper, lowers, told) = layers_of(alloc, keys, manifest, blobs)?;
     let options = lasting(history, told);
     match Core::mount_keeping(alloc, keys, upper, lowers, options, look_ups) {
         Ok(core) => Ok(core),

@@ -1,15 +1,18 @@
 //! The program: shows the merged tree of a manifest, plays a script on its mount, or serves it.
 #![tactic(auto)]
 
+mod described;
 mod ending;
 mod listening;
 mod saving;
 
-ghost use Rattle.std.specs.Prelude.{◌≡◌, IfOk, length, ◌≤◌};
+ghost use Rattle.std.specs.Prelude.{◌≡◌, IfOk};
+ghost use Rattle.toml.specs.View.{table_view};
 ghost use Rattle.locked_history.specs.Names.{blank_core};
 ghost use Rattle.ov_server.specs.Mounts.{IsMountOf};
 ghost use Rattle.overlay_core.specs.Views.{core_options};
 
+use crate::described::{Described, read_manifest};
 use crate::ending::{close_at_end, closing_in, ending_of};
 use crate::listening::listen;
 use crate::saving::Saver;
@@ -96,9 +99,9 @@ fn show<R: Runtime + AllocGlobal>(
     manifest: &str,
     limit: u64,
 ) -> Result<(), Fault> {
-    let manifest = bytes_of(rt, manifest, limit)?;
+    let Described { table, blobs } = read_manifest(rt, manifest, limit)?;
     let mut output = Output::new(rt.alloc(), CountedWriter::new(io::writer(rt)));
-    show_run(rt.alloc(), keys, manifest.as_slice(), &mut output)
+    show_run(rt.alloc(), keys, table, blobs, &mut output)
 }
 
 fn play<R: Runtime + AllocGlobal>(
@@ -107,14 +110,15 @@ fn play<R: Runtime + AllocGlobal>(
     manifest: &str,
     limit: u64,
 ) -> Result<(), Fault> {
-    let manifest = bytes_of(rt, manifest, limit)?;
+    let Described { table, blobs } = read_manifest(rt, manifest, limit)?;
     let hooks = hooks_by_slot(rt.alloc())?;
     let mut input = CountedReader::new(rt.reader());
     let mut output = Output::new(rt.alloc(), CountedWriter::new(io::writer(rt)));
     play_run(
         rt.alloc(),
         keys,
-        manifest.as_slice(),
+        table,
+        blobs,
         hooks.as_slice(),
         &mut input,
         &mut output,
@@ -155,8 +159,8 @@ where
     W: Fn(Arc<Closing, Global>) -> Result<(), Fault>,
     requires closes { (closing : _) → W.pre closes_at_end.now closing }
 {
-    let manifest = bytes_of(rt, serving.manifest, serving.manifest_limit)?;
-    let (blank, places) = blank_of(rt.alloc(), keys, manifest.as_slice(), serving)?;
+    let described = read_manifest(rt, serving.manifest, serving.manifest_limit)?;
+    let (blank, places) = blank_of(rt.alloc(), keys, described, serving)?;
     let mut saver = Saver::new(rt, serving)?;
     let listener = listen(rt, serving)?;
     let ending = ending_of(rt.alloc(), &listener, serving, closes_at_end)?;
@@ -194,18 +198,19 @@ fn options_of<'a>(
     }
 }
 
-// A mount of a manifest's layers on which nothing was done, and how many places its history has: as
-// many as are told, or else as the manifest says. It has an upper where that is to be saved.
+// A mount of a manifest on which nothing was done, and how many places its history has: as many as are
+// told, or else as the manifest says. It has an upper where that is to be saved.
 fn blank_of<F: Callback + Drop, H: Rule>(
     alloc: Global,
     keys: RandomState,
-    manifest: &[u8],
+    manifest: Described,
     serving: &Serving<'_>,
 ) -> Result<(Blank<F, H>, u32), Fault>
-    ensures mount { IfOk result (λ r. IsMountOf manifest.now serving.now.history (blank_core r.0)) }
+    ensures mount { IfOk result (λ r. IsMountOf manifest.blobs.items (table_view manifest.table) serving.now.history (blank_core r.0)) }
     ensures places { IfOk result (λ r. r.1 ≡ (core_options (blank_core r.0)).history) }
 {
-    let core = core_of(alloc, keys, manifest, serving.history)?;
+    let Described { table, blobs } = manifest;
+    let core = core_of(alloc, keys, &table, blobs.as_slice(), serving.history)?;
     if serving.save.is_some() && !core.has_upper() {
         return Err(Fault::NoUpper);
     }
@@ -213,21 +218,6 @@ fn blank_of<F: Callback + Drop, H: Rule>(
     match Blank::new(alloc, core) {
         Ok(blank) => Ok((blank, places)),
         Err(_) => Err(Fault::Memory),
-    }
-}
-
-// The bytes of a manifest's file, of which at most one over the limit is read.
-fn bytes_of<R: Files + AllocGlobal>(rt: &R, path: &str, limit: u64) -> Result<Vec<u8>, Fault>
-    ensures { IfOk result (λ bytes. length bytes.items ≤ limit) }
-{
-    let Ok(file) = fs::open(rt, path) else {
-        return Err(Fault::CannotReadManifest);
-    };
-    let mut bytes = Vec::new(rt.alloc());
-    match file.take(limit.saturating_add(1)).read_to_end(&mut bytes) {
-        Ok(_) if bytes.len() as u64 <= limit => Ok(bytes),
-        Err(fault) if fault.kind() == io::ErrorKind::OutOfMemory => Err(Fault::Memory),
-        _ => Err(Fault::CannotReadManifest),
     }
 }
 

@@ -1,8 +1,10 @@
 // Runs of the engine over bytes in memory.
 ghost use Rattle.std.specs.Prelude.{◌≤◌};
 
+use crate::blobs::all_blobs;
 use ov_devices::{CountedReader, CountedWriter};
 use ov_server::{Fault, Output, hooks_by_slot, play_run_keeping, show_run};
+use ov_wire::table_of;
 use overlay_core::LOOK_UPS_KEPT;
 use std::alloc::Global;
 use std::hash::RandomState;
@@ -117,7 +119,8 @@ fn play(
         alloc,
         keys,
         look_ups,
-        manifest,
+        table_of(alloc, manifest)?,
+        all_blobs(alloc)?,
         hooks.as_slice(),
         &mut input,
         &mut output,
@@ -131,5 +134,6 @@ fn show(
     text: &mut Vec<u8>,
 ) -> Result<(), Fault> {
     let mut output = Output::new(alloc, CountedWriter::new(text));
-    show_run(alloc, keys, manifest, &mut output)
+    let manifest = table_of(alloc, manifest)?;
+    show_run(alloc, keys, manifest, all_blobs(alloc)?, &mut output)
 }

@@ -1,4 +1,5 @@
 // What the entries of a manifest say, read for the slow reference alone.
+use crate::blobs::part_of_blob;
 use crate::plain_layer::PlainLayer;
 use std::alloc::{AllocError, Global};
 use toml::{Table, Value};
@@ -176,10 +177,26 @@ fn spelling_in(kind: Kind, table: &Table) -> Option<Spelling<'_>> {
     if let Some(digits) = text_at(table, "hex") {
         return Some(Spelling::Digits(digits));
     }
+    if table.get("blob").is_some() {
+        return Some(Spelling::Text(part_in(table)?));
+    }
     match bytes_at(table, "text") {
         Some(text) => Some(Spelling::Text(text)),
         None => Some(Spelling::Zeros(number_at(table, "zeros", 0)?)),
     }
+}
+
+// The part of a blob that an entry takes.
+fn part_in(table: &Table) -> Option<&'static [u8]> {
+    let size = match table.get("size") {
+        Some(_) => Some(number_at(table, "size", 0)?),
+        None => None,
+    };
+    part_of_blob(
+        number_at(table, "blob", 0)?,
+        number_at(table, "at", 0)?,
+        size,
+    )
 }
 
 /// The path of an entry, for a path text.

@@ -8,6 +8,7 @@ use crate::random_steps::{FILES, PLACES, push_turn};
 use crate::random_watches::push_arm_of;
 use crate::stepper::Stepper;
 use ov_server::{core_of, hooks_by_slot};
+use ov_wire::table_of;
 use std::alloc::{AllocError, Global};
 use std::hash::RandomState;
 use std::rt::Files;
@@ -81,7 +82,10 @@ fn drafted<F: Callback + Copy, R: Rule>(
     hooks: &[Hook<F, R>],
     seed: u64,
 ) -> Result<Option<String>, AllocError> {
-    let Ok(core) = core_of::<F, R>(alloc, keys, manifest.text, None) else {
+    let Ok(table) = table_of(alloc, manifest.text) else {
+        return Ok(None);
+    };
+    let Ok(core) = core_of::<F, R>(alloc, keys, &table, &[], None) else {
         return Ok(None);
     };
     let mut draft = Draft {

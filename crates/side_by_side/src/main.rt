@@ -4,6 +4,7 @@
 #![tactic(auto)]
 
 mod answers;
+mod blobs;
 mod contents;
 mod dice;
 mod engine;

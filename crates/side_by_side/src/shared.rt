@@ -2,12 +2,13 @@
 // it has ended.
 ghost use Rattle.locked_history.specs.Names.{IsNamed};
 
+use crate::blobs::all_blobs;
 use crate::shared_clients::{Answer, Clients};
 use crate::sights::Sight;
 use locked_history::{Blank, Mount, MountName, Receipt};
 use ov_base::Options;
 use ov_server::hooks_by_slot;
-use ov_wire::manifest_of;
+use ov_wire::{layers_of, table_of};
 use overlay_core::Core;
 use std::alloc::{AllocError, Global};
 use std::hash::RandomState;
@@ -101,7 +102,11 @@ fn blank_of<F: Callback + Drop, R: Rule>(
     manifest: &[u8],
     places: u32,
 ) -> Result<Option<Blank<F, R>>, AllocError> {
-    let Ok((upper, lowers, options)) = manifest_of(alloc, keys, manifest) else {
+    let Ok(table) = table_of(alloc, manifest) else {
+        return Ok(None);
+    };
+    let blobs = all_blobs(alloc)?;
+    let Ok((upper, lowers, options)) = layers_of(alloc, keys, &table, blobs.as_slice()) else {
         return Ok(None);
     };
     let options = Options {

@@ -2,6 +2,7 @@
 use crate::fixtures::EMPTY;
 use ov_devices::{CountedReader, CountedWriter};
 use ov_server::{Fault, Output, hooks_by_slot, play_run, show_run};
+use ov_wire::table_of;
 use std::alloc::Global;
 use std::hash::RandomState;
 use std::io;
@@ -25,7 +26,8 @@ fn play<R: Read, W: Write>(
     play_run(
         alloc,
         keys,
-        EMPTY.as_bytes(),
+        table_of(alloc, EMPTY.as_bytes())?,
+        Vec::new(alloc),
         hooks.as_slice(),
         &mut input,
         &mut output,
@@ -34,7 +36,8 @@ fn play<R: Read, W: Write>(
 
 fn show<W: Write>(alloc: Global, keys: RandomState, writer: &mut W) -> Result<(), Fault> {
     let mut output = Output::new(alloc, CountedWriter::new(writer));
-    show_run(alloc, keys, EMPTY.as_bytes(), &mut output)
+    let manifest = table_of(alloc, EMPTY.as_bytes())?;
+    show_run(alloc, keys, manifest, Vec::new(alloc), &mut output)
 }
 
 // Gives or takes at most five bytes at a time, and after its bytes fails as it's told. It's interrupted before each time.
