@@ -79,6 +79,18 @@ def served(program, library):
         service.end()
 
 
+def refused(program, library):
+    """Clients that can't be attached are told so, and with `--verbose` so is standard error."""
+    with Service(program, library, MANIFEST, 2, ["--verbose"]) as service:
+        plays(service, "attach => client 0")
+        without_memory(service, *["attach => not attached ENOMEM"] * 2)
+        plays(service, "attach => client 1", "1 stat / => 1 ok d 0755 0 0 0 1")
+        service.settle()
+        service.end("listening on socket, workers: 2", "session 1 begins as client 0",
+                    "session 2 is not attached: ENOMEM", "session 3 is not attached: ENOMEM",
+                    "session 4 begins as client 1")
+
+
 def vanishing(program, library):
     """Clients that vanish, at once or once they have said that no more comes, between two requests
     or inside one, are detached and heard of."""
@@ -115,4 +127,5 @@ def is_gone(service, before):
 
 
 TESTS = {"play, nothing given": played, "serve, nothing given": served,
+         "serve, nothing given, clients that are refused": refused,
          "serve, nothing given, clients that vanish": vanishing}

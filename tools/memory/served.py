@@ -68,9 +68,9 @@ class Service(Stage):
     """A server whose clients are those of a row. Of each reply the place in the history is that
     which `place` counts; where that isn't known the next reply tells it."""
 
-    def __init__(self, program, library, manifest, workers):
+    def __init__(self, program, library, manifest, workers, more=()):
         super().__init__(program, library, manifest,
-                         ["serve", "manifest.toml", "socket", "--workers", str(workers)])
+                         ["serve", "manifest.toml", "socket", "--workers", str(workers), *more])
         self.path = Path(self.folder.name) / "socket"
         self.workers = workers
         self.peers = []
@@ -139,11 +139,12 @@ class Service(Stage):
     def descriptors(self):
         return len(os.listdir(f"/proc/{self.run.pid}/fd"))
 
-    def end(self):
-        """The server has told nothing, and goes on until a signal ends it."""
+    def end(self, *lines):
+        """The server has told these lines, and goes on until a signal ends it."""
+        wanted = "".join(f"overlayd: {line}\n" for line in lines)
         self.run.send_signal(signal.SIGTERM)
         out, told = self.run.communicate(timeout=SECONDS)
-        expect((self.run.returncode, out, told), (-signal.SIGTERM, b"", b""), "end")
+        expect((self.run.returncode, out, told.decode()), (-signal.SIGTERM, b"", wanted), "end")
 
     def tree(self, client, path="/"):
         """What is shown at a path and below it, and the bytes of each file."""

@@ -6,6 +6,7 @@ import select
 import shutil
 import signal
 import socket
+import struct
 import subprocess
 import sys
 import tempfile
@@ -15,7 +16,8 @@ from pathlib import Path
 
 TOP = Path(__file__).resolve().parent.parent.parent
 sys.path.insert(0, str(TOP / "clients" / "python"))
-from overlayd import frames  # noqa: E402, F401
+from overlayd import frames  # noqa: E402
+from overlayd.frames import Op  # noqa: E402
 
 SECONDS = 60
 MANIFEST = """
@@ -32,6 +34,12 @@ STAT_ABSENT = bytes.fromhex("00000005 01 0002 2f78")
 STAT_NO_PATH = bytes.fromhex("00000004 01 0001 78")
 DETACH = bytes.fromhex("00000001 1a")
 WORKED = STAT_ROOT + MKDIR + STAT_ABSENT + STAT_NO_PATH + DETACH
+
+# The file of the manifest is opened, and watched; a notice of its watch tells that it was closed.
+OPEN_FILE = frames.request(Op.OPEN, 0, 0, b"/f")
+ARM_FILE = frames.request(Op.ARM, 0, 8 | 16, b"/f")
+NOTICES = frames.request(Op.NOTICES, 65)
+CLOSED = struct.pack(">HiIIH", 1, 1, 16, 0, 0)
 
 DONE, REFUSED, NOT_MADE = 0, 1, 2
 ENOENT, EBADF, ENOMEM, EEXIST, EINVAL, ENOSPC = 2, 9, 12, 17, 22, 28

@@ -160,7 +160,8 @@ fn idle<'a>(alloc: Global) -> Arg<'a>
     ensures rule { rule_of result ≡ idle_rule }
     ensures local { result.global ≡ false }
 {
-    let help = "End a connection that does nothing so long, 1 to 86400 [default: never]";
+    let help =
+        "End a connection idle so long, 1 to 86400 [default: never: N idle ones hold N workers]";
     number(alloc, "idle", "SECONDS", help, 1, 86_400)
 }
 
