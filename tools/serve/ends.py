@@ -139,5 +139,16 @@ def sessions_that_are_over_before(program):
         expect(server.end(), "", "standard error")
 
 
+def a_connection_without_a_second_descriptor(program):
+    """By what ends the server a connection has a descriptor more; where there is none, its client
+    is refused with 24, and the server goes on."""
+    with serving(program, 1, None, more=UNTIL_EOF, files=6, stdin=subprocess.PIPE) as server:
+        for _ in range(2):
+            with server.peer() as client:
+                expect(client.take(100), bytes.fromhex("00000002 02 18"), "a refused attach")
+        close_input(server)
+        expect(server.end(), "", "standard error")
+
+
 TESTS = [idle_clients, calls_on_their_way, a_client_that_does_not_read, no_standard_input,
-         sessions_that_are_over_before]
+         sessions_that_are_over_before, a_connection_without_a_second_descriptor]

@@ -278,5 +278,16 @@ def what_cannot_be_saved(program):
         expect((folder / "out.part").exists(), False, "nothing is left beside it")
 
 
+def without_standard_streams(program):
+    """Started without standard streams, a server tells nothing into the file that it saves."""
+    for closed in ((2,), (0, 1, 2)):
+        with serving(program, 1, 1, more=["--save", "out.toml", "-v"], closed=closed) as server:
+            with server.peer() as client:
+                client.ask(DETACH, DONE, b"", "detach")
+            expect(server.end(), "", "standard error, which is closed")
+            saved = (server.socket.parent / "out.toml").read_bytes()
+        expect(saved, b"[[layer]]\n", f"what is saved without {closed}")
+
+
 TESTS = [generated_layers, a_large_file, what_clients_changed, what_no_manifest_can_say,
-         what_cannot_be_saved]
+         what_cannot_be_saved, without_standard_streams]

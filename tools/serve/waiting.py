@@ -1,5 +1,6 @@
 """Tests of connections that do nothing, and of a standard error that nobody reads."""
 import contextlib
+import fcntl
 import re
 import struct
 import time
@@ -8,8 +9,10 @@ from servers import (ARM_FILE, CLOSED, DETACH, DONE, NOTICES, OPEN_FILE, SHOWN_R
                      expect, serving, together)
 
 IDLE = 1
-# Their lines are more than a pipe of 64 KiB has room for and 1,024 that wait.
-SESSIONS = 2_000
+# Two lines each, which are more than a pipe of one page has room for and 1,024 that wait.
+SESSIONS = 800
+PAGE = 4_096
+SET_PIPE_SIZE = 1031
 
 
 def times_out(peer, began):
@@ -57,6 +60,7 @@ def idle_connections(program):
 def lines_that_nobody_reads(program):
     """Where nobody reads standard error, sessions go on; lines that are too many are counted."""
     with serving(program, 2, SESSIONS // 2, more=["--verbose"]) as server:
+        fcntl.fcntl(server.run.stderr, SET_PIPE_SIZE, PAGE)
         for _ in range(SESSIONS):
             with server.peer() as client:
                 client.ask(DETACH, DONE, b"", "detach")

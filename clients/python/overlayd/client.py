@@ -24,7 +24,7 @@ __all__ = ["Client"]
 T = TypeVar("T")
 
 # Why a server may have refused to attach a client. Its one frame looks like a reply.
-_UNATTACHED = (errno.ENOMEM, errno.ENFILE, errno.ENOSPC)
+_UNATTACHED = (errno.ENOMEM, errno.ENFILE, errno.EMFILE, errno.ENOSPC)
 
 
 class Client:

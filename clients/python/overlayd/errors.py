@@ -37,7 +37,7 @@ def refusal(number: int, place: Optional[int], paths: tuple[Any, ...]) -> OSErro
     `place` is the call's place in the history, or None where no call was made.
     """
     text = os.strerror(number)
-    if place is None and number == errno.ENFILE:
+    if place is None and number in (errno.ENFILE, errno.EMFILE):
         # No call is answered so: the server refuses the client itself.
         text, paths = f"{text}: the client wasn't attached", ()
     first, second = (*paths, None, None)[:2]

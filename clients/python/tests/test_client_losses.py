@@ -165,15 +165,16 @@ class Unattached(ScriptedCase):
             far.sendall(h("00000002 02") + bytes((number,)))
         return Client.from_socket(near)
 
-    def test_all_clients_are_attached(self):
-        with self.refusing(errno.ENFILE) as c:
-            with self.assertRaises(OSError) as refused:
-                c.stat("/x")
-            self.assertEqual(refused.exception.errno, errno.ENFILE)
-            self.assertIn("the client wasn't attached", str(refused.exception))
-            self.assertIsNone(refused.exception.filename)
-            with self.assertRaisesRegex(Disconnected, "its first reply was: Too many open files"):
-                c.stat("/x")
+    def test_all_clients_are_attached_or_descriptors_are_out(self):
+        for number in (errno.ENFILE, errno.EMFILE):
+            with self.refusing(number) as c:
+                with self.assertRaises(OSError) as refused:
+                    c.stat("/x")
+                self.assertEqual(refused.exception.errno, number)
+                self.assertIn("the client wasn't attached", str(refused.exception))
+                self.assertIsNone(refused.exception.filename)
+                with self.assertRaisesRegex(Disconnected, "its first reply was: Too many open"):
+                    c.stat("/x")
 
     def test_the_history_is_full_or_memory_is_out(self):
         for number in (errno.ENOSPC, errno.ENOMEM):

@@ -17,25 +17,22 @@ pub(crate) fn listen<R: Files + Net + Eprint>(
     rt: &R,
     serving: &Serving<'_>,
 ) -> Result<UnixListener, Fault> {
-    let outcome = match hold_standard(rt) {
-        Ok(()) => bind(rt, serving),
-        Err(fault) => Err(fault),
-    };
-    match outcome {
+    match bind(rt, serving) {
         Ok(listener) => Ok(listener),
-        Err(fault) if fault.kind() == ErrorKind::OutOfMemory => Err(Fault::Memory),
-        Err(fault) => {
-            if serving.verbose {
-                tell_why(rt, serving.socket, &fault);
-            }
-            Err(Fault::Socket)
-        }
+        Err(fault) => Err(no_socket(rt, serving, &fault)),
     }
 }
 
-// Takes those descriptors that the program was started without, for good: what is told must never
-// come to a client, whose connection would else be given the number of standard error.
-fn hold_standard<R: Net>(rt: &R) -> io::Result<()> {
+/// Takes those descriptors that the program was started without, for good: what is told must never
+/// get into a file or a connection, which would else be given the number of standard error.
+pub(crate) fn hold_standard<R: Net + Eprint>(rt: &R, serving: &Serving<'_>) -> Result<(), Fault> {
+    match hold(rt) {
+        Ok(()) => Ok(()),
+        Err(fault) => Err(no_socket(rt, serving, &fault)),
+    }
+}
+
+fn hold<R: Net>(rt: &R) -> io::Result<()> {
     for _ in 0..=STANDARD_ERROR {
         let held = rt.unix_socket()?;
         if held.as_raw_fd() > STANDARD_ERROR {
@@ -44,6 +41,17 @@ fn hold_standard<R: Net>(rt: &R) -> io::Result<()> {
         held.into_raw_fd();
     }
     Ok(())
+}
+
+// The fault of a socket that can't be made. It is told why if it is to be told what is served.
+fn no_socket<R: Eprint>(rt: &R, serving: &Serving<'_>, fault: &io::Error) -> Fault {
+    if fault.kind() == ErrorKind::OutOfMemory {
+        return Fault::Memory;
+    }
+    if serving.verbose {
+        tell_why(rt, serving.socket, fault);
+    }
+    Fault::Socket
 }
 
 // Makes the socket; what is left of another one is removed first if that is asked for. An empty path

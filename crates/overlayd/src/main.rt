@@ -14,7 +14,7 @@ ghost use Rattle.overlay_core.specs.Views.{core_options};
 
 use crate::described::{Described, read_manifest};
 use crate::ending::{close_at_end, closing_in, ending_of};
-use crate::listening::listen;
+use crate::listening::{hold_standard, listen};
 use crate::saving::Saver;
 use locked_history::Blank;
 use ov_devices::{CountedReader, CountedWriter};
@@ -139,6 +139,7 @@ where
     if serving.save.is_some() && serving.sessions.is_none() && !serving.until_eof {
         return Err(Fault::SaveWithoutEnd);
     }
+    hold_standard(rt, serving)?;
     let hooks = hooks_by_slot(rt.alloc())?;
     serve_with(rt, keys, hooks.as_slice(), serving, closes_at_end)
 }
