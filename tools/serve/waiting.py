@@ -10,7 +10,7 @@ from servers import (ARM_FILE, CLOSED, DETACH, DONE, NOTICES, OPEN_FILE, SHOWN_R
 
 IDLE = 1
 # Two lines each, which are more than a pipe of one page has room for and 1,024 that wait.
-SESSIONS = 800
+SESSIONS = 600
 PAGE = 4_096
 SET_PIPE_SIZE = 1031
 
