@@ -1,16 +1,12 @@
 // The program's hooks, which tests attach clients with.
-ghost use Rattle.std.specs.Prelude.{◌≡◌, ◌<◌, ◌^◌};
-ghost use Rattle.plain_reference.specs.Answering as rule;
 
 use crate::bits::ISDIR;
+use crate::watch::signed;
 use ov_base::{Event, Notice};
 
-fn as_it_is(event: &Event) -> Notice
-    requires { event.now.watch < 2 ^ 31 }
-    ensures { result ≡ rule.as_it_is event.now }
-{
+fn as_it_is(event: &Event) -> Notice {
     Notice {
-        watch: event.watch as i32,
+        watch: signed(event.watch),
         mask: event.bits,
         cookie: event.cookie,
         name: event.name,
@@ -19,10 +15,7 @@ fn as_it_is(event: &Event) -> Notice
 
 /// What the hook of a tag answers: 0 each event as it is, 1 those of directories alone, 2 all others, 3 each without its name, any other
 /// none.
-pub fn answer(tag: u32, event: &Event) -> Option<Notice>
-    requires { event.now.watch < 2 ^ 31 }
-    ensures { result ≡ rule.answer_of tag event.now }
-{
+pub fn answer(tag: u32, event: &Event) -> Option<Notice> {
     let is_directory = event.bits & ISDIR != 0;
     let notice = as_it_is(event);
     match tag {

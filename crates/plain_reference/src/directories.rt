@@ -1,11 +1,4 @@
 // The listing of directories.
-ghost use Rattle.std.specs.Prelude.{◌≡◌, IfOk, OnErr};
-ghost use Rattle.std.specs.Option.{option_copied};
-ghost use Rattle.ov_base.specs.declared.call.Call.TheVariants as call;
-ghost use Rattle.plain_model.specs.Runs.{Step};
-ghost use Rattle.plain_reference.specs.Slots.{tree_of};
-ghost use Rattle.plain_reference.specs.Tables.{listing_of};
-ghost use Rattle.plain_reference.specs.States.{unwatched_of, Mute};
 
 use crate::clients::Handle;
 use crate::files::part;
@@ -15,23 +8,19 @@ use crate::unwatched::Unwatched;
 use ov_base::{NameList, Reply, copy_names};
 use std::alloc::{AllocError, Global};
 
-fn copied(alloc: Global, names: &NameList) -> Result<NameList, AllocError>
-    ensures { IfOk result (λ copy. copy ≡ names.now) }
-{
+fn copied(alloc: Global, names: &NameList) -> Result<NameList, AllocError> {
     Ok(NameList::from_vec(copy_names(alloc, names.as_slice())?))
 }
 
 impl Unwatched {
     // The names that a handle lists.
-    fn listing(&self, handle: Option<&Handle>) -> Result<NameList, AllocError>
-        ensures { IfOk result (λ names. names ≡ listing_of (tree_of self.now.tree.slots.items) (option_copied handle.entry)) }
-    {
+    fn listing(&self, handle: Option<&Handle>) -> Result<NameList, AllocError> {
         let Some(handle) = handle else {
             return Ok(NameList::new(self.alloc));
         };
-        match handle.listed() {
+        match &handle.listed {
             Some(names) => copied(self.alloc, names),
-            None => names_in(self.alloc, self.tree.node(handle.node())),
+            None => names_in(self.alloc, self.tree.node(&handle.node)),
         }
     }
 
@@ -41,10 +30,7 @@ impl Unwatched {
         client: u32,
         descriptor: u32,
         count: u32,
-    ) -> Result<Reply, AllocError>
-        ensures step { IfOk result (λ reply. Step Mute (unwatched_of self.old) client (call.ListNames descriptor count) reply (unwatched_of self.new)) }
-        ensures err { OnErr result (unwatched_of self.new ≡ unwatched_of self.old) }
-    {
+    ) -> Result<Reply, AllocError> {
         if let Some(errno) = self.list_refusal(client, descriptor, count) {
             return Ok(Reply::Refused(errno));
         }

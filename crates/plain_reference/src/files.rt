@@ -1,11 +1,4 @@
 // The calls on the bytes of files.
-ghost use Rattle.std.specs.Prelude.{◌≡◌, ◌+◌, ◌<◌, ◌^◌, IfOk, OnErr, length, take, drop};
-ghost use Rattle.ov_base.specs.declared.call.Call.TheVariants as call;
-ghost use Rattle.plain_model.specs.Machine.{handle_of};
-ghost use Rattle.plain_model.specs.Changes.{change, fitting, node_of_handle, sized, with_bytes, written};
-ghost use Rattle.plain_model.specs.Runs.{Step};
-ghost use Rattle.plain_reference.specs.Slots.{tree_of};
-ghost use Rattle.plain_reference.specs.States.{unwatched_of, Mute};
 
 use crate::clients::open_handle;
 use crate::handles::place_of;
@@ -15,39 +8,30 @@ use ov_base::{Bytes, Reply};
 use std::alloc::{AllocError, Global};
 
 /// What stands from a place on, at most so much.
-pub fn part<T>(all: &[T], place: u64, count: u32) -> &[T]
-    ensures { result.now ≡ take count (drop place all.now) }
-{
+pub fn part<T>(all: &[T], place: u64, count: u32) -> &[T] {
     let start = all.len().min(place as usize);
     let rest = &all[start..];
     &rest[..rest.len().min(count as usize)]
 }
 
 // Bytes cut or filled with zeros to a length.
-fn sized(alloc: Global, bytes: &[u8], size: usize) -> Result<Vec<u8>, AllocError>
-    ensures { IfOk result (λ all. all.items ≡ sized bytes.now size) }
-{
+fn sized(alloc: Global, bytes: &[u8], size: usize) -> Result<Vec<u8>, AllocError> {
     let mut all = Vec::from_slice(alloc, bytes)?;
     all.resize(size, 0)?;
     Ok(all)
 }
 
 // Bytes after a write at a place, with zeros between where it is past the end.
-fn written(alloc: Global, bytes: &[u8], at: usize, new: &[u8]) -> Result<Vec<u8>, AllocError>
-    requires { at + length new.now < 2 ^ 64 }
-    ensures { IfOk result (λ all. all.items ≡ written bytes.now at new.now) }
-{
+fn written(alloc: Global, bytes: &[u8], at: usize, new: &[u8]) -> Result<Vec<u8>, AllocError> {
     let mut all = sized(alloc, bytes, at)?;
     all.extend_from_slice(new)?;
-    let end = bytes.len().min(at + new.len());
+    let end = bytes.len().min(at.saturating_add(new.len()));
     all.extend_from_slice(&bytes[end..])?;
     Ok(all)
 }
 
 // What of a write fits into a file of at most `limit` bytes.
-fn fitting(limit: u64, at: u64, bytes: &[u8]) -> &[u8]
-    ensures { result.now ≡ fitting limit at bytes.now }
-{
+fn fitting(limit: u64, at: u64, bytes: &[u8]) -> &[u8] {
     let room = limit.saturating_sub(at) as usize;
     &bytes[..bytes.len().min(room)]
 }
@@ -59,29 +43,23 @@ impl Unwatched {
         client: u32,
         descriptor: u32,
         count: u32,
-    ) -> Result<Reply, AllocError>
-        ensures step { IfOk result (λ reply. Step Mute (unwatched_of self.old) client (call.Read descriptor count) reply (unwatched_of self.new)) }
-        ensures err { OnErr result (unwatched_of self.new ≡ unwatched_of self.old) }
-    {
+    ) -> Result<Reply, AllocError> {
         if let Some(errno) = self.read_refusal(client, descriptor, count) {
             return Ok(Reply::Refused(errno));
         }
         let handle = self.handle(client, descriptor);
         let place = place_of(handle);
         let read = part(self.bytes_read(handle), place, count);
-        let end = place + read.len() as u64;
+        let end = place.saturating_add(read.len() as u64);
         let copy = Bytes::from_slice(self.alloc, read)?;
         self.clients.move_to(client, descriptor, end, false);
         Ok(Reply::Read(copy))
     }
 
     // Gives the file of a client's descriptor other bytes.
-    fn fill(&mut self, client: u32, descriptor: u32, bytes: Vec<u8>)
-        ensures tree { tree_of self.new.tree.slots.items ≡ change (with_bytes bytes.items) (tree_of self.old.tree.slots.items) (node_of_handle (handle_of self.old.clients.list.items client descriptor)) }
-        ensures rest { self.new ≡ record self.old { tree = self.new.tree } }
-    {
+    fn fill(&mut self, client: u32, descriptor: u32, bytes: Vec<u8>) {
         if let Some(handle) = open_handle(self.clients.as_slice(), client, descriptor) {
-            self.tree.fill(handle.node(), Bytes::from_vec(bytes));
+            self.tree.fill(&handle.node, Bytes::from_vec(bytes));
         }
     }
 
@@ -91,10 +69,7 @@ impl Unwatched {
         client: u32,
         descriptor: u32,
         bytes: &Bytes,
-    ) -> Result<Reply, AllocError>
-        ensures step { IfOk result (λ reply. Step Mute (unwatched_of self.old) client (call.Write descriptor bytes.now) reply (unwatched_of self.new)) }
-        ensures err { OnErr result (unwatched_of self.new ≡ unwatched_of self.old) }
-    {
+    ) -> Result<Reply, AllocError> {
         if let Some(errno) = self.write_refusal(client, descriptor, bytes) {
             return Ok(Reply::Refused(errno));
         }
@@ -107,9 +82,9 @@ impl Unwatched {
         let old = bytes_in(self.handle_node(handle));
         let all = written(self.alloc, old, at as usize, new)?;
         self.fill(client, descriptor, all);
-        let end = at + new.len() as u64;
+        let end = at.saturating_add(new.len() as u64);
         self.clients.move_to(client, descriptor, end, false);
-        Ok(Reply::Written(new.len() as u32))
+        Ok(Reply::Written(u32::try_from(new.len()).unwrap_or(u32::MAX)))
     }
 
     /// Cuts a file to a length, or fills it with zeros up to it.
@@ -118,10 +93,7 @@ impl Unwatched {
         client: u32,
         descriptor: u32,
         size: u64,
-    ) -> Result<Reply, AllocError>
-        ensures step { IfOk result (λ reply. Step Mute (unwatched_of self.old) client (call.Truncate descriptor size) reply (unwatched_of self.new)) }
-        ensures err { OnErr result (unwatched_of self.new ≡ unwatched_of self.old) }
-    {
+    ) -> Result<Reply, AllocError> {
         if let Some(errno) = self.truncate_refusal(client, descriptor, size) {
             return Ok(Reply::Refused(errno));
         }

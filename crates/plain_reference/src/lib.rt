@@ -1,5 +1,7 @@
-//! A slow reference of the plain machine, for tests alone: one tree, its clients, their handles and their watches, in ordinary values.
-//! Its contracts are the definitions of the crate `plain_model`; nothing in the engine stands on it, and it stands on nothing of the engine.
+//! A slow reference of the plain machine, for tests alone: one tree, its clients, their handles and
+//! their watches, in ordinary values. It is proved safe alone: no contract says what it answers,
+//! which is an opinion of its own. Nothing in the engine stands on it, and it stands on nothing of
+//! the engine but the words of `ov_base`.
 #![tactic(auto)]
 
 mod answering;

@@ -1,12 +1,4 @@
 // The nodes of the tree.
-ghost use Rattle.std.specs.Prelude.{◌≡◌, [], IfOk, OnOk, OnErr, length, map, unwrap_or};
-ghost use Rattle.std.specs.Option.{option_copied};
-ghost use Rattle.plain_model.specs.Tree.{with_name, shown_links, count_of};
-ghost use Rattle.plain_model.specs.Machine.{is_base, is_link, has_names, bytes_of_node, user_of, value_of};
-ghost use Rattle.plain_model.specs.Tree.{is_folder};
-ghost use Rattle.plain_model.specs.Changes.{low_after, one_fewer, is_named, names_in, opened, touched, with_bytes};
-ghost use Rattle.plain_model.specs.Replies.{stat_of, stat_by, stat_kept, capped};
-ghost use Rattle.plain_reference.specs.Nodes.{shown, plain, origin_of, attributes_at, copied_up, given, gained};
 
 use crate::id::Id;
 use crate::names::Names;
@@ -41,16 +33,12 @@ pub enum Node {
 }
 
 /// Whether there is a directory.
-pub fn is_folder(node: Option<&Node>) -> bool
-    ensures { result ≡ is_folder (shown (option_copied node.entry)) }
-{
+pub fn is_folder(node: Option<&Node>) -> bool {
     matches!(node, Some(Node::Directory { .. }))
 }
 
 /// Whether there is a directory that a lower layer has too.
-pub fn is_base(node: Option<&Node>) -> bool
-    ensures { result ≡ is_base (shown (option_copied node.entry)) }
-{
+pub fn is_base(node: Option<&Node>) -> bool {
     match node {
         Some(Node::Directory { is_base, .. }) => *is_base,
         _ => false,
@@ -58,9 +46,7 @@ pub fn is_base(node: Option<&Node>) -> bool
 }
 
 /// Whether there is a symbolic link.
-pub fn is_link(node: Option<&Node>) -> bool
-    ensures { result ≡ is_link (shown (option_copied node.entry)) }
-{
+pub fn is_link(node: Option<&Node>) -> bool {
     match node {
         Some(
             Node::Leaf {
@@ -73,9 +59,7 @@ pub fn is_link(node: Option<&Node>) -> bool
 }
 
 /// Whether there is a directory with a name.
-pub fn has_names(node: Option<&Node>) -> bool
-    ensures { result ≡ has_names (shown (option_copied node.entry)) }
-{
+pub fn has_names(node: Option<&Node>) -> bool {
     match node {
         Some(Node::Directory { names, .. }) => !names.is_empty(),
         _ => false,
@@ -83,9 +67,7 @@ pub fn has_names(node: Option<&Node>) -> bool
 }
 
 /// Whether a name leads to the node.
-pub fn is_named(node: Option<&Node>) -> bool
-    ensures { result ≡ is_named (shown (option_copied node.entry)) }
-{
+pub fn is_named(node: Option<&Node>) -> bool {
     match node {
         Some(Node::Directory { count, .. }) => *count > 0,
         Some(Node::Leaf { count, .. }) => *count > 0,
@@ -94,9 +76,7 @@ pub fn is_named(node: Option<&Node>) -> bool
 }
 
 /// How many names lead to a node.
-pub fn count_of(node: Option<&Node>) -> u64
-    ensures { result ≡ count_of (shown (option_copied node.entry)) }
-{
+pub fn count_of(node: Option<&Node>) -> u64 {
     match node {
         Some(Node::Directory { count, .. }) => *count,
         Some(Node::Leaf { count, .. }) => *count,
@@ -105,9 +85,7 @@ pub fn count_of(node: Option<&Node>) -> u64
 }
 
 /// The attributes of a node.
-pub fn attributes_of(node: Option<&Node>) -> Option<&Attributes>
-    ensures { option_copied result ≡ attributes_at (shown (option_copied node.entry)) }
-{
+pub fn attributes_of(node: Option<&Node>) -> Option<&Attributes> {
     match node {
         Some(Node::Directory { attributes, .. }) => Some(attributes),
         Some(Node::Leaf { attributes, .. }) => Some(attributes),
@@ -116,9 +94,7 @@ pub fn attributes_of(node: Option<&Node>) -> Option<&Attributes>
 }
 
 /// How many user attributes a node has.
-pub fn user_count(node: Option<&Node>) -> usize
-    ensures { result ≡ length (user_of (shown (option_copied node.entry))) }
-{
+pub fn user_count(node: Option<&Node>) -> usize {
     match node {
         Some(Node::Directory { attributes, .. }) => attributes.user.len(),
         Some(Node::Leaf { attributes, .. }) => attributes.user.len(),
@@ -127,9 +103,7 @@ pub fn user_count(node: Option<&Node>) -> usize
 }
 
 /// The value of a user attribute of a node.
-pub fn value_of<'a>(node: Option<&'a Node>, name: &[u8]) -> Option<&'a Bytes>
-    ensures { option_copied result ≡ value_of (user_of (shown (option_copied node.entry))) name.now }
-{
+pub fn value_of<'a>(node: Option<&'a Node>, name: &[u8]) -> Option<&'a Bytes> {
     match node {
         Some(Node::Directory { attributes, .. }) => attributes.user.get(name),
         Some(Node::Leaf { attributes, .. }) => attributes.user.get(name),
@@ -138,9 +112,7 @@ pub fn value_of<'a>(node: Option<&'a Node>, name: &[u8]) -> Option<&'a Bytes>
 }
 
 /// A copy of the value of a user attribute of a node; no bytes where it isn't there.
-pub fn value_in(alloc: Global, node: Option<&Node>, name: &[u8]) -> Result<Bytes, AllocError>
-    ensures { IfOk result (λ value. value ≡ unwrap_or (value_of (user_of (shown (option_copied node.entry))) name.now) []) }
-{
+pub fn value_in(alloc: Global, node: Option<&Node>, name: &[u8]) -> Result<Bytes, AllocError> {
     match value_of(node, name) {
         Some(value) => value.clone(),
         None => Ok(Bytes::new(alloc)),
@@ -148,9 +120,7 @@ pub fn value_in(alloc: Global, node: Option<&Node>, name: &[u8]) -> Result<Bytes
 }
 
 /// The names of the user attributes of a node, in the order in which they were set.
-pub fn user_names(alloc: Global, node: Option<&Node>) -> Result<Texts, AllocError>
-    ensures { IfOk result (λ names. names ≡ map (λ x. x.0) (user_of (shown (option_copied node.entry)))) }
-{
+pub fn user_names(alloc: Global, node: Option<&Node>) -> Result<Texts, AllocError> {
     match node {
         Some(Node::Directory { attributes, .. }) => attributes.user.names(alloc),
         Some(Node::Leaf { attributes, .. }) => attributes.user.names(alloc),
@@ -159,9 +129,7 @@ pub fn user_names(alloc: Global, node: Option<&Node>) -> Result<Texts, AllocErro
 }
 
 // Whether the bytes are a lower file's after a change of attributes or names, which copies up.
-fn low_after(metacopy: bool, content: &Content, origin: Origin) -> bool
-    ensures { result ≡ low_after metacopy content.now (origin_of origin) }
-{
+fn low_after(metacopy: bool, content: &Content, origin: Origin) -> bool {
     match origin {
         Origin::Own(low) => low,
         Origin::Untouched(_) => metacopy && matches!(content, Content::File(_)),
@@ -170,10 +138,7 @@ fn low_after(metacopy: bool, content: &Content, origin: Origin) -> bool
 
 impl Node {
     /// Leads a name of the directory to a node; another node stays as it is.
-    pub fn lead(&mut self, name: &Name, to: Id) -> Result<(), AllocError>
-        ensures ok { OnOk result (Some (plain self.new) ≡ with_name name.now (Some to) (Some (plain self.old))) }
-        ensures err { OnErr result (plain self.new ≡ plain self.old) }
-    {
+    pub fn lead(&mut self, name: &Name, to: Id) -> Result<(), AllocError> {
         if let Node::Directory { names, .. } = self {
             names.insert(name.clone()?, to)?;
         }
@@ -181,18 +146,14 @@ impl Node {
     }
 
     /// Takes a name out of the directory; another node stays as it is.
-    pub fn unlead(&mut self, name: &Name)
-        ensures { Some (plain self.new) ≡ with_name name.now None (Some (plain self.old)) }
-    {
+    pub fn unlead(&mut self, name: &Name) {
         if let Node::Directory { names, .. } = self {
             names.remove(name);
         }
     }
 
     /// Lets the node have a name less.
-    pub fn lose_name(&mut self)
-        ensures { plain self.new ≡ one_fewer (plain self.old) }
-    {
+    pub fn lose_name(&mut self) {
         match self {
             Node::Directory { count, .. } => *count = count.saturating_sub(1),
             Node::Leaf { count, .. } => *count = count.saturating_sub(1),
@@ -200,9 +161,7 @@ impl Node {
     }
 
     /// Lets a file or symbolic link have a name more, as far as numbers go; it then stands in the upper layer.
-    pub fn gain_name(&mut self, metacopy: bool)
-        ensures { plain self.new ≡ gained metacopy (plain self.old) }
-    {
+    pub fn gain_name(&mut self, metacopy: bool) {
         self.copy_up(metacopy);
         if let Node::Leaf { count, .. } = self {
             *count = count.saturating_add(1);
@@ -210,9 +169,7 @@ impl Node {
     }
 
     /// Gives the node other attributes; a file or symbolic link then stands in the upper layer.
-    pub fn give(&mut self, metacopy: bool, other: Attributes)
-        ensures { plain self.new ≡ given metacopy other (plain self.old) }
-    {
+    pub fn give(&mut self, metacopy: bool, other: Attributes) {
         self.copy_up(metacopy);
         match self {
             Node::Directory { attributes, .. } => *attributes = other,
@@ -222,9 +179,7 @@ impl Node {
 
     /// Copies a file or symbolic link of a lower layer up where its attributes or names change, a file without its bytes where the mount
     /// was told so.
-    pub fn copy_up(&mut self, metacopy: bool)
-        ensures { plain self.new ≡ copied_up metacopy (plain self.old) }
-    {
+    pub fn copy_up(&mut self, metacopy: bool) {
         if let Node::Leaf {
             content,
             origin,
@@ -236,18 +191,14 @@ impl Node {
     }
 
     /// Copies a file or symbolic link of a lower layer up, and the bytes of a file that was copied up without them.
-    pub fn touch(&mut self)
-        ensures { plain self.new ≡ touched (plain self.old) }
-    {
+    pub fn touch(&mut self) {
         if let Node::Leaf { origin, .. } = self {
             *origin = Origin::Own(false);
         }
     }
 
     /// Gives a file other bytes; another node stays as it is.
-    pub fn fill(&mut self, other: Bytes)
-        ensures { plain self.new ≡ with_bytes other (plain self.old) }
-    {
+    pub fn fill(&mut self, other: Bytes) {
         if let Node::Leaf {
             content: Content::File(bytes),
             ..
@@ -258,9 +209,7 @@ impl Node {
     }
 
     /// Lets the node be opened: write access copies a file up, and TRUNC empties it.
-    pub fn open(&mut self, alloc: Global, flags: OpenFlags)
-        ensures { plain self.new ≡ opened flags (plain self.old) }
-    {
+    pub fn open(&mut self, alloc: Global, flags: OpenFlags) {
         if flags.writes {
             self.touch();
             if flags.truncate {
@@ -271,9 +220,7 @@ impl Node {
 }
 
 /// The sorted names of a directory; of another node none.
-pub fn names_in(alloc: Global, node: Option<&Node>) -> Result<NameList, AllocError>
-    ensures { IfOk result (λ list. list ≡ names_in (shown (option_copied node.entry))) }
-{
+pub fn names_in(alloc: Global, node: Option<&Node>) -> Result<NameList, AllocError> {
     match node {
         Some(Node::Directory { names, .. }) => Ok(NameList::from_vec(names.list(alloc)?)),
         _ => Ok(NameList::new(alloc)),
@@ -281,9 +228,7 @@ pub fn names_in(alloc: Global, node: Option<&Node>) -> Result<NameList, AllocErr
 }
 
 /// The status of an object.
-pub fn stat_by(kind: ObjectKind, attributes: &Attributes, size: u64, links: u32) -> Reply
-    ensures { result ≡ stat_by kind attributes.now size links }
-{
+pub fn stat_by(kind: ObjectKind, attributes: &Attributes, size: u64, links: u32) -> Reply {
     Reply::Status(Stat {
         kind,
         mode: attributes.mode.bits(),
@@ -295,15 +240,11 @@ pub fn stat_by(kind: ObjectKind, attributes: &Attributes, size: u64, links: u32)
 }
 
 /// The link count that stat(2) has room for.
-pub fn capped(links: u64) -> u32
-    ensures { result ≡ capped links }
-{
+pub fn capped(links: u64) -> u32 {
     links.min(u64::from(u32::MAX)) as u32
 }
 
-fn shown_links(origin: Origin, count: u64) -> u64
-    ensures { result ≡ shown_links (origin_of origin) count }
-{
+fn shown_links(origin: Origin, count: u64) -> u64 {
     match origin {
         Origin::Own(_) => count,
         Origin::Untouched(links) => links,
@@ -311,9 +252,7 @@ fn shown_links(origin: Origin, count: u64) -> u64
 }
 
 /// What `stat` shows of a node: a directory has size 0 and 1 link.
-pub fn stat_of(node: Option<&Node>) -> Reply
-    ensures { result ≡ stat_of (shown (option_copied node.entry)) }
-{
+pub fn stat_of(node: Option<&Node>) -> Reply {
     match node {
         None => Reply::Done,
         Some(Node::Directory { attributes, .. }) => {
@@ -349,9 +288,7 @@ pub fn stat_of(node: Option<&Node>) -> Reply
 }
 
 /// The same of a file through a handle that keeps these bytes: their number is the size, all else is the node's.
-pub fn stat_kept(bytes: &Bytes, node: Option<&Node>) -> Reply
-    ensures { result ≡ stat_kept bytes.now (shown (option_copied node.entry)) }
-{
+pub fn stat_kept(bytes: &Bytes, node: Option<&Node>) -> Reply {
     match node {
         Some(
             Node::Leaf {
@@ -370,9 +307,7 @@ pub fn stat_kept(bytes: &Bytes, node: Option<&Node>) -> Reply
 }
 
 /// The bytes of a file, or of the target of a symbolic link; of another node none.
-pub fn bytes_in<'a>(node: Option<&'a Node>) -> &'a [u8]
-    ensures { result.now ≡ bytes_of_node (shown (option_copied node.entry)) }
-{
+pub fn bytes_in<'a>(node: Option<&'a Node>) -> &'a [u8] {
     match node {
         Some(Node::Leaf { content, .. }) => match content {
             Content::File(bytes) => bytes.as_slice(),
@@ -383,8 +318,6 @@ pub fn bytes_in<'a>(node: Option<&'a Node>) -> &'a [u8]
 }
 
 /// A copy of those bytes.
-pub fn bytes_of(alloc: Global, node: Option<&Node>) -> Result<Bytes, AllocError>
-    ensures { IfOk result (λ bytes. bytes ≡ bytes_of_node (shown (option_copied node.entry))) }
-{
+pub fn bytes_of(alloc: Global, node: Option<&Node>) -> Result<Bytes, AllocError> {
     Bytes::from_slice(alloc, bytes_in(node))
 }

@@ -1,14 +1,4 @@
 // Which opens are refused, and by which number: the first line that applies.
-ghost use Rattle.std.specs.Prelude.{◌≡◌, not, ◌&&◌, ◌||◌, is_none, IfOk};
-ghost use Rattle.std.specs.Option.{option_copied};
-ghost use Rattle.ov_base.specs.declared.call.Call.TheVariants as call;
-ghost use Rattle.plain_model.specs.Tree as plain;
-ghost use Rattle.plain_model.specs.Machine as machine;
-ghost use Rattle.plain_model.specs.Refusals as rule;
-ghost use Rattle.plain_model.specs.Refusals.{◌or_else◌, refusal};
-ghost use Rattle.plain_reference.specs.Nodes.{shown};
-ghost use Rattle.plain_reference.specs.Looks.{look_of};
-ghost use Rattle.plain_reference.specs.States.{unwatched_of};
 
 use crate::clients::lowest_free;
 use crate::node::{Node, is_folder, is_link};
@@ -18,9 +8,7 @@ use crate::walk::Look;
 use ov_base::{Errno, OpenFlags, Path};
 use std::alloc::AllocError;
 
-fn bad_flags(flags: OpenFlags) -> bool
-    ensures { result ≡ rule.bad_flags flags }
-{
+fn bad_flags(flags: OpenFlags) -> bool {
     (!flags.reads && !flags.writes)
         || flags.unknown
         || (flags.exclusive && !flags.create)
@@ -34,9 +22,7 @@ fn open_line(
     look: &Look,
     node: Option<&Node>,
     free: Option<usize>,
-) -> Option<Errno>
-    ensures { result ≡ rule.open_refusal flags mode (look_of look.now) (shown (option_copied node.entry)) free }
-{
+) -> Option<Errno> {
     if bad_flags(flags) {
         return Some(Errno::EINVAL);
     }
@@ -58,9 +44,7 @@ fn open_there(
     look: &Look,
     node: Option<&Node>,
     free: Option<usize>,
-) -> Option<Errno>
-    ensures { result ≡ (rule.when (machine.is_found (look_of look.now) && flags.create && flags.exclusive) Errno.EEXIST or_else rule.when (machine.is_link (shown (option_copied node.entry))) Errno.ELOOP or_else rule.when (machine.is_found (look_of look.now) && flags.directory && not (plain.is_folder (shown (option_copied node.entry)))) Errno.ENOTDIR or_else rule.when (plain.is_folder (shown (option_copied node.entry)) && (flags.writes || flags.create)) Errno.EISDIR or_else rule.when (is_none free) Errno.EMFILE) }
-{
+) -> Option<Errno> {
     if is_found(look) && flags.create && flags.exclusive {
         return Some(Errno::EEXIST);
     }
@@ -77,9 +61,7 @@ fn open_there(
 }
 
 // Whether an open writes: it has write access, or makes what isn't there.
-fn writes(flags: OpenFlags, look: &Look) -> bool
-    ensures { result ≡ (flags.writes || not (machine.is_found (look_of look.now))) }
-{
+fn writes(flags: OpenFlags, look: &Look) -> bool {
     flags.writes || !is_found(look)
 }
 
@@ -90,9 +72,7 @@ impl Unwatched {
         path: &Path,
         flags: OpenFlags,
         mode: u32,
-    ) -> Result<Option<Errno>, AllocError>
-        ensures { IfOk result (λ errno. errno ≡ refusal (unwatched_of self.now) client (call.Open path.now flags mode)) }
-    {
+    ) -> Result<Option<Errno>, AllocError> {
         let look = self.look(path)?;
         let node = self.tree.node_found(&look);
         let free = lowest_free(self.clients.as_slice(), client);

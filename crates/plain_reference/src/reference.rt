@@ -1,5 +1,4 @@
 // The state of the reference.
-ghost use Rattle.std.specs.Prelude.{◌≡◌};
 
 use crate::instances::Instances;
 use crate::unwatched::Unwatched;
@@ -9,5 +8,4 @@ use crate::unwatched::Unwatched;
 pub struct Reference {
     pub(crate) unwatched: Unwatched,
     pub(crate) instances: Instances,
-    ghost alike: { instances.arrived ≡ unwatched.clients.arrived },
 }

@@ -1,16 +1,4 @@
 // Which calls are refused, and by which number: for each call the first line that applies.
-ghost use Rattle.std.specs.Prelude.{◌≡◌, nat_eq, nat_lt, not, ◌&&◌, is_none, length, IfOk};
-ghost use Rattle.std.specs.Option.{option_copied};
-ghost use Rattle.ov_base.specs.declared.call.Call.TheVariants as call;
-ghost use Rattle.plain_model.specs.Tree as plain;
-ghost use Rattle.plain_model.specs.Machine as machine;
-ghost use Rattle.plain_model.specs.Machine.{is_found, is_root};
-ghost use Rattle.plain_model.specs.Refusals as rule;
-ghost use Rattle.plain_model.specs.Refusals.{◌or_else◌, refusal};
-ghost use Rattle.plain_reference.specs.Nodes.{shown};
-ghost use Rattle.plain_reference.specs.Slots.{tree_of};
-ghost use Rattle.plain_reference.specs.Looks.{look_of};
-ghost use Rattle.plain_reference.specs.States.{unwatched_of};
 
 use crate::node::{Node, has_names, is_folder, is_link, user_count, value_of};
 use crate::unwatched::Unwatched;
@@ -19,16 +7,12 @@ use ov_base::{AttributeName, Bytes, Errno, Path};
 use std::alloc::AllocError;
 
 /// A refusal, where its line applies.
-pub fn when(applies: bool, errno: Errno) -> Option<Errno>
-    ensures { result ≡ rule.when applies errno }
-{
+pub fn when(applies: bool, errno: Errno) -> Option<Errno> {
     if applies { Some(errno) } else { None }
 }
 
 /// The walk of a path up to its last name.
-pub fn walked(look: &Look) -> Option<Errno>
-    ensures { result ≡ rule.walked (look_of look.now) }
-{
+pub fn walked(look: &Look) -> Option<Errno> {
     match look {
         Look::Fails(errno) => Some(*errno),
         _ => None,
@@ -36,9 +20,7 @@ pub fn walked(look: &Look) -> Option<Errno>
 }
 
 /// The walk of a path, and that its last name is there.
-pub fn there(look: &Look) -> Option<Errno>
-    ensures { result ≡ rule.there (look_of look.now) }
-{
+pub fn there(look: &Look) -> Option<Errno> {
     match look {
         Look::Fails(errno) => Some(*errno),
         Look::Absent(_) => Some(Errno::ENOENT),
@@ -47,49 +29,31 @@ pub fn there(look: &Look) -> Option<Errno>
 }
 
 /// Whether a walk leads to a node.
-pub fn is_found(look: &Look) -> bool
-    ensures { result ≡ is_found (look_of look.now) }
-{
+pub fn is_found(look: &Look) -> bool {
     matches!(look, Look::Found(_))
 }
 
 /// Whether a path is that of the root.
-pub fn is_root(path: &Path) -> bool
-    ensures { result ≡ is_root path.now }
-{
+pub fn is_root(path: &Path) -> bool {
     path.names().is_empty()
 }
 
 /// A mode past 7777.
-pub fn bad_mode(mode: u32) -> Option<Errno>
-    ensures { result ≡ rule.bad_mode mode }
-{
+pub fn bad_mode(mode: u32) -> Option<Errno> {
     when(mode > 0o7777, Errno::EINVAL)
 }
 
-fn has_nul(bytes: &[u8]) -> bool
-    ensures { result ≡ rule.has_nul bytes.now }
-{
+fn has_nul(bytes: &[u8]) -> bool {
     bytes.iter().any(|byte| *byte == 0)
 }
 
 // The fault of an attribute's name.
-fn bad_attribute(name: &Bytes) -> Result<Option<Errno>, AllocError>
-    ensures { IfOk result (λ errno. errno ≡ rule.bad_attribute name.now) }
-{
+fn bad_attribute(name: &Bytes) -> Result<Option<Errno>, AllocError> {
     let parsed = AttributeName::parse(name.clone()?);
     Ok(parsed.err())
 }
 
-fn stat_line(look: &Look) -> Option<Errno>
-    ensures { result ≡ rule.there (look_of look.now) }
-{
-    there(look)
-}
-
-fn readlink_line(look: &Look, node: Option<&Node>) -> Option<Errno>
-    ensures { result ≡ (rule.there (look_of look.now) or_else rule.when (not (machine.is_link (shown (option_copied node.entry)))) Errno.EINVAL) }
-{
+fn readlink_line(look: &Look, node: Option<&Node>) -> Option<Errno> {
     if let Some(errno) = there(look) {
         return Some(errno);
     }
@@ -97,18 +61,14 @@ fn readlink_line(look: &Look, node: Option<&Node>) -> Option<Errno>
 }
 
 // The lines of a call on what is there and is no symbolic link.
-fn solid_line(look: &Look, node: Option<&Node>) -> Option<Errno>
-    ensures { result ≡ (rule.there (look_of look.now) or_else rule.when (machine.is_link (shown (option_copied node.entry))) Errno.ELOOP) }
-{
+fn solid_line(look: &Look, node: Option<&Node>) -> Option<Errno> {
     if let Some(errno) = there(look) {
         return Some(errno);
     }
     when(is_link(node), Errno::ELOOP)
 }
 
-fn chmod_line(mode: u32, look: &Look, node: Option<&Node>) -> Option<Errno>
-    ensures { result ≡ (rule.bad_mode mode or_else rule.there (look_of look.now) or_else rule.when (machine.is_link (shown (option_copied node.entry))) Errno.ELOOP) }
-{
+fn chmod_line(mode: u32, look: &Look, node: Option<&Node>) -> Option<Errno> {
     if let Some(errno) = bad_mode(mode) {
         return Some(errno);
     }
@@ -121,9 +81,7 @@ fn set_attribute_line(
     value: &Bytes,
     look: &Look,
     node: Option<&Node>,
-) -> Option<Errno>
-    ensures { result ≡ (fault or_else rule.when (nat_lt 1024 (length value.now)) Errno.EFBIG or_else rule.there (look_of look.now) or_else rule.when (machine.is_link (shown (option_copied node.entry))) Errno.ELOOP or_else rule.when (is_none (machine.value_of (machine.user_of (shown (option_copied node.entry))) name.now) && not (nat_lt (length (machine.user_of (shown (option_copied node.entry)))) 64)) Errno.EFBIG) }
-{
+) -> Option<Errno> {
     if let Some(errno) = fault {
         return Some(errno);
     }
@@ -147,9 +105,7 @@ fn held_attribute_line(
     name: &Bytes,
     look: &Look,
     node: Option<&Node>,
-) -> Option<Errno>
-    ensures { result ≡ (fault or_else rule.there (look_of look.now) or_else rule.when (machine.is_link (shown (option_copied node.entry))) Errno.ELOOP or_else rule.when (is_none (machine.value_of (machine.user_of (shown (option_copied node.entry))) name.now)) Errno.ENODATA) }
-{
+) -> Option<Errno> {
     if let Some(errno) = fault {
         return Some(errno);
     }
@@ -162,9 +118,7 @@ fn held_attribute_line(
     when(value_of(node, name.as_slice()).is_none(), Errno::ENODATA)
 }
 
-fn mkdir_line(mode: u32, look: &Look) -> Option<Errno>
-    ensures { result ≡ (rule.bad_mode mode or_else rule.walked (look_of look.now) or_else rule.when (machine.is_found (look_of look.now)) Errno.EEXIST) }
-{
+fn mkdir_line(mode: u32, look: &Look) -> Option<Errno> {
     if let Some(errno) = bad_mode(mode) {
         return Some(errno);
     }
@@ -174,9 +128,7 @@ fn mkdir_line(mode: u32, look: &Look) -> Option<Errno>
     when(is_found(look), Errno::EEXIST)
 }
 
-fn symlink_line(target: &Bytes, look: &Look) -> Option<Errno>
-    ensures { result ≡ (rule.when (nat_lt 4095 (length target.now)) Errno.ENAMETOOLONG or_else rule.when (nat_eq (length target.now) 0) Errno.ENOENT or_else rule.when (rule.has_nul target.now) Errno.EINVAL or_else rule.walked (look_of look.now) or_else rule.when (machine.is_found (look_of look.now)) Errno.EEXIST) }
-{
+fn symlink_line(target: &Bytes, look: &Look) -> Option<Errno> {
     if target.as_slice().len() > 4095 {
         return Some(Errno::ENAMETOOLONG);
     }
@@ -192,9 +144,7 @@ fn symlink_line(target: &Bytes, look: &Look) -> Option<Errno>
     when(is_found(look), Errno::EEXIST)
 }
 
-fn unlink_line(path: &Path, look: &Look, node: Option<&Node>) -> Option<Errno>
-    ensures { result ≡ (rule.when (machine.is_root path.now) Errno.EBUSY or_else rule.there (look_of look.now) or_else rule.when (plain.is_folder (shown (option_copied node.entry))) Errno.EISDIR) }
-{
+fn unlink_line(path: &Path, look: &Look, node: Option<&Node>) -> Option<Errno> {
     if is_root(path) {
         return Some(Errno::EBUSY);
     }
@@ -204,9 +154,7 @@ fn unlink_line(path: &Path, look: &Look, node: Option<&Node>) -> Option<Errno>
     when(is_folder(node), Errno::EISDIR)
 }
 
-fn rmdir_line(path: &Path, look: &Look, node: Option<&Node>) -> Option<Errno>
-    ensures { result ≡ (rule.when (machine.is_root path.now) Errno.EBUSY or_else rule.there (look_of look.now) or_else rule.when (not (plain.is_folder (shown (option_copied node.entry)))) Errno.ENOTDIR or_else rule.when (machine.has_names (shown (option_copied node.entry))) Errno.ENOTEMPTY) }
-{
+fn rmdir_line(path: &Path, look: &Look, node: Option<&Node>) -> Option<Errno> {
     if is_root(path) {
         return Some(Errno::EBUSY);
     }
@@ -219,9 +167,7 @@ fn rmdir_line(path: &Path, look: &Look, node: Option<&Node>) -> Option<Errno>
     when(has_names(node), Errno::ENOTEMPTY)
 }
 
-fn link_line(look: &Look, node: Option<&Node>, new: &Look) -> Option<Errno>
-    ensures { result ≡ (rule.there (look_of look.now) or_else rule.walked (look_of new.now) or_else rule.when (machine.is_found (look_of new.now)) Errno.EEXIST or_else rule.when (plain.is_folder (shown (option_copied node.entry))) Errno.EPERM) }
-{
+fn link_line(look: &Look, node: Option<&Node>, new: &Look) -> Option<Errno> {
     if let Some(errno) = there(look) {
         return Some(errno);
     }
@@ -236,36 +182,24 @@ fn link_line(look: &Look, node: Option<&Node>, new: &Look) -> Option<Errno>
 
 impl Unwatched {
     /// The walk of a path.
-    pub(crate) fn look(&self, path: &Path) -> Result<Look, AllocError>
-        ensures { IfOk result (λ found. look_of found ≡ machine.look (tree_of self.now.tree.slots.items) path.now) }
-    {
+    pub(crate) fn look(&self, path: &Path) -> Result<Look, AllocError> {
         self.tree.look(self.alloc, path.names())
     }
 
     /// The refusal of a call with these lines. Where nothing may be written, a call that writes is refused last.
-    pub(crate) fn or_read_only(&self, lines: Option<Errno>, writes: bool) -> Option<Errno>
-        ensures { result ≡ (lines or_else rule.when (writes && self.now.options.read_only) Errno.EROFS) }
-    {
+    pub(crate) fn or_read_only(&self, lines: Option<Errno>, writes: bool) -> Option<Errno> {
         if let Some(errno) = lines {
             return Some(errno);
         }
         when(writes && self.options.read_only, Errno::EROFS)
     }
 
-    pub(crate) fn stat_refusal(&self, client: u32, path: &Path) -> Result<Option<Errno>, AllocError>
-        ensures { IfOk result (λ errno. errno ≡ refusal (unwatched_of self.now) client (call.Stat path.now)) }
-    {
+    pub(crate) fn stat_refusal(&self, path: &Path) -> Result<Option<Errno>, AllocError> {
         let look = self.look(path)?;
-        Ok(stat_line(&look))
+        Ok(there(&look))
     }
 
-    pub(crate) fn readlink_refusal(
-        &self,
-        client: u32,
-        path: &Path,
-    ) -> Result<Option<Errno>, AllocError>
-        ensures { IfOk result (λ errno. errno ≡ refusal (unwatched_of self.now) client (call.Readlink path.now)) }
-    {
+    pub(crate) fn readlink_refusal(&self, path: &Path) -> Result<Option<Errno>, AllocError> {
         let look = self.look(path)?;
         let node = self.tree.node_found(&look);
         Ok(readlink_line(&look, node))
@@ -273,12 +207,9 @@ impl Unwatched {
 
     pub(crate) fn chmod_refusal(
         &self,
-        client: u32,
         path: &Path,
         mode: u32,
-    ) -> Result<Option<Errno>, AllocError>
-        ensures { IfOk result (λ errno. errno ≡ refusal (unwatched_of self.now) client (call.Chmod path.now mode)) }
-    {
+    ) -> Result<Option<Errno>, AllocError> {
         let look = self.look(path)?;
         let node = self.tree.node_found(&look);
         Ok(self.or_read_only(chmod_line(mode, &look, node), true))
@@ -286,25 +217,16 @@ impl Unwatched {
 
     pub(crate) fn chown_refusal(
         &self,
-        client: u32,
         path: &Path,
         uid: u32,
         gid: u32,
-    ) -> Result<Option<Errno>, AllocError>
-        ensures { IfOk result (λ errno. errno ≡ refusal (unwatched_of self.now) client (call.Chown path.now uid gid)) }
-    {
+    ) -> Result<Option<Errno>, AllocError> {
         let look = self.look(path)?;
         let node = self.tree.node_found(&look);
         Ok(self.or_read_only(solid_line(&look, node), true))
     }
 
-    pub(crate) fn list_attributes_refusal(
-        &self,
-        client: u32,
-        path: &Path,
-    ) -> Result<Option<Errno>, AllocError>
-        ensures { IfOk result (λ errno. errno ≡ refusal (unwatched_of self.now) client (call.ListAttributes path.now)) }
-    {
+    pub(crate) fn list_attributes_refusal(&self, path: &Path) -> Result<Option<Errno>, AllocError> {
         let look = self.look(path)?;
         let node = self.tree.node_found(&look);
         Ok(solid_line(&look, node))
@@ -312,13 +234,10 @@ impl Unwatched {
 
     pub(crate) fn set_attribute_refusal(
         &self,
-        client: u32,
         path: &Path,
         name: &Bytes,
         value: &Bytes,
-    ) -> Result<Option<Errno>, AllocError>
-        ensures { IfOk result (λ errno. errno ≡ refusal (unwatched_of self.now) client (call.SetAttribute path.now name.now value.now)) }
-    {
+    ) -> Result<Option<Errno>, AllocError> {
         let fault = bad_attribute(name)?;
         let look = self.look(path)?;
         let node = self.tree.node_found(&look);
@@ -328,12 +247,9 @@ impl Unwatched {
 
     pub(crate) fn get_attribute_refusal(
         &self,
-        client: u32,
         path: &Path,
         name: &Bytes,
-    ) -> Result<Option<Errno>, AllocError>
-        ensures { IfOk result (λ errno. errno ≡ refusal (unwatched_of self.now) client (call.GetAttribute path.now name.now)) }
-    {
+    ) -> Result<Option<Errno>, AllocError> {
         let fault = bad_attribute(name)?;
         let look = self.look(path)?;
         let node = self.tree.node_found(&look);
@@ -342,12 +258,9 @@ impl Unwatched {
 
     pub(crate) fn delete_attribute_refusal(
         &self,
-        client: u32,
         path: &Path,
         name: &Bytes,
-    ) -> Result<Option<Errno>, AllocError>
-        ensures { IfOk result (λ errno. errno ≡ refusal (unwatched_of self.now) client (call.DeleteAttribute path.now name.now)) }
-    {
+    ) -> Result<Option<Errno>, AllocError> {
         let fault = bad_attribute(name)?;
         let look = self.look(path)?;
         let node = self.tree.node_found(&look);
@@ -356,60 +269,35 @@ impl Unwatched {
 
     pub(crate) fn mkdir_refusal(
         &self,
-        client: u32,
         path: &Path,
         mode: u32,
-    ) -> Result<Option<Errno>, AllocError>
-        ensures { IfOk result (λ errno. errno ≡ refusal (unwatched_of self.now) client (call.Mkdir path.now mode)) }
-    {
+    ) -> Result<Option<Errno>, AllocError> {
         let look = self.look(path)?;
         Ok(self.or_read_only(mkdir_line(mode, &look), true))
     }
 
     pub(crate) fn symlink_refusal(
         &self,
-        client: u32,
         target: &Bytes,
         path: &Path,
-    ) -> Result<Option<Errno>, AllocError>
-        ensures { IfOk result (λ errno. errno ≡ refusal (unwatched_of self.now) client (call.Symlink target.now path.now)) }
-    {
+    ) -> Result<Option<Errno>, AllocError> {
         let look = self.look(path)?;
         Ok(self.or_read_only(symlink_line(target, &look), true))
     }
 
-    pub(crate) fn unlink_refusal(
-        &self,
-        client: u32,
-        path: &Path,
-    ) -> Result<Option<Errno>, AllocError>
-        ensures { IfOk result (λ errno. errno ≡ refusal (unwatched_of self.now) client (call.Unlink path.now)) }
-    {
+    pub(crate) fn unlink_refusal(&self, path: &Path) -> Result<Option<Errno>, AllocError> {
         let look = self.look(path)?;
         let node = self.tree.node_found(&look);
         Ok(self.or_read_only(unlink_line(path, &look, node), true))
     }
 
-    pub(crate) fn rmdir_refusal(
-        &self,
-        client: u32,
-        path: &Path,
-    ) -> Result<Option<Errno>, AllocError>
-        ensures { IfOk result (λ errno. errno ≡ refusal (unwatched_of self.now) client (call.Rmdir path.now)) }
-    {
+    pub(crate) fn rmdir_refusal(&self, path: &Path) -> Result<Option<Errno>, AllocError> {
         let look = self.look(path)?;
         let node = self.tree.node_found(&look);
         Ok(self.or_read_only(rmdir_line(path, &look, node), true))
     }
 
-    pub(crate) fn link_refusal(
-        &self,
-        client: u32,
-        old: &Path,
-        new: &Path,
-    ) -> Result<Option<Errno>, AllocError>
-        ensures { IfOk result (λ errno. errno ≡ refusal (unwatched_of self.now) client (call.Hardlink old.now new.now)) }
-    {
+    pub(crate) fn link_refusal(&self, old: &Path, new: &Path) -> Result<Option<Errno>, AllocError> {
         let look = self.look(old)?;
         let node = self.tree.node_found(&look);
         let further = self.look(new)?;

@@ -1,15 +1,4 @@
 // Which renames are refused, and by which number: the first line that applies.
-ghost use Rattle.std.specs.Prelude.{◌≡◌, not, ◌&&◌, IfOk};
-ghost use Rattle.std.specs.Option.{option_copied};
-ghost use Rattle.ov_base.specs.declared.call.Call.TheVariants as call;
-ghost use Rattle.plain_model.specs.Tree as plain;
-ghost use Rattle.plain_model.specs.Machine as machine;
-ghost use Rattle.plain_model.specs.Refusals as rule;
-ghost use Rattle.plain_model.specs.Refusals.{◌or_else◌, refusal};
-ghost use Rattle.plain_reference.specs.Nodes.{shown};
-ghost use Rattle.plain_reference.specs.Slots.{tree_of};
-ghost use Rattle.plain_reference.specs.Looks.{look_of};
-ghost use Rattle.plain_reference.specs.States.{unwatched_of};
 
 use crate::node::{Node, has_names, is_base, is_folder};
 use crate::refusals::{is_found, is_root, there, walked, when};
@@ -20,9 +9,7 @@ use ov_base::{Errno, Path};
 use std::alloc::AllocError;
 
 // Whether a path is below another.
-fn is_below(above: &Path, path: &Path) -> bool
-    ensures { result ≡ machine.is_below above.now path.now }
-{
+fn is_below(above: &Path, path: &Path) -> bool {
     let (above, names) = (above.names(), path.names());
     names.len() > above.len() && names.starts_with(above)
 }
@@ -33,9 +20,7 @@ fn replace_line(
     look: &Look,
     replaced: Option<&Node>,
     redirects: bool,
-) -> Option<Errno>
-    ensures { result ≡ (rule.when (plain.is_folder (shown (option_copied node.entry)) && machine.is_found (look_of look.now) && not (plain.is_folder (shown (option_copied replaced.entry)))) Errno.ENOTDIR or_else rule.when (not (plain.is_folder (shown (option_copied node.entry))) && plain.is_folder (shown (option_copied replaced.entry))) Errno.EISDIR or_else rule.when (machine.is_base (shown (option_copied node.entry)) && not redirects) Errno.EXDEV or_else rule.when (plain.is_folder (shown (option_copied node.entry)) && machine.has_names (shown (option_copied replaced.entry))) Errno.ENOTEMPTY) }
-{
+) -> Option<Errno> {
     if is_folder(node) && is_found(look) && !is_folder(replaced) {
         return Some(Errno::ENOTDIR);
     }
@@ -57,9 +42,7 @@ impl Tree {
         new: &Path,
         look: &Look,
         target: &Look,
-    ) -> Option<Errno>
-        ensures { result ≡ rule.rename_refusal (tree_of self.now.slots.items) redirects old.now new.now (look_of look.now) (look_of target.now) }
-    {
+    ) -> Option<Errno> {
         if is_root(old) || is_root(new) {
             return Some(Errno::EBUSY);
         }
@@ -84,12 +67,9 @@ impl Tree {
 impl Unwatched {
     pub(crate) fn rename_refusal(
         &self,
-        client: u32,
         old: &Path,
         new: &Path,
-    ) -> Result<Option<Errno>, AllocError>
-        ensures { IfOk result (λ errno. errno ≡ refusal (unwatched_of self.now) client (call.Rename old.now new.now)) }
-    {
+    ) -> Result<Option<Errno>, AllocError> {
         let look = self.look(old)?;
         let target = self.look(new)?;
         let lines = self

@@ -1,14 +1,9 @@
 // Whom a call tells, as far as that is known before its change.
-ghost use Rattle.std.specs.Prelude.{◌≡◌, ◌++◌, [], None, OnOk};
-ghost use Rattle.std.specs.Option.{option_copied};
-ghost use Rattle.plain_model.specs.Subjects.{both, by_way, of_node};
-ghost use Rattle.plain_reference.specs.Aims.{subject_of};
 
 use crate::id::Id;
 use crate::subject::{Aim, Subject};
 use ov_base::Name;
 use std::alloc::{AllocError, Global};
-use std::marker::Model;
 
 /// A subject that is for the watches on a node, held in itself.
 #[derive(Drop)]
@@ -19,19 +14,9 @@ pub struct Told {
     name: Option<Name>,
 }
 
-impl Model for Told {
-    ghost use Rattle.plain_model.specs.Watching as plain;
-
-    ghost Value = { plain.Subject };
-
-    ghost view = { λ t. record { aim = plain.On t.node; bits = t.bits; cookie = t.cookie; name = t.name } };
-}
-
 impl Told {
     /// The subject.
-    pub fn subject(&self) -> Subject<'_>
-        ensures { subject_of result ≡ self.now }
-    {
+    pub fn subject(&self) -> Subject<'_> {
         Subject {
             aim: Aim::On(&self.node),
             bits: self.bits,
@@ -50,10 +35,7 @@ pub struct Telling {
 
 impl Telling {
     /// It tells nobody.
-    pub fn new(alloc: Global) -> Telling
-        ensures told { result.told.items ≡ [] }
-        ensures ends { result.ends ≡ None }
-    {
+    pub fn new(alloc: Global) -> Telling {
         Telling {
             told: Vec::new(alloc),
             ends: None,
@@ -66,10 +48,7 @@ impl Telling {
         way: &Option<(Id, Name)>,
         bits: u32,
         cookie: u32,
-    ) -> Result<(), AllocError>
-        ensures told { OnOk result (self.new.told.items ≡ self.old.told.items ++ by_way way.now bits cookie) }
-        ensures ends { self.new.ends ≡ self.old.ends }
-    {
+    ) -> Result<(), AllocError> {
         if let Some((directory, name)) = way {
             self.told.push(Told {
                 node: directory.clone()?,
@@ -82,10 +61,7 @@ impl Telling {
     }
 
     /// Tells a node, without a name.
-    pub fn of_node(&mut self, node: Option<&Id>, bits: u32) -> Result<(), AllocError>
-        ensures told { OnOk result (self.new.told.items ≡ self.old.told.items ++ of_node (option_copied node.entry) bits) }
-        ensures ends { self.new.ends ≡ self.old.ends }
-    {
+    pub fn of_node(&mut self, node: Option<&Id>, bits: u32) -> Result<(), AllocError> {
         if let Some(node) = node {
             self.told.push(Told {
                 node: node.clone()?,
@@ -103,10 +79,7 @@ impl Telling {
         way: &Option<(Id, Name)>,
         node: Option<&Id>,
         bits: u32,
-    ) -> Result<(), AllocError>
-        ensures told { OnOk result (self.new.told.items ≡ self.old.told.items ++ both way.now (option_copied node.entry) bits) }
-        ensures ends { self.new.ends ≡ self.old.ends }
-    {
+    ) -> Result<(), AllocError> {
         self.by_way(way, bits, 0)?;
         self.of_node(node, bits)
     }

@@ -1,17 +1,4 @@
 // Whom each call tells that is not refused, as far as that is known before its change.
-ghost use Rattle.std.specs.Prelude.{◌≡◌, ◌<◌, suc, ◌+◌, ◌++◌, [], true, None, Some, cond, is_none, IfOk, OnOk};
-ghost use Rattle.std.specs.Option.{option_copied};
-ghost use Rattle.ov_base.specs.declared.call.Call.TheVariants as call;
-ghost use Rattle.plain_model.specs.Tree.{node_at, node_of};
-ghost use Rattle.plain_model.specs.Watching as plain;
-ghost use Rattle.plain_model.specs.Machine.{handle_of, handle_node};
-ghost use Rattle.plain_model.specs.Changes.{node_of_handle, tree_after, way_of};
-ghost use Rattle.plain_model.specs.Subjects.{both, by_handle, by_way, cookie_of, marked, subjects};
-ghost use Rattle.plain_reference.specs.Nodes.{shown};
-ghost use Rattle.plain_reference.specs.Offers.{is_made_alone};
-ghost use Rattle.plain_reference.specs.Slots.{tree_of};
-ghost use Rattle.plain_reference.specs.States.{unwatched_of};
-ghost use Rattle.plain_reference.specs.Telling.{move_told, told_in};
 
 use crate::bits::{
     ACCESS, ATTRIB, CREATE, DELETE, ISDIR, MODIFY, MOVE_SELF, MOVED_FROM, MOVED_TO, OPEN,
@@ -22,7 +9,6 @@ use crate::id::Id;
 use crate::node::{Node, is_folder};
 use crate::telling::Telling;
 use crate::unwatched::Unwatched;
-use crate::walk::same_found;
 use ov_base::{Bytes, Call, Name, OpenFlags, Path};
 use std::alloc::AllocError;
 
@@ -34,230 +20,203 @@ struct Place {
 }
 
 /// Bits, with ISDIR where the object is a directory.
-pub fn marked(node: Option<&Node>, bits: u32) -> u32
-    requires { bits < 0x4000_0000 }
-    ensures { result ≡ marked (shown (option_copied node.entry)) bits }
-{
-    if is_folder(node) { bits + ISDIR } else { bits }
+pub fn marked(node: Option<&Node>, bits: u32) -> u32 {
+    if is_folder(node) { bits | ISDIR } else { bits }
 }
 
 // The cookie of the next rename, after so many.
-fn next_cookie(renames: u64) -> u32
-    ensures { result ≡ cookie_of (suc renames) }
-{
+fn next_cookie(renames: u64) -> u32 {
     (renames % u64::from(u32::MAX)) as u32 + 1
 }
 
 impl Unwatched {
-    fn place(&self, path: &Path) -> Result<Place, AllocError>
-        ensures way { IfOk result (λ place. place.way ≡ way_of (tree_of self.now.tree.slots.items) path.now) }
-        ensures node { IfOk result (λ place. place.node ≡ node_at (tree_of self.now.tree.slots.items) path.now) }
-    {
+    fn place(&self, path: &Path) -> Result<Place, AllocError> {
         Ok(Place {
             way: self.tree.way_of(self.alloc, path.names())?,
             node: self.tree.node_at(self.alloc, path.names())?,
         })
     }
 
-    // A change of attributes.
-    fn telling_of_attributes(&self, path: &Path) -> Result<Telling, AllocError>
-        ensures told { IfOk result (λ x. x.told.items ≡ both (way_of (tree_of self.now.tree.slots.items) path.now) (node_at (tree_of self.now.tree.slots.items) path.now) (marked (node_of (tree_of self.now.tree.slots.items) (node_at (tree_of self.now.tree.slots.items) path.now)) plain.ATTRIB)) }
-        ensures ends { IfOk result (λ x. x.ends ≡ None) }
-    {
-        let place = self.place(path)?;
-        let bits = marked(self.node(path)?, ATTRIB);
-        let mut telling = Telling::new(self.alloc);
-        telling.both(&place.way, place.node.as_ref(), bits)?;
-        Ok(telling)
-    }
-
-    // A new directory or symbolic link.
-    fn telling_of_new(&self, path: &Path, bits: u32) -> Result<Telling, AllocError>
-        ensures told { IfOk result (λ x. x.told.items ≡ by_way (way_of (tree_of self.now.tree.slots.items) path.now) bits 0) }
-        ensures ends { IfOk result (λ x. x.ends ≡ None) }
-    {
-        let place = self.place(path)?;
-        let mut telling = Telling::new(self.alloc);
-        telling.by_way(&place.way, bits, 0)?;
-        Ok(telling)
-    }
-
-    fn telling_of_open(
+    // Tells the directory of the way in to a path, with the name.
+    fn tell_way(
         &self,
-        client: u32,
+        path: &Path,
+        bits: u32,
+        cookie: u32,
+        telling: &mut Telling,
+    ) -> Result<(), AllocError> {
+        let way = self.tree.way_of(self.alloc, path.names())?;
+        telling.by_way(&way, bits, cookie)
+    }
+
+    // Tells what is at a path, without a name.
+    fn tell_node(&self, path: &Path, bits: u32, telling: &mut Telling) -> Result<(), AllocError> {
+        let node = self.tree.node_at(self.alloc, path.names())?;
+        telling.of_node(node.as_ref(), bits)
+    }
+
+    // A change of attributes.
+    fn tell_attributes(&self, path: &Path, telling: &mut Telling) -> Result<(), AllocError> {
+        let bits = marked(self.node(path)?, ATTRIB);
+        let place = self.place(path)?;
+        telling.both(&place.way, place.node.as_ref(), bits)
+    }
+
+    fn tell_open(
+        &self,
         path: &Path,
         flags: OpenFlags,
-        mode: u32,
-    ) -> Result<Telling, AllocError>
-        ensures { IfOk result (λ x. told_in (tree_after (unwatched_of self.now) client (call.Open path.now flags mode)) x ≡ subjects (unwatched_of self.now) client (call.Open path.now flags mode)) }
-    {
-        let place = self.place(path)?;
-        let mut telling = Telling::new(self.alloc);
-        if place.node.is_none() {
-            telling.by_way(&place.way, CREATE, 0)?;
-            telling.both(&place.way, Some(&Id::new(self.serial)), OPEN)?;
-            return Ok(telling);
-        }
-        if flags.truncate {
-            telling.both(&place.way, place.node.as_ref(), MODIFY)?;
-        }
-        let bits = marked(self.node(path)?, OPEN);
-        telling.both(&place.way, place.node.as_ref(), bits)?;
-        Ok(telling)
-    }
-
-    fn telling_of_unlink(&self, client: u32, path: &Path) -> Result<Telling, AllocError>
-        ensures { IfOk result (λ x. told_in (tree_after (unwatched_of self.now) client (call.Unlink path.now)) x ≡ subjects (unwatched_of self.now) client (call.Unlink path.now)) }
-    {
-        let place = self.place(path)?;
-        let mut telling = Telling::new(self.alloc);
-        telling.by_way(&place.way, DELETE, 0)?;
-        telling.of_node(place.node.as_ref(), ATTRIB)?;
-        telling.ends = place.node;
-        Ok(telling)
-    }
-
-    fn telling_of_rmdir(&self, client: u32, path: &Path) -> Result<Telling, AllocError>
-        ensures { IfOk result (λ x. told_in (tree_after (unwatched_of self.now) client (call.Rmdir path.now)) x ≡ subjects (unwatched_of self.now) client (call.Rmdir path.now)) }
-    {
-        let place = self.place(path)?;
-        let mut telling = Telling::new(self.alloc);
-        telling.by_way(&place.way, DELETE + ISDIR, 0)?;
-        telling.ends = place.node;
-        Ok(telling)
-    }
-
-    fn telling_of_link(&self, client: u32, old: &Path, new: &Path) -> Result<Telling, AllocError>
-        ensures { IfOk result (λ x. told_in (tree_after (unwatched_of self.now) client (call.Hardlink old.now new.now)) x ≡ subjects (unwatched_of self.now) client (call.Hardlink old.now new.now)) }
-    {
-        let from = self.place(old)?;
-        let to = self.place(new)?;
-        let mut telling = Telling::new(self.alloc);
-        telling.by_way(&to.way, CREATE, 0)?;
-        telling.of_node(from.node.as_ref(), ATTRIB)?;
-        Ok(telling)
-    }
-
-    // Tells both directories of a rename, what it replaces where that is no directory, and what moves.
-    fn tell_move(
-        &self,
         telling: &mut Telling,
-        from: &Place,
-        to: &Place,
-        old: &Path,
-        new: &Path,
-    ) -> Result<(), AllocError>
-        requires from { (from.now.way ≡ way_of (tree_of self.now.tree.slots.items) old.now) × (from.now.node ≡ node_at (tree_of self.now.tree.slots.items) old.now) }
-        requires to { (to.now.way ≡ way_of (tree_of self.now.tree.slots.items) new.now) × (to.now.node ≡ node_at (tree_of self.now.tree.slots.items) new.now) }
-        requires none { telling.old.told.items ≡ [] }
-        ensures told { OnOk result (telling.new.told.items ≡ move_told (unwatched_of self.now) old.now new.now) }
-    {
+    ) -> Result<(), AllocError> {
+        let place = self.place(path)?;
+        match &place.node {
+            Some(node) => self.tell_open_of(&place.way, node, flags, telling),
+            None => self.tell_open_new(&place.way, telling),
+        }
+    }
+
+    // An open of a node that is there, by this way in.
+    fn tell_open_of(
+        &self,
+        way: &Option<(Id, Name)>,
+        node: &Id,
+        flags: OpenFlags,
+        telling: &mut Telling,
+    ) -> Result<(), AllocError> {
+        if flags.truncate {
+            telling.both(way, Some(node), MODIFY)?;
+        }
+        telling.both(way, Some(node), marked(self.tree.node(node), OPEN))
+    }
+
+    // An open that makes a file by this way in.
+    fn tell_open_new(
+        &self,
+        way: &Option<(Id, Name)>,
+        telling: &mut Telling,
+    ) -> Result<(), AllocError> {
+        telling.by_way(way, CREATE, 0)?;
+        let node = Id::new(self.serial);
+        telling.both(way, Some(&node), OPEN)
+    }
+
+    fn tell_unlink(&self, path: &Path, telling: &mut Telling) -> Result<(), AllocError> {
+        self.tell_way(path, DELETE, 0, telling)?;
+        self.tell_node(path, ATTRIB, telling)?;
+        telling.ends = self.tree.node_at(self.alloc, path.names())?;
+        Ok(())
+    }
+
+    fn tell_rmdir(&self, path: &Path, telling: &mut Telling) -> Result<(), AllocError> {
+        self.tell_way(path, DELETE | ISDIR, 0, telling)?;
+        telling.ends = self.tree.node_at(self.alloc, path.names())?;
+        Ok(())
+    }
+
+    fn tell_link(&self, old: &Path, new: &Path, telling: &mut Telling) -> Result<(), AllocError> {
+        self.tell_way(new, CREATE, 0, telling)?;
+        self.tell_node(old, ATTRIB, telling)
+    }
+
+    // A rename that moves something: both directories are told, what it replaces where that is no directory, and what moves.
+    fn tell_move(&self, old: &Path, new: &Path, telling: &mut Telling) -> Result<(), AllocError> {
         let moved = self.node(old)?;
         let cookie = next_cookie(self.renames);
-        telling.by_way(&from.way, marked(moved, MOVED_FROM), cookie)?;
-        telling.by_way(&to.way, marked(moved, MOVED_TO), cookie)?;
+        self.tell_way(old, marked(moved, MOVED_FROM), cookie, telling)?;
+        self.tell_way(new, marked(moved, MOVED_TO), cookie, telling)?;
         if !is_folder(self.node(new)?) {
-            telling.of_node(to.node.as_ref(), ATTRIB)?;
+            self.tell_node(new, ATTRIB, telling)?;
         }
-        telling.of_node(from.node.as_ref(), MOVE_SELF)
+        self.tell_node(old, MOVE_SELF, telling)?;
+        telling.ends = self.tree.node_at(self.alloc, new.names())?;
+        Ok(())
     }
 
-    // A rename that moves something.
-    fn telling_of_move(&self, old: &Path, new: &Path) -> Result<Telling, AllocError>
-        ensures told { IfOk result (λ x. x.told.items ≡ move_told (unwatched_of self.now) old.now new.now) }
-        ensures ends { IfOk result (λ x. x.ends ≡ node_at (tree_of self.now.tree.slots.items) new.now) }
-    {
-        let from = self.place(old)?;
-        let to = self.place(new)?;
-        let mut telling = Telling::new(self.alloc);
-        self.tell_move(&mut telling, &from, &to, old, new)?;
-        telling.ends = to.node;
-        Ok(telling)
-    }
-
-    fn telling_of_rename(&self, client: u32, old: &Path, new: &Path) -> Result<Telling, AllocError>
-        ensures { IfOk result (λ x. told_in (tree_after (unwatched_of self.now) client (call.Rename old.now new.now)) x ≡ subjects (unwatched_of self.now) client (call.Rename old.now new.now)) }
-    {
-        let look = self.look(old)?;
-        let target = self.look(new)?;
-        if same_found(&look, &target) {
-            return Ok(Telling::new(self.alloc));
+    fn tell_rename(&self, old: &Path, new: &Path, telling: &mut Telling) -> Result<(), AllocError> {
+        match self.moved(old, new)? {
+            Some(_) => self.tell_move(old, new, telling),
+            None => Ok(()),
         }
-        self.telling_of_move(old, new)
     }
 
     // An access to what a client's handle is open on.
-    fn telling_of_handle(
+    fn tell_handle(
         &self,
         client: u32,
         descriptor: u32,
         bits: u32,
-    ) -> Result<Telling, AllocError>
-        requires { bits < 0x4000_0000 }
-        ensures told { IfOk result (λ x. x.told.items ≡ by_handle (tree_of self.now.tree.slots.items) (handle_of self.now.clients.list.items client descriptor) bits) }
-        ensures ends { IfOk result (λ x. x.ends ≡ None) }
-    {
-        let mut telling = Telling::new(self.alloc);
-        if let Some(handle) = self.handle(client, descriptor) {
-            let bits = marked(self.tree.node(handle.node()), bits);
-            telling.both(handle.way(), Some(handle.node()), bits)?;
+        telling: &mut Telling,
+    ) -> Result<(), AllocError> {
+        match self.handle(client, descriptor) {
+            Some(handle) => {
+                let bits = marked(self.tree.node(&handle.node), bits);
+                telling.both(&handle.way, Some(&handle.node), bits)
+            }
+            None => Ok(()),
         }
-        Ok(telling)
     }
 
-    fn telling_of_read(
+    fn tell_read(
         &self,
         client: u32,
         descriptor: u32,
         count: u32,
-    ) -> Result<Telling, AllocError>
-        ensures { IfOk result (λ x. told_in (tree_after (unwatched_of self.now) client (call.Read descriptor count)) x ≡ subjects (unwatched_of self.now) client (call.Read descriptor count)) }
-    {
+        telling: &mut Telling,
+    ) -> Result<(), AllocError> {
         let handle = self.handle(client, descriptor);
-        let read = part(self.bytes_read(handle), place_of(handle), count);
-        if read.is_empty() {
-            return Ok(Telling::new(self.alloc));
+        if part(self.bytes_read(handle), place_of(handle), count).is_empty() {
+            return Ok(());
         }
-        self.telling_of_handle(client, descriptor, ACCESS)
+        self.tell_handle(client, descriptor, ACCESS, telling)
     }
 
-    fn telling_of_write(
+    fn tell_write(
         &self,
         client: u32,
         descriptor: u32,
         bytes: &Bytes,
-    ) -> Result<Telling, AllocError>
-        ensures { IfOk result (λ x. told_in (tree_after (unwatched_of self.now) client (call.Write descriptor bytes.now)) x ≡ subjects (unwatched_of self.now) client (call.Write descriptor bytes.now)) }
-    {
+        telling: &mut Telling,
+    ) -> Result<(), AllocError> {
         if bytes.as_slice().is_empty() {
-            return Ok(Telling::new(self.alloc));
+            return Ok(());
         }
-        self.telling_of_handle(client, descriptor, MODIFY)
+        self.tell_handle(client, descriptor, MODIFY, telling)
     }
 
-    /// Whom a call tells that is made without the watches, where it isn't refused.
-    pub(crate) fn telling(&self, client: u32, call: &Call) -> Result<Telling, AllocError>
-        requires { is_made_alone call.now ≡ true }
-        ensures { IfOk result (λ x. told_in (tree_after (unwatched_of self.now) client call.now) x ≡ subjects (unwatched_of self.now) client call.now) }
-    {
+    // Whom a call tells that is made without the watches, where it isn't refused.
+    fn tell_call(&self, client: u32, call: &Call, telling: &mut Telling) -> Result<(), AllocError> {
         match call {
             Call::Chmod { path, .. }
             | Call::Chown { path, .. }
             | Call::SetAttribute { path, .. }
-            | Call::DeleteAttribute { path, .. } => self.telling_of_attributes(path),
-            Call::Mkdir { path, .. } => self.telling_of_new(path, CREATE + ISDIR),
-            Call::Symlink { path, .. } => self.telling_of_new(path, CREATE),
-            Call::Open { path, flags, mode } => self.telling_of_open(client, path, *flags, *mode),
-            Call::Unlink { path } => self.telling_of_unlink(client, path),
-            Call::Rmdir { path } => self.telling_of_rmdir(client, path),
-            Call::Hardlink { old, new } => self.telling_of_link(client, old, new),
-            Call::Rename { old, new } => self.telling_of_rename(client, old, new),
-            Call::Read { descriptor, count } => self.telling_of_read(client, *descriptor, *count),
-            Call::Write { descriptor, bytes } => self.telling_of_write(client, *descriptor, bytes),
-            Call::Truncate { descriptor, .. } => {
-                self.telling_of_handle(client, *descriptor, MODIFY)
+            | Call::DeleteAttribute { path, .. } => self.tell_attributes(path, telling),
+            Call::Mkdir { path, .. } => self.tell_way(path, CREATE | ISDIR, 0, telling),
+            Call::Symlink { path, .. } => self.tell_way(path, CREATE, 0, telling),
+            Call::Open { path, flags, .. } => self.tell_open(path, *flags, telling),
+            Call::Unlink { path } => self.tell_unlink(path, telling),
+            Call::Rmdir { path } => self.tell_rmdir(path, telling),
+            Call::Hardlink { old, new } => self.tell_link(old, new, telling),
+            Call::Rename { old, new } => self.tell_rename(old, new, telling),
+            Call::Read { descriptor, count } => self.tell_read(
+                client,
+                *descriptor,
+                *count,
+                telling,
+            ),
+            Call::Write { descriptor, bytes } => {
+                self.tell_write(client, *descriptor, bytes, telling)
             }
-            _ => Ok(Telling::new(self.alloc)),
+            Call::Truncate { descriptor, .. } => {
+                self.tell_handle(client, *descriptor, MODIFY, telling)
+            }
+            _ => Ok(()),
         }
+    }
+
+    /// Whom a call tells that is made without the watches, where it isn't refused.
+    pub(crate) fn telling(&self, client: u32, call: &Call) -> Result<Telling, AllocError> {
+        let mut telling = Telling::new(self.alloc);
+        self.tell_call(client, call, &mut telling)?;
+        Ok(telling)
     }
 }

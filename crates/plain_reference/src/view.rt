@@ -1,11 +1,4 @@
 // What an open handle sees of its node.
-ghost use Rattle.std.specs.Prelude.{◌≡◌, IfOk};
-ghost use Rattle.std.specs.Option.{option_copied};
-ghost use Rattle.plain_model.specs.Machine.{bytes_seen};
-ghost use Rattle.plain_model.specs.Changes.{view_by, view_of};
-ghost use Rattle.plain_model.specs.Replies.{stat_seen};
-ghost use Rattle.plain_reference.specs.Nodes.{shown, origin_of};
-ghost use Rattle.plain_reference.specs.Views.{seen};
 
 use crate::node::{Node, Origin, bytes_in, capped, stat_by, stat_kept, stat_of};
 use ov_base::{Attributes, Bytes, Content, ObjectKind, OpenFlags, Reply};
@@ -21,9 +14,7 @@ pub enum View {
 }
 
 // What a handle for reading alone sees of a file.
-fn view_by(origin: Origin, bytes: &Bytes, attributes: &Attributes) -> Result<View, AllocError>
-    ensures { IfOk result (λ view. seen view ≡ view_by (origin_of origin) bytes.now attributes.now) }
-{
+fn view_by(origin: Origin, bytes: &Bytes, attributes: &Attributes) -> Result<View, AllocError> {
     match origin {
         Origin::Own(false) => Ok(View::Live),
         Origin::Own(true) => Ok(View::Kept(bytes.clone()?)),
@@ -33,9 +24,7 @@ fn view_by(origin: Origin, bytes: &Bytes, attributes: &Attributes) -> Result<Vie
 
 impl View {
     /// What a new handle on a node sees.
-    pub fn of(flags: OpenFlags, node: Option<&Node>) -> Result<View, AllocError>
-        ensures { IfOk result (λ view. seen view ≡ view_of flags (shown (option_copied node.entry))) }
-    {
+    pub fn of(flags: OpenFlags, node: Option<&Node>) -> Result<View, AllocError> {
         match node {
             Some(
                 Node::Leaf {
@@ -56,9 +45,7 @@ impl View {
     }
 
     /// The bytes that it shows of a node.
-    pub fn bytes<'a>(&'a self, node: Option<&'a Node>) -> &'a [u8]
-        ensures { result.now ≡ bytes_seen (seen self.now) (shown (option_copied node.entry)) }
-    {
+    pub fn bytes<'a>(&'a self, node: Option<&'a Node>) -> &'a [u8] {
         match self {
             View::Live => bytes_in(node),
             View::Kept(bytes) => bytes.as_slice(),
@@ -67,9 +54,7 @@ impl View {
     }
 
     /// What fstat(2) shows of a node through it.
-    pub fn stat(&self, node: Option<&Node>) -> Reply
-        ensures { result ≡ stat_seen (seen self.now) (shown (option_copied node.entry)) }
-    {
+    pub fn stat(&self, node: Option<&Node>) -> Reply {
         match self {
             View::Live => stat_of(node),
             View::Kept(bytes) => stat_kept(bytes, node),

@@ -1,9 +1,0 @@
-use Rattle.std.proofs.Common.{◌∙◌, refl}
-use Rattle.ov_base.specs.declared.call.Call.TheVariants.{GetAttribute}
-use Rattle.plain_reference.specs.States.{unwatched_of}
-use Rattle.plain_reference.proofs.OrLemmas.{or_same}
-use Rattle.plain_reference.proofs.RuleLemmas.{by_path}
-use Rattle.plain_reference.proofs.unwatched.Unwatched.get_attribute_refusal.Goals as goal
-
-pub returns : goal.returns
-returns c = c.held_attribute_line.ensures ∙ or_same _ _ _ c.in_ok-fault.ensures ∙ by_path (unwatched_of c.args.self.now) c.args.client (GetAttribute c.args.path.now c.args.name.now) _ _ c.in_ok-look.ensures c.node_found-node.ensures refl refl

@@ -1,8 +1,0 @@
-use Rattle.std.proofs.Common.{◌∙◌, refl}
-use Rattle.ov_base.specs.declared.call.Call.TheVariants.{Read}
-use Rattle.plain_reference.specs.States.{unwatched_of}
-use Rattle.plain_reference.proofs.RuleLemmas.{by_handle}
-use Rattle.plain_reference.proofs.unwatched.Unwatched.read_refusal.Goals as goal
-
-pub returns : goal.returns
-returns c = c.read_line.ensures ∙ by_handle (unwatched_of c.args.self.now) c.args.client (Read c.args.descriptor c.args.count) _ _ c.handle-handle.ensures c.handle_node.ensures refl refl

@@ -1,8 +1,0 @@
-use Rattle.std.proofs.Common.{◌∙◌, refl, sym}
-use Rattle.ov_base.specs.declared.call.Call.TheVariants.{Rmdir}
-use Rattle.plain_reference.proofs.StepLemmas.{changed_step}
-use Rattle.plain_reference.proofs.unwatched.Unwatched.rmdir.Goals as goal
-
-pub returns-clause-step : goal.returns-clause-step
-returns-clause-step c =
-    changed_step c.args.self.now c.drop_name.new.self c.args.client (Rmdir c.args.path.now) _ (sym c.in_default.is ∙ c.in_ok-errno.ensures) refl c.in_ok-drop_name.ensures.rest c.in_ok-drop_name.ensures.ok refl
