@@ -8,7 +8,7 @@ use Rattle.ov_base.specs.declared.options.Options.{Options}
 use Rattle.plain_model.specs.Layers.{Layer}
 use Rattle.layer_tree.specs.Tree.{HasMark, Tree, layer_of, layers_given}
 use Rattle.ov_wire.specs.ManifestEntries.{and_then}
-use Rattle.ov_wire.specs.Manifests.{checked, file_limit_of, history_of, history_within, may_metacopy, metacopy_of, options_of, redirects_of, whole_of}
+use Rattle.ov_wire.specs.Manifests.{blobs_checked, checked, file_limit_of, history_of, history_within, may_metacopy, metacopy_of, options_of, redirects_of, whole_of}
 use Rattle.ov_wire.specs.ManifestLayers.{layer_items, layers_fault, manifest_of, unless_fault, HasNoMark}
 use Rattle.ov_wire.specs.declared.manifest.fault.ManifestFault.{ManifestFault}
 use Rattle.ov_wire.specs.declared.manifest.fault.ManifestFault.TheVariants as fault
@@ -65,6 +65,8 @@ said-numbers m o h =
     let c = then-ok (metacopy_of (may_metacopy b.0 m) m) _ o b.2 in
     let d = then-ok (history_of m) _ o c.2 in
     let e = then-ok (file_limit_of m) _ o d.2 in
+    let f = then-ok (blobs_checked m) _ o e.2 in
+    let given = f.2 in
     let places : d.0 ≡ o.history = cc in
     let limit : e.0 ≡ o.file_limit = cc in
     (d.1 ∙ ap Ok places, e.1 ∙ ap Ok limit)
