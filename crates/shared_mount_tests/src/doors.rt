@@ -4,7 +4,7 @@ ghost use Rattle.std.specs.Prelude.{◌≡◌};
 ghost use Rattle.locked_history.specs.Names.{IsNamed};
 
 use crate::gates::Stopping;
-use crate::mounts::{Shut, Silent, blank_of};
+use crate::mounts::{Shut, Silent, blank_of, ended};
 use locked_history::{Blank, Gate, Mount, MountName, Open, Receipt, Session};
 use mount_door::{Departure, run_session};
 use ov_devices::{CountedReader, CountedWriter};
@@ -211,18 +211,20 @@ fn client_left<N: MountName, F: Callback + Drop, R: Rule, H: Wait + Abort>(
     mount: &Mount<N, F, R>,
     hooks: Vec<Hook<F, R>>,
     scenario: Scenario,
-) -> Result<Vec<Receipt<N>>, Fail> {
+    receipts: &mut Vec<Receipt<N>>,
+) -> Result<(), Fail> {
     let client = attached(rt, mount, hooks)?;
-    match scenario {
-        Scenario::Stops => stops(rt, alloc, mount, client),
-        Scenario::StopsInACopy => stops_in_a_copy(rt, alloc, mount, client),
-        Scenario::Fills => fills(rt, alloc, mount, client),
-        Scenario::IsStale => is_stale(rt, alloc, mount, client),
-    }
+    *receipts = match scenario {
+        Scenario::Stops => stops(rt, alloc, mount, client)?,
+        Scenario::StopsInACopy => stops_in_a_copy(rt, alloc, mount, client)?,
+        Scenario::Fills => fills(rt, alloc, mount, client)?,
+        Scenario::IsStale => is_stale(rt, alloc, mount, client)?,
+    };
+    Ok(())
 }
 
-// Whether nothing is left of the first client.
-fn is_left_clean<F: Callback, R: Rule>(core: &Core<F, R>) -> bool {
+/// Whether nothing is left of the first client.
+pub fn is_left_clean<F: Callback, R: Rule>(core: &Core<F, R>) -> bool {
     core.temps() == 0 && core.open_jobs(0) == 0 && !core.is_attached(0)
 }
 
@@ -238,10 +240,12 @@ fn happens<N: MountName, F: Callback + Drop, R: Rule, H: Wait + Abort>(
     requires { IsNamed N.cells N.name N.parts N.opening blank }
 {
     let mount = Mount::<N, F, R>::open(blank);
-    let receipts = client_left(rt, alloc, &mount, hooks, scenario)?;
-    let (past, past_end) = mount.finish(receipts);
-    assert_eq!(rt; past.len(), entries);
-    assert!(rt; past_end.is_empty() && is_left_clean(past.core()));
+    let mut receipts = Vec::new(alloc);
+    let outcome = client_left(rt, alloc, &mount, hooks, scenario, &mut receipts);
+    let end = ended(alloc, mount, receipts);
+    outcome?;
+    assert_eq!(rt; end.entries, entries);
+    assert!(rt; end.handed_back == 0 && end.is_left_clean);
     Ok(())
 }
 

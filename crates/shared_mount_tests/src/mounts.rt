@@ -1,4 +1,7 @@
 // Blank mounts, the callback, the gate and the calls of the tests, and what their entries say.
+use crate::doors::is_left_clean;
+use crate::gates::is_untouched;
+use crate::refusals::is_filled;
 use locked_history::{Blank, Deed, Entry, Gate, Mount, MountName, Pass, Receipt, Refused, Session};
 use ov_base::{Call, Event, Notice, Path, Reply};
 use ov_wire::manifest_of;
@@ -42,6 +45,37 @@ pub fn blank_of<F: Callback + Drop, R: Rule>(
     match Core::mount(alloc, keys, upper, lowers, options) {
         Ok(core) => Blank::new(alloc, core).map_err(|_| Fail::from("out of memory")),
         Err(_) => Err(Fail::from("no mount")),
+    }
+}
+
+/// What is seen of a mount that has ended.
+#[derive(Clone, Copy)]
+pub struct End {
+    /// How many entries its past has.
+    pub entries: usize,
+    /// How many receipts are handed back.
+    pub handed_back: usize,
+    pub temps: usize,
+    pub is_filled: bool,
+    pub is_untouched: bool,
+    pub is_left_clean: bool,
+}
+
+/// Ends a mount, to which the receipts are given back. It and its past are let go nowhere else,
+/// since each place where a core is dropped costs much of a proof.
+pub fn ended<N: MountName, F: Callback + Drop, R: Rule>(
+    alloc: Global,
+    mount: Mount<N, F, R>,
+    receipts: Vec<Receipt<N>>,
+) -> End {
+    let (mut past, left) = mount.finish(receipts);
+    End {
+        entries: past.len(),
+        handed_back: left.len(),
+        temps: past.core().temps(),
+        is_filled: is_filled(&mut past),
+        is_untouched: is_untouched(alloc, &past),
+        is_left_clean: is_left_clean(past.core()),
     }
 }
 

@@ -2,7 +2,7 @@
 // uses the number of the client of its connection, or its client says nothing.
 ghost use Rattle.locked_history.specs.Names.{IsNamed};
 
-use crate::mounts::{Silent, blank_of, looks};
+use crate::mounts::{Silent, blank_of, ended, looks};
 use crate::peers::{DETACH, SHOWN_FIRST, STAT_ROOT, ask, assert_closed, hear, patient};
 use locked_history::{Blank, Mount, MountName, Open, Receipt, Session};
 use socket_server::{Reports, ServeOptions, Served, serve_mount};
@@ -157,15 +157,37 @@ where
     requires { IsNamed N.cells N.name N.parts N.opening blank }
 {
     let mount = Mount::<N, F, R>::open(blank);
-    if let Meeting::IsCrowdedOut = meeting {
-        crowd(rt, alloc, &mount)?;
-    }
-    let (receipts, end) = receipts_of(rt, alloc, options, &mount, meeting)?;
+    let mut receipts = Vec::new(alloc);
+    let outcome = serves(rt, alloc, options, &mount, meeting, &mut receipts);
     let count = receipts.len();
-    let (past, left) = mount.finish(receipts);
-    assert!(rt; left.is_empty() && count == meeting.receipts());
-    assert!(rt; end == meeting.end() && past.len() == meeting.entries());
+    let end = ended(alloc, mount, receipts);
+    let served = outcome?;
+    assert!(rt; end.handed_back == 0 && count == meeting.receipts());
+    assert!(rt; served == meeting.end() && end.entries == meeting.entries());
     Ok(())
+}
+
+// How the server of one worker ends, whose receipts are left.
+fn serves<N, F, R, H>(
+    rt: &H,
+    alloc: Global,
+    options: &ServeOptions<'_>,
+    mount: &Mount<N, F, R>,
+    meeting: Meeting,
+    receipts: &mut Vec<Receipt<N>>,
+) -> Result<Served, Fail>
+where
+    N: MountName + Send + Sync,
+    F: Callback + Copy + Send + Sync,
+    R: Rule + Send + Sync,
+    H: Files + Net + Threads + Wait + Eprint + Abort + Sync,
+{
+    if let Meeting::IsCrowdedOut = meeting {
+        crowd(rt, alloc, mount)?;
+    }
+    let (made, served) = receipts_of(rt, alloc, options, mount, meeting)?;
+    *receipts = made;
+    Ok(served)
 }
 
 // The same under the name of a mount. No type of its signature is a `&str`, since the name couldn't

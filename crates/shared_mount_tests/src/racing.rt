@@ -17,6 +17,9 @@ const WORKERS: usize = 8;
 /// An attach, the calls and a detach of each worker.
 const DEEDS: usize = 5;
 
+/// The entries of all workers.
+pub const RACED: usize = WORKERS * DEEDS;
+
 const FILE: &str = "history = 64
 layer = [{}, {entry = [{path = '/f', kind = 'file', text = 'x'}]}]";
 
@@ -81,24 +84,26 @@ fn all_of<N: MountName>(
     Some(receipts)
 }
 
-/// Each worker's calls are answered, and the past has all of them and nothing else.
+/// Each worker's calls are answered. The receipts of all are left.
 pub fn races<
     N: MountName + Send + Sync,
     F: Callback + Drop + Send,
     R: Rule + Send,
     H: Threads + Wait + Abort + Sync,
->(rt: &H, alloc: Global, mount: Mount<N, F, R>) -> Result<(), Fail> {
-    let shared = &mount;
-    let worked = thread::map_indices(rt, alloc, WORKERS, &|_worker| works(rt, alloc, shared))?;
-    let Some(mut receipts) = all_of(alloc, worked) else {
+>(
+    rt: &H,
+    alloc: Global,
+    mount: &Mount<N, F, R>,
+    receipts: &mut Vec<Receipt<N>>,
+) -> Result<(), Fail> {
+    let worked = thread::map_indices(rt, alloc, WORKERS, &|_worker| works(rt, alloc, mount))?;
+    let Some(all) = all_of(alloc, worked) else {
         return Err(Fail::from("a worker failed"));
     };
-    assert_eq!(rt; receipts.len(), WORKERS * DEEDS);
+    *receipts = all;
+    assert_eq!(rt; receipts.len(), RACED);
     // One `mkdir` and one `unlink` find the name as it was at the mount.
-    assert_eq!(rt; done_calls(&mount, receipts.as_mut_slice()), 2);
-    let (past, left) = mount.finish(receipts);
-    assert!(rt; left.is_empty());
-    assert_eq!(rt; past.len(), WORKERS * DEEDS);
+    assert_eq!(rt; done_calls(mount, receipts.as_mut_slice()), 2);
     Ok(())
 }
 

@@ -23,13 +23,14 @@ const ROOT: Stat = Stat {
     links: 1,
 };
 
-// The client comes, makes the one call that there is a place for, and goes.
-fn fill<N: MountName, F: Callback + Drop, R: Rule, H: Wait + Abort>(
+/// A history of three places has one for the attach, one for its detach, and one for a call: the
+/// client comes, makes that call, and goes.
+pub fn fill<N: MountName, F: Callback + Drop, R: Rule, H: Wait + Abort>(
     rt: &H,
     alloc: Global,
     mount: &Mount<N, F, R>,
-) -> Result<Vec<Receipt<N>>, Fail> {
-    let mut receipts = Vec::with_capacity(alloc, 3)?;
+    receipts: &mut Vec<Receipt<N>>,
+) -> Result<(), Fail> {
     let (mut session, came) = mount.attach(rt, Vec::new(alloc)).map_err(|_| "attach")?;
     receipts.push(came)?;
     let second = mount.attach(rt, Vec::new(alloc)).err();
@@ -41,11 +42,12 @@ fn fill<N: MountName, F: Callback + Drop, R: Rule, H: Wait + Abort>(
     assert_eq!(rt; session.number, 3);
     let (_, gone) = mount.detach(rt, session).map_err(|_| "detach")?;
     receipts.push(gone)?;
-    Ok(receipts)
+    Ok(())
 }
 
-// The call's entry has the status of the root, and the last one is the detach of client 0.
-fn is_filled<N: MountName, F: Callback, R: Rule>(past: &mut Past<N, F, R>) -> bool {
+/// There are three entries, the call's has the status of the root, and the last one is the detach
+/// of client 0.
+pub fn is_filled<N: MountName, F: Callback, R: Rule>(past: &mut Past<N, F, R>) -> bool {
     if past.len() != 3 {
         return false;
     }
@@ -57,19 +59,6 @@ fn is_filled<N: MountName, F: Callback, R: Rule>(past: &mut Past<N, F, R>) -> bo
     let mut gone = past.event(2);
     let last = past.event_of(&mut gone);
     stat && last.client == 0 && last.number == 3
-}
-
-/// A history of three places has one for the attach, one for its detach, and one for a call.
-pub fn fills<N: MountName, F: Callback + Drop, R: Rule, H: Wait + Abort>(
-    rt: &H,
-    alloc: Global,
-    mount: Mount<N, F, R>,
-) -> Result<(), Fail> {
-    let receipts = fill(rt, alloc, &mount)?;
-    let (mut past, left) = mount.finish(receipts);
-    assert!(rt; left.is_empty());
-    assert!(rt; is_filled(&mut past));
-    Ok(())
 }
 
 #[test]

@@ -2,7 +2,7 @@
 ghost use Rattle.std.specs.Prelude.{◌≡◌};
 ghost use Rattle.locked_history.specs.Names.{IsNamed};
 
-use crate::mounts::{Silent, blank_of};
+use crate::mounts::{Silent, blank_of, ended};
 use crate::peers::{DETACH, SHOWN_FIRST, STAT_ROOT, ask, assert_closed, patient};
 use locked_history::{Blank, Mount, MountName, Receipt};
 use socket_server::{Reports, ServeOptions, Served, serve_mount};
@@ -78,10 +78,30 @@ where
     requires { IsNamed N.cells N.name N.parts N.opening blank }
 {
     let mount = Mount::<N, F, R>::open(blank);
-    let receipts = receipts_of(rt, alloc, options, &mount)?;
-    let (past, left) = mount.finish(receipts);
-    assert!(rt; left.is_empty());
-    assert_eq!(rt; past.len(), 8);
+    let mut receipts = Vec::new(alloc);
+    let outcome = serves(rt, alloc, options, &mount, &mut receipts);
+    let end = ended(alloc, mount, receipts);
+    outcome?;
+    assert_eq!(rt; end.handed_back, 0);
+    assert_eq!(rt; end.entries, 8);
+    Ok(())
+}
+
+// Serves both clients, and leaves the receipts of that.
+fn serves<N, F, R, H>(
+    rt: &H,
+    alloc: Global,
+    options: &ServeOptions<'_>,
+    mount: &Mount<N, F, R>,
+    receipts: &mut Vec<Receipt<N>>,
+) -> Result<(), Fail>
+where
+    N: MountName + Send + Sync,
+    F: Callback + Copy + Send + Sync,
+    R: Rule + Send + Sync,
+    H: Files + Net + Threads + Wait + Eprint + Abort + Sync,
+{
+    *receipts = receipts_of(rt, alloc, options, mount)?;
     Ok(())
 }
 

@@ -131,7 +131,7 @@ fn plays<N: MountName, F: Callback + Copy, R: Rule, H: Wait>(
     requires { IsNamed N.cells N.name N.parts N.opening blank }
 {
     let mount = Mount::<N, F, R>::open(blank);
-    let (stop, receipts) = told.play(rt, alloc, &mount, script, hooks)?;
+    let (stop, receipts) = told.play(rt, alloc, &mount, script, hooks);
     let deeds = receipts.len();
     let (past, left) = mount.finish(receipts);
     let is_whole = past.len() == deeds && left.is_empty();
@@ -148,10 +148,10 @@ impl Told {
         mount: &Mount<N, F, R>,
         script: &[u8],
         hooks: &[Hook<F, R>],
-    ) -> Result<(Stop, Vec<Receipt<N>>), AllocError> {
+    ) -> (Result<Stop, AllocError>, Vec<Receipt<N>>) {
         let mut clients = Clients::new(alloc);
-        let stop = self.play_for(rt, alloc, mount, script, hooks, &mut clients)?;
-        Ok((stop, clients.into_receipts()))
+        let stop = self.play_for(rt, alloc, mount, script, hooks, &mut clients);
+        (stop, clients.into_receipts())
     }
 
     fn play_for<N: MountName, F: Callback + Copy, R: Rule, H: Wait>(
@@ -185,9 +185,10 @@ impl Told {
         &mut self,
         alloc: Global,
         core: &Core<F, R>,
-        stop: Stop,
+        stop: Result<Stop, AllocError>,
         is_whole: bool,
     ) -> Result<bool, AllocError> {
+        let stop = stop?;
         if !is_whole {
             self.text.push_str("the past has not what was done\n")?;
             return Ok(false);

@@ -26,9 +26,9 @@ fn unread_by<F: Callback + Copy>(
 ) -> Result<usize, Fail>
     requires { (e : Bor Event) → IsEvent e.now → F.may callback e }
 {
-    let mut core: Core<F, AnyAnswer> = mounted(alloc, keys, EMPTY)?;
     let mut hooks = Vec::new(alloc);
     hooks.push(Hook::new(0, callback))?;
+    let mut core: Core<F, AnyAnswer> = mounted(alloc, keys, EMPTY)?;
     unread_on(rt, alloc, &mut core, hooks)
 }
 

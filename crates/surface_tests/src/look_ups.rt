@@ -1,10 +1,11 @@
 // Chains of redirects in as many layers as there may be, and the way back from an object of the upper to its path.
 use crate::fixtures::{mount, path, read, seen};
-use layer_tree::{Entry, ROOT};
+use layer_tree::{Entry, Layer, ROOT};
 use merged_lookup::Layers;
 use ov_base::{Errno, Name};
 use std::alloc::Global;
 use std::hash::RandomState;
+use std::process::Abort;
 use std::test::Fail;
 
 // 17 layers, in each a chain of eight directories in one another, each with a redirect to the last of them; and a file in that of the
@@ -59,15 +60,19 @@ const TWO_NAMES: &str = "layer = [{entry = [
 fn an_object_is_located_at_the_least_text(rt: HostRuntime) -> Result<(), Fail> {
     let alloc = rt.alloc();
     let layers = mount(alloc, RandomState::new(&rt)?, TWO_NAMES)?;
+    locates(&rt, alloc, &layers)
+}
+
+fn locates(rt: &impl Abort, alloc: Global, layers: &Layers) -> Result<(), Fail> {
     for (text, wanted) in [("/a/b", "/a-"), ("/a-", "/a-"), ("/a", "/a"), ("/", "/")] {
-        let Some(Entry::Object(key)) = layers.upper().find(&path(&rt, alloc, text)) else {
+        let Some(Entry::Object(key)) = layers.upper().find(&path(rt, alloc, text)) else {
             return Err(Fail::from("no object"));
         };
         let Some(located) = layers.locate(alloc, key)? else {
             return Err(Fail::from("no path"));
         };
         assert!(rt;
-            located.names() == path(&rt, alloc, wanted).names(),
+            located.names() == path(rt, alloc, wanted).names(),
             "{text}"
         );
     }
@@ -80,14 +85,26 @@ fn an_object_without_a_name_has_no_path(rt: HostRuntime) -> Result<(), Fail> {
     let manifest = "layer = [{entry = [{path = '/f', kind = 'file'}]}, {}]";
     let keys = RandomState::new(&rt)?;
     let (mut upper, lowers, _) = read(alloc, keys, manifest)?;
-    let name = Name::parse(alloc, b"f")?.expect(&rt, "a name");
-    assert!(rt; upper.is_directory(ROOT));
-    let Some(Entry::Object(key)) = upper.take_out(ROOT, &name) else {
-        return Err(Fail::from("no file"));
-    };
-    assert!(rt; upper.node(key).is_some());
+    let key = unnamed(&rt, alloc, &mut upper);
     let layers = Layers::new(alloc, keys, upper, lowers, 1);
     let layers = layers.map_err(|_| Fail::from("out of memory"))?;
+    has_no_path(&rt, alloc, &layers, key)
+}
+
+// The key of the file, whose name is taken away.
+fn unnamed(rt: &impl Abort, alloc: Global, upper: &mut Layer) -> usize {
+    let parsed = Name::parse(alloc, b"f").expect(rt, "memory");
+    let name = parsed.expect(rt, "a name");
+    assert!(rt; upper.is_directory(ROOT));
+    let key = match upper.take_out(ROOT, &name) {
+        Some(Entry::Object(key)) => key,
+        _ => panic!(rt; "no file"),
+    };
+    assert!(rt; upper.node(key).is_some());
+    key
+}
+
+fn has_no_path(rt: &impl Abort, alloc: Global, layers: &Layers, key: usize) -> Result<(), Fail> {
     assert!(rt; layers.locate(alloc, key)?.is_none());
     Ok(())
 }

@@ -11,7 +11,7 @@ use ov_base::{
     Attributes, Bytes, Call, Mode, Name, ObjectKind, Options, Reply, Stat, UserAttributes,
 };
 use ov_server::{ByTag, ProgramRule};
-use overlay_core::{Core, MountFault};
+use overlay_core::{Core, MountFault, Unmounted};
 use std::alloc::{AllocError, Global};
 use std::hash::RandomState;
 use std::process::Abort;
@@ -139,13 +139,18 @@ fn a_lower_layer_with_a_mark_is_no_mount(rt: HostRuntime) -> Result<(), Fail> {
     put_marked(&rt, alloc, &mut lower, "/f")?;
     let (upper, lowers) = over(alloc, upper, lower)?;
     let back = refused::<ByTag, ProgramRule>(alloc, keys, upper, lowers, options)?;
+    hands_back_marked(&rt, alloc, &back)
+}
+
+// The layers are handed back, the lower one with its mark.
+fn hands_back_marked(rt: &impl Abort, alloc: Global, back: &Unmounted) -> Result<(), Fail> {
     assert!(rt; back.fault == Some(MountFault::BadMetacopy));
     let Some(upper) = &back.upper else {
         return Err(Fail::from("no upper"));
     };
-    assert!(rt; upper.find(&path(&rt, alloc, "/d")).is_some());
+    assert!(rt; upper.find(&path(rt, alloc, "/d")).is_some());
     assert_eq!(rt; back.lowers.len(), 1);
-    assert!(rt; is_marked(&rt, alloc, &back.lowers[0], "/f")?);
+    assert!(rt; is_marked(rt, alloc, &back.lowers[0], "/f")?);
     Ok(())
 }
 
@@ -162,6 +167,11 @@ fn a_mark_that_leads_to_no_lower_file_is_no_mount(rt: HostRuntime) -> Result<(),
 fn refuses_mark(rt: &impl Abort, alloc: Global, keys: RandomState, mark: &str) -> Result<(), Fail> {
     let (upper, lowers, options) = marked_by(rt, alloc, keys, mark)?;
     let back = refused::<ByTag, ProgramRule>(alloc, keys, upper, lowers, options)?;
+    hands_back(rt, alloc, &back, mark)
+}
+
+// The layers are handed back, the upper with this mark.
+fn hands_back(rt: &impl Abort, alloc: Global, back: &Unmounted, mark: &str) -> Result<(), Fail> {
     assert!(rt; back.fault == Some(MountFault::BadMetacopy), "{mark}");
     let Some(upper) = &back.upper else {
         return Err(Fail::from("no upper"));

@@ -1,7 +1,7 @@
 // A directory of a layer gets other marks, and a path is spelled for the layer under the upper.
 use crate::fixtures::{mount, path, read};
 use layer_tree::{Entry, Layer, Marks, ROOT};
-use merged_lookup::Found;
+use merged_lookup::{Found, Layers};
 use ov_base::{Name, Redirect};
 use std::alloc::Global;
 use std::hash::RandomState;
@@ -67,6 +67,11 @@ const REDIRECTS: &str = "layer = [{entry = [
 fn a_path_is_spelled_for_the_layer_below(rt: HostRuntime) -> Result<(), Fail> {
     let alloc = rt.alloc();
     let layers = mount(alloc, RandomState::new(&rt)?, REDIRECTS)?;
+    spells(&rt, alloc, &layers)
+}
+
+fn spells(rt: &impl Abort, alloc: Global, layers: &Layers) -> Result<(), Fail> {
+    has_bases(rt, alloc, layers)?;
     for (text, wanted) in [
         ("/", "/"),
         ("/a", "/a"),
@@ -76,19 +81,23 @@ fn a_path_is_spelled_for_the_layer_below(rt: HostRuntime) -> Result<(), Fail> {
         ("/a/b/c", "/x/y/z"),
         ("/a/b/c/b", "/x/y/z/b"),
     ] {
-        let spelled = layers.spelling_below(alloc, &path(&rt, alloc, text))?;
+        let spelled = layers.spelling_below(alloc, &path(rt, alloc, text))?;
         assert!(rt;
-            spelled.names() == path(&rt, alloc, wanted).names(),
+            spelled.names() == path(rt, alloc, wanted).names(),
             "{text}"
         );
     }
+    Ok(())
+}
+
+fn has_bases(rt: &impl Abort, alloc: Global, layers: &Layers) -> Result<(), Fail> {
     for (text, wanted) in [
         ("/", true),
         ("/a", false),
         ("/a/b", true),
         ("/a/b/c", false),
     ] {
-        let base = match layers.walk(&path(&rt, alloc, text)) {
+        let base = match layers.walk(&path(rt, alloc, text)) {
             Ok(Found::Directory(stack)) => stack.is_base(),
             _ => return Err(Fail::from("no directory")),
         };

@@ -52,6 +52,15 @@ fn visits<F: Callback + Copy, H: Rule>(
     hooks: Vec<Hook<F, H>>,
 ) -> Result<(), Fail> {
     let mut core: Core<F, H> = mounted(alloc, keys, EMPTY)?;
+    visits_on(rt, alloc, &mut core, hooks)
+}
+
+fn visits_on<F: Callback + Copy, H: Rule>(
+    rt: &impl Abort,
+    alloc: Global,
+    core: &mut Core<F, H>,
+    hooks: Vec<Hook<F, H>>,
+) -> Result<(), Fail> {
     if core.finished() != 0 {
         return Err(Fail::from("a history before the first deed"));
     }
@@ -59,7 +68,7 @@ fn visits<F: Callback + Copy, H: Rule>(
         path: path(rt, alloc, "/d"),
         mode: 0o755,
     };
-    let made = visit(&mut core, hooks, call)?;
+    let made = visit(core, hooks, call)?;
     assert!(rt; matches!(made, Reply::Done));
     assert_eq!(rt; core.finished(), 3);
     Ok(())
