@@ -5,8 +5,8 @@ import re
 import struct
 import time
 
-from servers import (ARM_FILE, CLOSED, DETACH, DONE, NOTICES, OPEN_FILE, SHOWN_ROOT, STAT_ROOT,
-                     expect, serving, together)
+from servers import (ARM_FILE, CLOSED, DETACH, DONE, NOTICES, OPEN_FILE, STAT_ROOT, expect, serving,
+                     together)
 
 IDLE = 1
 # Two lines each, which are more than a pipe of one page has room for and 1,024 that wait.
