@@ -57,6 +57,12 @@ either-ok : (b : Bool) (o x : Options) (f : ManifestFault) → cond b (Ok o) (Er
 either-ok true o x f h = cc
 either-ok false o x f h = absurd (cc)
 
+abbrev opted : Options → Result Options ManifestFault
+opted o = Ok o
+
+unwrapped : (x y : Options) → opted x ≡ Ok y → x ≡ y
+unwrapped x y e = cc
+
 -- the numbers among options are those that their keys tell
 said-numbers : (m : Members) (o : Options) → options_of m ≡ Ok o → (history_of m ≡ Ok o.history) × (file_limit_of m ≡ Ok o.file_limit)
 said-numbers m o h =
@@ -66,10 +72,12 @@ said-numbers m o h =
     let d = then-ok (history_of m) _ o c.2 in
     let e = then-ok (file_limit_of m) _ o d.2 in
     let f = then-ok (blobs_checked m) _ o e.2 in
-    let given = f.2 in
-    let places : d.0 ≡ o.history = cc in
-    let limit : e.0 ≡ o.file_limit = cc in
-    (d.1 ∙ ap Ok places, e.1 ∙ ap Ok limit)
+    of b.0 c.0 d.0 e.0 f.2 d.1 e.1
+  where
+    of : (redirects metacopy : Bool) (history limit : ℕ) → opted (record { redirects = redirects; metacopy = metacopy; history = history; file_limit = limit }) ≡ Ok o → history_of m ≡ Ok history → file_limit_of m ≡ Ok limit → (history_of m ≡ Ok o.history) × (file_limit_of m ≡ Ok o.file_limit)
+    of redirects metacopy history limit is places most =
+        let same = unwrapped (record { redirects = redirects; metacopy = metacopy; history = history; file_limit = limit }) o is in
+        (places ∙ ap (λ (x : Options). Ok x.history) same, most ∙ ap (λ (x : Options). Ok x.file_limit) same)
 
 -- so are those of a manifest
 manifest-numbers : (blobs : List (List ℕ)) (m : Members) (o : Options) → manifest_of blobs m ≡ Ok o → (history_of m ≡ Ok o.history) × (file_limit_of m ≡ Ok o.file_limit)
