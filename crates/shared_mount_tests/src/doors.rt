@@ -1,8 +1,9 @@
-// Sessions of a mount over bytes in memory: calls that have no place in the history, and gates that
-// stop.
+// Sessions of a mount over bytes in memory: calls that have no place in the history, gates that
+// stop, and a read or a write that fails.
 ghost use Rattle.std.specs.Prelude.{◌≡◌};
 ghost use Rattle.locked_history.specs.Names.{IsNamed};
 
+use crate::devices::Once;
 use crate::gates::Stopping;
 use crate::mounts::{Shut, Silent, blank_of, ended};
 use locked_history::{Blank, Gate, Mount, MountName, Open, Receipt, Session};
@@ -12,6 +13,7 @@ use ov_session::{Ending, SessionOutput};
 use overlay_core::Core;
 use std::alloc::Global;
 use std::hash::RandomState;
+use std::io::{Read, Write};
 use std::marker::Brand;
 use std::process::Abort;
 use std::sync::Wait;
@@ -61,6 +63,8 @@ enum Scenario {
     StopsInACopy,
     Fills,
     IsStale,
+    ReadFails,
+    WriteFails,
 }
 
 // The bytes one behind the other.
@@ -84,6 +88,33 @@ fn attached<N: MountName, F: Callback + Drop, R: Rule, H: Wait>(
     }
 }
 
+// Runs a session of an attached client over a reader and a writer.
+fn session_over<N: MountName, F: Callback + Drop, R: Rule, G: Gate, H: Wait, I: Read, O: Write>(
+    rt: &H,
+    alloc: Global,
+    mount: &Mount<N, F, R>,
+    gate: &G,
+    client: (Session, Receipt<N>),
+    reader: &mut I,
+    writer: &mut O,
+) -> Result<Departure<N, F, R>, Fail> {
+    let mut receipts = Vec::new(alloc);
+    receipts.reserve(2)?;
+    receipts.push_reserved(client.1);
+    let mut input = CountedReader::new(reader);
+    let mut output = SessionOutput::new(alloc, CountedWriter::new(writer));
+    Ok(run_session(
+        rt,
+        alloc,
+        mount,
+        gate,
+        client.0,
+        receipts,
+        &mut input,
+        &mut output,
+    ))
+}
+
 // Runs a session of an attached client that sends these bytes, and what is written.
 fn session_left<N: MountName, F: Callback + Drop, R: Rule, G: Gate, H: Wait>(
     rt: &H,
@@ -93,23 +124,9 @@ fn session_left<N: MountName, F: Callback + Drop, R: Rule, G: Gate, H: Wait>(
     client: (Session, Receipt<N>),
     bytes: &[u8],
 ) -> Result<(Departure<N, F, R>, Vec<u8>), Fail> {
-    let mut receipts = Vec::new(alloc);
-    receipts.reserve(2)?;
-    receipts.push_reserved(client.1);
     let mut written = Vec::new(alloc);
-    let mut input = CountedReader::new(bytes);
-    let mut output = SessionOutput::new(alloc, CountedWriter::new(&mut written));
-    let left = run_session(
-        rt,
-        alloc,
-        mount,
-        gate,
-        client.0,
-        receipts,
-        &mut input,
-        &mut output,
-    );
-    drop(output);
+    let mut sent = bytes;
+    let left = session_over(rt, alloc, mount, gate, client, &mut sent, &mut written)?;
     Ok((left, written))
 }
 
@@ -204,6 +221,30 @@ fn is_stale<N: MountName, F: Callback + Drop, R: Rule, H: Wait + Abort>(
     Ok(receipts_of(left))
 }
 
+// A client asks once, and then a device fails once: what was made stands, and the client is detached
+// with its hook.
+fn device_fails<N: MountName, F: Callback + Drop, R: Rule, H: Wait + Abort>(
+    rt: &H,
+    alloc: Global,
+    mount: &Mount<N, F, R>,
+    client: (Session, Receipt<N>),
+    fails_to_write: bool,
+) -> Result<Vec<Receipt<N>>, Fail> {
+    let (reads, writes, end, wanted): (usize, usize, Ending, &[u8]) = if fails_to_write {
+        (usize::MAX, 0, Ending::Write, &[])
+    } else {
+        (1, usize::MAX, Ending::Read, ABSENT_AT_1)
+    };
+    let mut reader = Once::new(STAT_ABSENT, reads);
+    let mut writer = Once::new(Vec::new(alloc), writes);
+    let left = session_over(rt, alloc, mount, &Open, client, &mut reader, &mut writer)?;
+    assert_eq!(rt; left.ending, end);
+    assert!(rt; writer.device.as_slice() == wanted);
+    assert!(rt; left.calls == 1 && left.receipts.len() == 3);
+    assert!(rt; matches!(&left.hooks, Some(hooks) if hooks.len() == 1));
+    Ok(receipts_of(left))
+}
+
 // What happens to a client with these hooks; its receipts are left.
 fn client_left<N: MountName, F: Callback + Drop, R: Rule, H: Wait + Abort>(
     rt: &H,
@@ -219,6 +260,8 @@ fn client_left<N: MountName, F: Callback + Drop, R: Rule, H: Wait + Abort>(
         Scenario::StopsInACopy => stops_in_a_copy(rt, alloc, mount, client)?,
         Scenario::Fills => fills(rt, alloc, mount, client)?,
         Scenario::IsStale => is_stale(rt, alloc, mount, client)?,
+        Scenario::ReadFails => device_fails(rt, alloc, mount, client, false)?,
+        Scenario::WriteFails => device_fails(rt, alloc, mount, client, true)?,
     };
     Ok(())
 }
@@ -273,6 +316,8 @@ fn all_happen<F: Callback + Copy, R: Rule, H: Wait + Abort>(
         (FILE, Scenario::StopsInACopy, 4),
         (THREE_PLACES, Scenario::Fills, 3),
         (EMPTY, Scenario::IsStale, 2),
+        (EMPTY, Scenario::ReadFails, 3),
+        (EMPTY, Scenario::WriteFails, 3),
     ];
     for (manifest, scenario, entries) in scenarios {
         let blank = blank_of::<F, R>(alloc, keys, manifest)?;
