@@ -1,0 +1,5 @@
+pub mod Adding
+pub mod Fronts
+pub mod Growing
+pub mod Keeping
+pub mod Numbering
