@@ -1,5 +1,0 @@
-pub mod Adding
-pub mod Fronts
-pub mod Growing
-pub mod Keeping
-pub mod Numbering
