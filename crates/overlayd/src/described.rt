@@ -23,8 +23,7 @@ pub(crate) fn read_manifest<R: Files + AllocGlobal>(
     rt: &R,
     path: &str,
     limit: u64,
-) -> Result<Described, Fault>
-{
+) -> Result<Described, Fault> {
     let Some(manifest) = bytes_of(rt, path, limit)? else {
         return Err(Fault::CannotReadManifest);
     };
@@ -40,8 +39,7 @@ fn read_blobs<R: Files + AllocGlobal>(
     path: &str,
     manifest: &Table,
     limit: u64,
-) -> Result<Vec<Bytes>, Fault>
-{
+) -> Result<Vec<Bytes>, Fault> {
     let names = blobs_of(rt.alloc(), manifest)?;
     let mut left = limit;
     let mut blobs = Vec::with_capacity(rt.alloc(), names.len())?;
