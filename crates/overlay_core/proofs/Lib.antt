@@ -32,6 +32,7 @@ pub mod Waited
 pub mod ReadRefusals
 pub mod ReadOnly
 pub mod ReadSteps
+pub mod Plain
 pub mod Marks
 pub mod Numbering
 pub mod LegalHistories

@@ -81,3 +81,7 @@ module _ (s : State) (c : ℕ) (k : Call) where
   -- nothing refuses what doesn't
   pub refused-none : refusal (writable s) c k ≡ None → writes (writable s) k ≡ false → refusal s c k ≡ None
   refused-none none never = refusal-reading s c k (sym (same-writes s k) ∙ never) ∙ other-reason None none
+
+  -- a call that writes nothing is refused as where all may be written
+  pub refused-same : writes s k ≡ false → refusal s c k ≡ refusal (writable s) c k
+  refused-same never = refusal-reading s c k never ∙ other-reason (refusal (writable s) c k) refl

@@ -23,7 +23,7 @@ ghost use Rattle.ov_base.specs.declared.reply.Reply.TheVariants as Reply;
 use crate::blank_upper::upper_over;
 use crate::job::{Job, Standing};
 use crate::mount_faults::{MountFault, fault_of};
-use crate::reading::answer;
+use crate::reading::{answer, is_answered};
 use crate::stepping::{make, step};
 use crate::turn::Turn;
 use crate::waiting::Waiting;
@@ -289,9 +289,9 @@ impl<F: Callback, R: Rule> Core<F, R> {
 
     /// One step of a job that is open, of a client that is attached: what the call would answer now
     /// is asked first. Where something has to be copied up before it, the step places one missing
-    /// parent, begins a temp of the lower file, or copies 4,096 bytes into it. Else it makes the
-    /// call, and those who watch are notified. An allocation failure gives the job up and leaves all
-    /// that is shown as it was.
+    /// parent, begins a temp of the lower file, or copies its next chunk: 4,096 bytes, or the 256th
+    /// part of a file of more than 1 MiB. Else it makes the call, and those who watch are notified.
+    /// An allocation failure gives the job up and leaves all that is shown as it was.
     pub fn advance(&mut self, job: &mut Job) -> Turn
         requires open { job.old.standing ≡ Standing.Open }
         requires attached { has_client self.old job.old.client ≡ true }
@@ -315,7 +315,7 @@ impl<F: Callback, R: Rule> Core<F, R> {
             LeavesMarks job.old.call (core_layers self.old) (core_layers self.new) }
         ensures kept { CoreKeeps self.old self.new }
     {
-        if self.read_only {
+        if is_answered(self.read_only, job) {
             return self.answer(job);
         }
         match step(&mut self.watched, &mut self.work, &mut self.waiting, job) {
@@ -351,7 +351,7 @@ impl<F: Callback, R: Rule> Core<F, R> {
         ensures work { core_work self.new ≡ without (core_work self.old) job.old }
         ensures kept { CoreKeeps self.old self.new }
     {
-        if self.read_only {
+        if is_answered(self.read_only, job) {
             return self.answer(job);
         }
         self.waiting.clear();
@@ -365,10 +365,10 @@ impl<F: Callback, R: Rule> Core<F, R> {
         }
     }
 
-    // The one step of a job where nothing may be written.
-    #[inline(always)]
+    // The one step of a job whose call may lack something, where nothing may be written.
     fn answer(&mut self, job: &mut Job) -> Turn
         requires read_only { core_read_only self.old ≡ true }
+        requires may { may_lack job.old.call ≡ true }
         requires open { job.old.standing ≡ Standing.Open }
         requires attached { has_client self.old job.old.client ≡ true }
         requires bound { core_finished self.old + 1 < 2 ^ 63 }

@@ -1,6 +1,6 @@
 // The one step of a job on a mount without an upper, where nothing may be written (overlayfs.rst,
 // "Multiple lower layers"): EROFS is the last reason of all.
-ghost use Rattle.std.specs.Prelude.{◌≡◌, ◌≢◌, [], true, false, IfSome, None, Some};
+ghost use Rattle.std.specs.Prelude.{◌≡◌, ◌≢◌, ◌&&◌, [], true, false, IfSome, None, Some};
 ghost use Rattle.plain_model.specs.Machine.{State, writable};
 ghost use Rattle.plain_model.specs.Refusals.{refusal, writes};
 ghost use Rattle.merged_lookup.specs.Merged.{upper_of, lowers_of};
@@ -14,7 +14,7 @@ ghost use Rattle.overlay_core.specs.Reading.{Reads};
 ghost use Rattle.overlay_core.specs.Steps.{IsStepped};
 ghost use Rattle.overlay_core.specs.Watching.{HasState};
 
-use crate::finishing::{finish_seen, plain};
+use crate::finishing::finish_seen;
 use crate::job::{Job, Standing};
 use crate::turn::Turn;
 use crate::watched::Watched;
@@ -22,20 +22,26 @@ use mount_calls::{LookedPaths, Looks, Mount, looked_paths, may_lack};
 use ov_base::{Errno, Reply};
 use watch_table::{Callback, Rule};
 
-// Makes the call of a job, or refuses it where it would write.
+// Whether the step of a job is one for a mount without an upper: its call may lack something there. Any
+// other is made in the same way as over an upper.
 #[inline(always)]
+pub(crate) fn is_answered(read_only: bool, job: &Job) -> bool
+    ensures { result ≡ (lacks.may_lack job.now.call && read_only) }
+{
+    may_lack(job.call()) && read_only
+}
+
+// Makes the call of a job that may lack something, or refuses it where it would write.
 pub(crate) fn answer<F: Callback, R: Rule>(watched: &mut Watched<F, R>, job: &mut Job) -> Turn
     requires open { job.old.standing ≡ Standing.Open }
     requires attached { is_attached watched.old.mount.clients job.old.client ≡ true }
     requires state { ∥ HasState watched.old.mount watched.old.notifier ∥₁ }
+    requires may { lacks.may_lack job.old.call ≡ true }
     ensures reads { Reads watched.old watched.new job.old job.new R.shows result }
     ensures stepped { IsStepped job.old job.new }
     ensures memory { takes_no_memory job.old.call ≡ true → result ≢ Turn.NoMemory }
 {
     watched.mount.remember(job.call());
-    if !may_lack(job.call()) {
-        return plain(watched, job);
-    }
     match looked_paths(job.call()) {
         LookedPaths::None => unreachable!(),
         LookedPaths::One(path) => {

@@ -56,6 +56,7 @@ pub(crate) fn step<F: Callback, R: Rule>(
     ensures stepped { IsStepped job.old job.new }
     ensures memory { takes_no_memory job.old.call ≡ true → result ≢ Turn.NoMemory }
     ensures at_once { lacks.may_lack job.old.call ≡ false → result ≢ Turn.More }
+    ensures plain { lacks.may_lack job.old.call ≡ false → work.new ≡ without work.old job.old }
 {
     if copies_on(waiting.first(), job, temp_of(work, job)) {
         return copy(watched, work, job);

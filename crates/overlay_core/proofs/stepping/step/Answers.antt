@@ -47,6 +47,10 @@ pub returns-then-copies_on-clause-at_once : goal.returns-then-copies_on-clause-a
 returns-then-copies_on-clause-at_once g c = λ plain is.
     false≢true (sym plain ∙ c.if-copies_on.ensures.may refl)
 
+pub returns-then-copies_on-clause-plain : goal.returns-then-copies_on-clause-plain
+returns-then-copies_on-clause-plain g c = λ plain.
+    absurd (false≢true (sym plain ∙ c.if-copies_on.ensures.may refl))
+
 pub returns-then-not-may_lack-clause-makes : goal.returns-then-not-may_lack-clause-makes
 returns-then-not-may_lack-clause-makes g c =
     let m = c.remember.new.self in

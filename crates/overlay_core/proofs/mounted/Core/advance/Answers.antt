@@ -1,11 +1,17 @@
 use Rattle.std.proofs.Common.{false, ◌+◌, refl, sym, ◌∙◌}
-use Rattle.std.proofs.lemmas.Bool.{false≢true}
 use Rattle.plain_model.specs.Runs.{Called}
 use Rattle.overlay_core.specs.Mounting.{machine_options}
 use Rattle.overlay_core.proofs.Agreeing.{given-more, given-same, goes-on, has-begun, some-finished, some-more, stays-on}
-use Rattle.overlay_core.proofs.ReadOnly.{agrees-plain, goes-as, stays-as}
+use Rattle.overlay_core.proofs.Plain.{blank-plain, both, goes-plain, idle-plain, next-plain, not-both}
+use Rattle.overlay_core.proofs.ReadOnly.{stays-as}
 use Rattle.overlay_core.proofs.StepsMade.{brings-made}
 use Rattle.overlay_core.proofs.mounted.Core.advance.Goals as goal
+
+pub answer-requires-clause-read_only : goal.answer-requires-clause-read_only
+answer-requires-clause-read_only g c = (both _ _ (sym c.is_answered.ensures ∙ c.if-is_answered.true)).1
+
+pub answer-requires-clause-may : goal.answer-requires-clause-may
+answer-requires-clause-may g c = (both _ _ (sym c.is_answered.ensures ∙ c.if-is_answered.true)).0
 
 pub invariant_of-self : goal.invariant_of-self
 invariant_of-self g c =
@@ -20,8 +26,8 @@ invariant_of-self g c =
       short = c.args.self.now.short;
       waits = c.in-Done.ensures.waits;
       temps = made.temps;
-      blank = λ only. absurd (false≢true (sym c.if-self.false ∙ only));
-      idle = λ only. absurd (false≢true (sym c.if-self.false ∙ only));
+      blank = blank-plain c.args.self.now.read_only c.args.job.now.call (λ only. not-both _ _ (sym c.is_answered.ensures ∙ c.if-is_answered.false) only) old.mount.layers new.mount.layers made.lowers made.layers c.args.self.now.blank;
+      idle = λ only. idle-plain c.args.self.now.read_only c.args.job.now.call (λ only. not-both _ _ (sym c.is_answered.ensures ∙ c.if-is_answered.false) only) c.args.self.now.work c.step.new.work c.args.job.now (c.in-Done.ensures.plain (not-both _ _ (sym c.is_answered.ensures ∙ c.if-is_answered.false) only)) c.args.self.now.idle only;
     }
 
 pub returns-in-Done-clause-turn : goal.returns-in-Done-clause-turn
@@ -30,12 +36,12 @@ returns-in-Done-clause-turn g c =
     let new = c.step.new.watched in
     let job = c.args.job.now in
     let turns = c.in-Done.ensures.makes.2.turns in
-    (goes-as old.mount new.mount old.notifier new.notifier g.R.Rule.shows job.client (Called job.call c.in-Done.reply) c.args.self.now.read_only c.if-self.false turns.0, turns.1)
+    (goes-plain c.args.self.now.read_only job.call (λ only. not-both _ _ (sym c.is_answered.ensures ∙ c.if-is_answered.false) only) old.mount new.mount old.notifier new.notifier g.R.Rule.shows job.client c.in-Done.reply turns.0, turns.1)
 
 pub returns-in-Done-clause-step : goal.returns-in-Done-clause-step
 returns-in-Done-clause-step g c = λ s a.
     let old = c.args.self.now.watched in
-    rw (c.in-Done.ensures.makes.1 s (agrees-plain c.args.self.now.read_only old.mount old.notifier s c.if-self.false a)) c.in-Done.ensures.makes.2.steps
+    rw (next-plain c.args.self.now.read_only c.args.job.now.call (λ only. not-both _ _ (sym c.is_answered.ensures ∙ c.if-is_answered.false) only) old.mount old.notifier c.args.job.now _ _ refl c.in-Done.ensures.makes.1 s a) c.in-Done.ensures.makes.2.steps
 
 pub returns-in-Done-clause-kept : goal.returns-in-Done-clause-kept
 returns-in-Done-clause-kept g c =
@@ -70,8 +76,8 @@ invariant_of-self-in-More g c =
       short = c.args.self.now.short;
       waits = c.in-More.ensures.waits;
       temps = made.temps;
-      blank = λ only. absurd (false≢true (sym c.if-self.false ∙ only));
-      idle = λ only. absurd (false≢true (sym c.if-self.false ∙ only));
+      blank = λ only. absurd (c.in-More.ensures.at_once (not-both _ _ (sym c.is_answered.ensures ∙ c.if-is_answered.false) only) refl);
+      idle = λ only. absurd (c.in-More.ensures.at_once (not-both _ _ (sym c.is_answered.ensures ∙ c.if-is_answered.false) only) refl);
     }
 
 pub returns-in-More-clause-turn : goal.returns-in-More-clause-turn
@@ -81,10 +87,14 @@ returns-in-More-clause-turn g c =
     let turns = c.in-More.ensures.makes.2.turns in
     (stays-as old.mount new.mount old.notifier new.notifier c.args.self.now.read_only turns.0, turns.1)
 
+pub returns-in-More-clause-read_only : goal.returns-in-More-clause-read_only
+returns-in-More-clause-read_only g c = λ only is.
+    c.in-More.ensures.at_once (not-both _ _ (sym c.is_answered.ensures ∙ c.if-is_answered.false) only) refl
+
 pub returns-in-More-clause-step : goal.returns-in-More-clause-step
 returns-in-More-clause-step g c = λ s a.
     let old = c.args.self.now.watched in
-    rw (c.in-More.ensures.makes.1 s (agrees-plain c.args.self.now.read_only old.mount old.notifier s c.if-self.false a)) c.in-More.ensures.makes.2.steps
+    rw (next-plain c.args.self.now.read_only c.args.job.now.call (λ only. not-both _ _ (sym c.is_answered.ensures ∙ c.if-is_answered.false) only) old.mount old.notifier c.args.job.now _ _ refl c.in-More.ensures.makes.1 s a) c.in-More.ensures.makes.2.steps
 
 pub returns-in-More-clause-kept : goal.returns-in-More-clause-kept
 returns-in-More-clause-kept g c =
@@ -116,8 +126,8 @@ invariant_of-self-in-NoMemory g c =
       short = c.args.self.now.short;
       waits = c.in-NoMemory.ensures.waits;
       temps = made.temps;
-      blank = λ only. absurd (false≢true (sym c.if-self.false ∙ only));
-      idle = λ only. absurd (false≢true (sym c.if-self.false ∙ only));
+      blank = blank-plain c.args.self.now.read_only c.args.job.now.call (λ only. not-both _ _ (sym c.is_answered.ensures ∙ c.if-is_answered.false) only) old.mount.layers new.mount.layers made.lowers made.layers c.args.self.now.blank;
+      idle = λ only. idle-plain c.args.self.now.read_only c.args.job.now.call (λ only. not-both _ _ (sym c.is_answered.ensures ∙ c.if-is_answered.false) only) c.args.self.now.work c.step.new.work c.args.job.now (c.in-NoMemory.ensures.plain (not-both _ _ (sym c.is_answered.ensures ∙ c.if-is_answered.false) only)) c.args.self.now.idle only;
     }
 
 pub returns-in-NoMemory-clause-turn : goal.returns-in-NoMemory-clause-turn
@@ -130,7 +140,7 @@ returns-in-NoMemory-clause-turn g c =
 pub returns-in-NoMemory-clause-step : goal.returns-in-NoMemory-clause-step
 returns-in-NoMemory-clause-step g c = λ s a.
     let old = c.args.self.now.watched in
-    rw (c.in-NoMemory.ensures.makes.1 s (agrees-plain c.args.self.now.read_only old.mount old.notifier s c.if-self.false a)) c.in-NoMemory.ensures.makes.2.steps
+    rw (next-plain c.args.self.now.read_only c.args.job.now.call (λ only. not-both _ _ (sym c.is_answered.ensures ∙ c.if-is_answered.false) only) old.mount old.notifier c.args.job.now _ _ refl c.in-NoMemory.ensures.makes.1 s a) c.in-NoMemory.ensures.makes.2.steps
 
 pub returns-in-NoMemory-clause-kept : goal.returns-in-NoMemory-clause-kept
 returns-in-NoMemory-clause-kept g c =

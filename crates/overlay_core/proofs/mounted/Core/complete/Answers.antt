@@ -1,12 +1,18 @@
 use Rattle.std.proofs.Common.{false, ◌+◌, refl, sym, ◌∙◌}
-use Rattle.std.proofs.lemmas.Bool.{false≢true}
 use Rattle.plain_model.specs.Runs.{Called}
 use Rattle.overlay_core.specs.Mounting.{machine_options}
 use Rattle.overlay_core.proofs.Agreeing.{given-more, given-same, goes-on, has-begun, some-finished, some-more, stays-on}
-use Rattle.overlay_core.proofs.ReadOnly.{goes-as, stays-as}
+use Rattle.overlay_core.proofs.Plain.{blank-plain, both, goes-plain, idle-plain, not-both}
+use Rattle.overlay_core.proofs.ReadOnly.{stays-as}
 use Rattle.overlay_core.proofs.StepsMade.{brings-made}
 use Rattle.overlay_core.proofs.Waited.{none-waits}
 use Rattle.overlay_core.proofs.mounted.Core.complete.Goals as goal
+
+pub answer-requires-clause-read_only : goal.answer-requires-clause-read_only
+answer-requires-clause-read_only g c = (both _ _ (sym c.is_answered.ensures ∙ c.if-is_answered.true)).1
+
+pub answer-requires-clause-may : goal.answer-requires-clause-may
+answer-requires-clause-may g c = (both _ _ (sym c.is_answered.ensures ∙ c.if-is_answered.true)).0
 
 pub invariant_of-self : goal.invariant_of-self
 invariant_of-self g c =
@@ -21,8 +27,8 @@ invariant_of-self g c =
       short = c.args.self.now.short;
       waits = none-waits new.mount c.clear.new.self.items c.clear.ensures.items;
       temps = made.temps;
-      blank = λ only. absurd (false≢true (sym c.if-self.false ∙ only));
-      idle = λ only. absurd (false≢true (sym c.if-self.false ∙ only));
+      blank = blank-plain c.args.self.now.read_only c.args.job.now.call (λ only. not-both _ _ (sym c.is_answered.ensures ∙ c.if-is_answered.false) only) old.mount.layers new.mount.layers made.lowers made.layers c.args.self.now.blank;
+      idle = idle-plain c.args.self.now.read_only c.args.job.now.call (λ only. not-both _ _ (sym c.is_answered.ensures ∙ c.if-is_answered.false) only) c.args.self.now.work c.make.new.work c.args.job.now c.make.ensures.work c.args.self.now.idle;
     }
 
 pub returns-in-Done-clause-turn : goal.returns-in-Done-clause-turn
@@ -31,7 +37,7 @@ returns-in-Done-clause-turn g c =
     let new = c.make.new.watched in
     let job = c.args.job.now in
     let turns = c.in-Done.ensures.makes.turns in
-    (goes-as old.mount new.mount old.notifier new.notifier g.R.Rule.shows job.client (Called job.call c.in-Done.reply) c.args.self.now.read_only c.if-self.false turns.0, turns.1)
+    (goes-plain c.args.self.now.read_only job.call (λ only. not-both _ _ (sym c.is_answered.ensures ∙ c.if-is_answered.false) only) old.mount new.mount old.notifier new.notifier g.R.Rule.shows job.client c.in-Done.reply turns.0, turns.1)
 
 pub returns-in-Done-clause-kept : goal.returns-in-Done-clause-kept
 returns-in-Done-clause-kept g c =
@@ -61,8 +67,8 @@ invariant_of-self-in-NoMemory g c =
       short = c.args.self.now.short;
       waits = none-waits new.mount c.clear.new.self.items c.clear.ensures.items;
       temps = made.temps;
-      blank = λ only. absurd (false≢true (sym c.if-self.false ∙ only));
-      idle = λ only. absurd (false≢true (sym c.if-self.false ∙ only));
+      blank = blank-plain c.args.self.now.read_only c.args.job.now.call (λ only. not-both _ _ (sym c.is_answered.ensures ∙ c.if-is_answered.false) only) old.mount.layers new.mount.layers made.lowers made.layers c.args.self.now.blank;
+      idle = idle-plain c.args.self.now.read_only c.args.job.now.call (λ only. not-both _ _ (sym c.is_answered.ensures ∙ c.if-is_answered.false) only) c.args.self.now.work c.make.new.work c.args.job.now c.make.ensures.work c.args.self.now.idle;
     }
 
 pub returns-in-NoMemory-clause-turn : goal.returns-in-NoMemory-clause-turn
