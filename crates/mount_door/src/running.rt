@@ -58,7 +58,7 @@ where
     ensures input { InputAt (S.failures input.old) (S.failures input.new) (S.reads input.new)
         result.ending }
     ensures reads { (S.reads input.old ≤ S.reads input.new)
-        × (S.reads input.new ≤ S.reads input.old + 4294967295) }
+        × (S.reads input.new ≤ S.reads input.old + 140737488355327) }
     ensures output { OutputAt (K.failures output.old.sink) (K.failures output.new.sink)
         result.ending }
 {

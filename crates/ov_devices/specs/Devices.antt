@@ -17,7 +17,7 @@ failed (Err fault) = fails fault
 -- the failures before and after a fault: one more where it is a failure, up to a last one
 abbrev pub CountsFault : ℕ → ℕ → Fault → Type 0
 CountsFault before after Memory = after ≡ before
-CountsFault before after Failed = (before < 4294967295 → after ≡ before + 1) × (0 < after)
+CountsFault before after Failed = (before < 18446744073709551615 → after ≡ before + 1) × (0 < after)
 
 -- and what a call answers
 abbrev pub Counts : {T : Type 0} → ℕ → ℕ → Result T Fault → Type 0

@@ -14,8 +14,8 @@ pub enum Fault {
     Failed,
 }
 
-/// What an error of the host is, counted where it is a failure: up to the 4,294,967,295th.
-pub(crate) fn counted(error: io::Error, failures: &mut u32) -> Fault
+/// What an error of the host is, counted where it is a failure: up to the 18,446,744,073,709,551,615th.
+pub(crate) fn counted(error: io::Error, failures: &mut u64) -> Fault
     ensures fault { IsFaultOf (error_kind error) result }
     ensures failures { CountsFault failures.old failures.new result }
 {

@@ -6,14 +6,17 @@ use crate::source::Source;
 use std::io;
 use std::io::Read;
 
+/// The most reads that are made: 2^47 - 1.
+const READS_MAX: u64 = 140_737_488_355_327;
+
 /// A reader, and how many reads were made and failed. Want of memory and an interruption are no
 /// failures.
 #[derive(Drop)]
 pub struct CountedReader<R> {
     reader: R,
-    reads: u32,
-    failures: u32,
-    ghost bounded: { reads ≤ 4294967295 },
+    reads: u64,
+    failures: u64,
+    ghost bounded: { reads ≤ 140737488355327 },
     ghost fewer: { failures ≤ reads },
 }
 
@@ -41,8 +44,8 @@ impl<R: Read> Source for CountedReader<R> {
 
     ghost bounded = { λ s. s.bounded };
 
-    fn reads_left(&self) -> u32 {
-        u32::MAX - self.reads
+    fn reads_left(&self) -> u64 {
+        READS_MAX - self.reads
     }
 
     fn read(&mut self, piece: &mut [u8]) -> Result<Option<usize>, Fault> {

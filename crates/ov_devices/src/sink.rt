@@ -5,7 +5,8 @@ ghost use Rattle.ov_devices.specs.Devices.{Counts};
 
 use crate::fault::Fault;
 
-/// A writer that counts the writes and flushes that failed, up to 4,294,967,295 of them.
+/// A writer that counts the writes and flushes that failed, up to
+/// 18,446,744,073,709,551,615 of them.
 pub trait Sink {
     /// The bytes that the writer holds, where they are known.
     ghost contents: { Self → Option (List ℕ) };

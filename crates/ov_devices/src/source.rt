@@ -5,7 +5,8 @@ ghost use Rattle.ov_devices.specs.Devices.{Gives, failed};
 
 use crate::fault::Fault;
 
-/// A reader that is read at most 4,294,967,295 times, and counts its reads and those that failed.
+/// A reader that is read at most 140,737,488,355,327 times, a million times a second for more than
+/// four years, and counts its reads and those that failed.
 pub trait Source {
     /// The bytes that reads will give from here on, where they are known.
     ghost remaining: { Self → Option (List ℕ) };
@@ -17,14 +18,14 @@ pub trait Source {
     ghost failures: { Self → ℕ };
 
     /// How many reads are left.
-    fn reads_left(&self) -> u32
-        ensures { result + reads self.now ≡ 4294967295 };
+    fn reads_left(&self) -> u64
+        ensures { result + reads self.now ≡ 140737488355327 };
 
     /// How many bytes a read gives, 0 at the end; none where it was interrupted, and is to be made
     /// again.
     fn read(&mut self, piece: &mut [u8]) -> Result<Option<usize>, Fault>
         requires room { 0 < length piece.old }
-        requires left { reads self.old < 4294967295 }
+        requires left { reads self.old < 140737488355327 }
         ensures bytes { MatchResult result
             (λ read. Gives (remaining self.old) (remaining self.new) read piece.new)
             (λ _. Keeps (remaining self.old) (remaining self.new)) }
@@ -33,5 +34,5 @@ pub trait Source {
         ensures failures { failures self.new ≡ failures self.old + failed result };
 
     /// No more reads are made than that.
-    ghost bounded: { (s : Self) → reads s ≤ 4294967295 };
+    ghost bounded: { (s : Self) → reads s ≤ 140737488355327 };
 }

@@ -13,7 +13,7 @@ const TRIES: u32 = 1_000;
 #[derive(Drop)]
 pub struct CountedWriter<W> {
     writer: W,
-    failures: u32,
+    failures: u64,
 }
 
 impl<W> CountedWriter<W> {

@@ -14,7 +14,7 @@ IsFrontOf front all = (rest : List ℕ) × (all ≡ front ++ rest)
 -- in all: by `Read` only where it failed once more, or no read is left
 abbrev pub InputAt : ℕ → ℕ → ℕ → Ending → Type 0
 InputAt before after reads ending.Read =
-    (after ≡ before + 1) ⊎ ((after ≡ before) × (reads ≡ 4294967295))
+    (after ≡ before + 1) ⊎ ((after ≡ before) × (reads ≡ 140737488355327))
 InputAt before after reads _ = after ≡ before
 
 -- how reads may end a session, with the same numbers

@@ -165,7 +165,7 @@ pub fn session_run<S: Source, K: Sink, D: Door>(
         (D.told session.old) (D.told session.new) door.old door.new result }
     ensures input { InputAt (S.failures input.old) (S.failures input.new) (S.reads input.new) result }
     ensures reads { (S.reads input.old ≤ S.reads input.new)
-        × (S.reads input.new ≤ S.reads input.old + 4294967295) }
+        × (S.reads input.new ≤ S.reads input.old + 140737488355327) }
     ensures output { OutputAt (K.failures output.old.sink) (K.failures output.new.sink) result }
 {
     let end = converse(alloc, input, output, door, session);

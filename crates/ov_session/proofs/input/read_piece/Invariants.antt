@@ -11,4 +11,4 @@ invariant-tries g l = record {
 }
 
 abbrev pub decreases-tries : goal.decreases-tries
-decreases-tries g l = 4294967295 - g.S.Source.reads l.input
+decreases-tries g l = 140737488355327 - g.S.Source.reads l.input

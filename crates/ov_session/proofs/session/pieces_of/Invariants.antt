@@ -26,4 +26,4 @@ invariant-pieces g l =
     }
 
 abbrev pub decreases-pieces : goal.decreases-pieces
-decreases-pieces g l = 4294967295 - g.S.Source.reads l.input
+decreases-pieces g l = 140737488355327 - g.S.Source.reads l.input
