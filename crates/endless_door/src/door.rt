@@ -1,0 +1,125 @@
+// A door whose calls are those of one client of a mount.
+ghost use Rattle.std.specs.Prelude.{◌≡◌, ◌∷◌, []};
+ghost use Rattle.ov_session.specs.declared.exchange.Exchange.TheVariants.{Departed};
+ghost use Rattle.endless_door.specs.Advancing.{Advances, standing};
+
+use crate::session::EndlessSession;
+use endless_mount::{BookName, EndlessMount, Front};
+use locked_history::{Gate, Refused, Session};
+use mount_door::errno_of;
+use ov_base::{Call, Reply};
+use ov_frames::{Answer, LentAnswer};
+use ov_session::{CallOutcome, Door};
+use std::snapshot::Snapshot;
+use std::sync::Wait;
+use watch_table::{Callback, Hook, Rule};
+
+/// A mount that many threads share, and a client of it that makes the calls of a session, with the
+/// front of the history that it has seen. The gate is asked before each step of a call, and ends the
+/// session where it says so.
+#[derive(Drop)]
+pub struct EndlessDoor<'m, N: BookName, F: Callback, R: Rule, G: Gate, H: Wait> {
+    pub(crate) rt: &'m H,
+    pub(crate) mount: &'m EndlessMount<N, F, R>,
+    pub(crate) gate: &'m G,
+    pub(crate) session: Session,
+    pub(crate) seen: Front<N>,
+    pub(crate) hooks: Option<Vec<Hook<F, R>>>,
+}
+
+impl<'m, N: BookName, F: Callback + Drop, R: Rule, G: Gate, H: Wait> EndlessDoor<
+    'm,
+    N,
+    F,
+    R,
+    G,
+    H,
+> {
+    /// A door to this mount, by this gate, for a client that was just attached and has this front.
+    pub fn new(
+        rt: &'m H,
+        mount: &'m EndlessMount<N, F, R>,
+        gate: &'m G,
+        session: Session,
+        seen: Front<N>,
+    ) -> EndlessDoor<'m, N, F, R, G, H>
+        ensures client { (result.session ≡ session) × (result.seen ≡ seen) }
+    {
+        EndlessDoor {
+            rt,
+            mount,
+            gate,
+            session,
+            seen,
+            hooks: None,
+        }
+    }
+
+    // Detaches the client, and keeps the hooks.
+    fn leave(&mut self) -> Answer
+        ensures { Advances (standing self.old.session self.old.seen)
+            (Departed result ∷ [])
+            (standing self.new.session self.new.seen) }
+    {
+        match self.mount.detach(self.rt, self.session, &mut self.seen) {
+            Ok((hooks, place)) => {
+                self.hooks = Some(hooks);
+                Answer::Replied {
+                    place,
+                    reply: Reply::Done,
+                }
+            }
+            Err(why) => Answer::NotTaken(errno_of(why)),
+        }
+    }
+}
+
+impl<'m, N: BookName, F: Callback + Drop, R: Rule, G: Gate, H: Wait> Door
+    for EndlessDoor<'m, N, F, R, G, H> {
+    type Session = EndlessSession;
+
+    ghost use Rattle.std.specs.Prelude.{◌≡◌};
+    ghost use Rattle.endless_door.specs.Advancing.{Advances, standing};
+    ghost use Rattle.endless_door.specs.Exchanges.{told_in};
+    ghost use Rattle.endless_door.specs.Joining.{advances_nothing, advances_on};
+
+    ghost told = { told_in };
+
+    ghost goes = { λ d told e. Advances (standing d.session d.seen) told
+        (standing e.session e.seen) };
+
+    ghost admits = { λ d s. Unit {0} };
+
+    ghost stays = { λ d. advances_nothing (standing d.session d.seen) };
+
+    ghost joins = { λ a b c xs ys. advances_on (standing a.session a.seen)
+        (standing b.session b.seen) (standing c.session c.seen) xs ys };
+
+    fn call(&mut self, session: &mut EndlessSession, call: Call) -> CallOutcome {
+        let asked = Snapshot::of(&call);
+        match self.mount.call(self.rt, &mut self.session, &mut self.seen, call, self.gate) {
+            Ok((place, reply)) => {
+                session.tell(asked, Answer::Replied { place, reply });
+                CallOutcome::Answered
+            }
+            Err(Refused::Stopped) => {
+                session.hold_back(asked);
+                CallOutcome::HeldBack
+            }
+            Err(why) => {
+                session.tell(asked, Answer::NotTaken(errno_of(why)));
+                CallOutcome::Answered
+            }
+        }
+    }
+
+    fn answer<'s>(&'s self, session: &'s EndlessSession) -> LentAnswer<'s> {
+        session.answer().lent()
+    }
+
+    fn detach(&mut self, session: &mut EndlessSession) -> Answer {
+        let answer = self.leave();
+        session.part(&answer);
+        answer
+    }
+}
