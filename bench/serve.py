@@ -1,10 +1,10 @@
 #!/usr/bin/env python3
 """serve.py OVERLAYD OVERLAY_BENCH [COUNT]: how `overlayd serve` compares with a bare echo.
 
-Both answer `stat`s of one file at depth 4, over two layers, or frames of the same sizes; each has 8
-workers. One client, and 8 at once, ask COUNT each, of either in turn, five times; the least wait and
-the greatest rate count. The memory of a server is told before the first call and after the last.
-`cc` builds the clients.
+It answers `stat`s of one file at depth 4, over two layers, with a history and with none; the echo
+answers frames of the same sizes; each has 8 workers. One client, and 8 at once, ask COUNT each, of
+each server in turn, five times; the least wait and the greatest rate count. The memory of a server
+is told before the first call and after the last. `cc` builds the clients.
 """
 
 import os
@@ -77,15 +77,17 @@ def told(name, runs):
 
 
 def compared(load, programs, socket, clients, count):
-    """Runs both in turn and tells what came of it."""
+    """Runs all in turn and tells what came of it."""
     runs = {name: [] for name in programs}
     for _ in range(ROUNDS):
         for name, words in programs.items():
             runs[name].append(measured(load, words, socket, clients, count))
     print(f"clients: {clients}, calls of each: {count}")
-    serve, echo = (told(name, runs[name]) for name in programs)
-    print(f"serve to echo: mean {serve[0] / echo[0]:.2f}, half {serve[1] / echo[1]:.2f},"
-          f" rate {serve[2] / echo[2]:.2f}")
+    found = {name: told(name, runs[name]) for name in programs}
+    echo = found.pop("echo")
+    for name, serve in found.items():
+        print(f"{name} to echo: mean {serve[0] / echo[0]:.2f}, half {serve[1] / echo[1]:.2f},"
+              f" rate {serve[2] / echo[2]:.2f}")
 
 
 def main():
@@ -99,8 +101,10 @@ def main():
         subprocess.run(words, check=True)
         with open(layers, "w", encoding="ascii") as file:
             file.write(manifest())
+        serve = [overlayd, "serve", layers, socket, "--workers", str(WORKERS)]
         programs = {
-            "serve": [overlayd, "serve", layers, socket, "--workers", str(WORKERS)],
+            "serve": serve,
+            "serve --no-history": [*serve, "--no-history"],
             "echo": [bench, "echo", str(WORKERS), socket],
         }
         compared(load, programs, socket, 1, count)

@@ -69,6 +69,10 @@ sessions_rule = number_rule (codes "sessions") 1 1000000
 abbrev pub history_rule : Rule
 history_rule = number_rule (codes "history") 2 1000000
 
+-- `--no-history`
+abbrev pub no_history_rule : Rule
+no_history_rule = flag_rule (codes "no-history")
+
 -- `--idle SECONDS`: 1 to 86,400
 abbrev pub idle_rule : Rule
 idle_rule = number_rule (codes "idle") 1 86400
@@ -95,8 +99,8 @@ verbose_rule = record (flag_rule (codes "verbose")) { short = Some 118 }
 -- the subcommand that serves
 abbrev pub serve_app : App
 serve_app = with_rule (with_rule (with_rule (with_rule (with_rule (with_rule (with_rule (with_rule
-    (with_rule (app_named (codes "serve")) socket_rule) workers_rule) sessions_rule) history_rule)
-    idle_rule) unlink_rule) until_eof_rule) save_rule) verbose_rule
+    (with_rule (with_rule (app_named (codes "serve")) socket_rule) workers_rule) sessions_rule)
+    history_rule) no_history_rule) idle_rule) unlink_rule) until_eof_rule) save_rule) verbose_rule
 
 -- THE COMMAND LINE: `overlayd show MANIFEST`, `overlayd play MANIFEST`, `overlayd serve MANIFEST
 -- SOCKET` with its options, `overlayd --version` or `overlayd --help`
@@ -156,6 +160,7 @@ pub record AsksServe (rows : List Row) (asked : Serving) : Type 0 where
   pub workers_told : Spells (one_of (codes "workers") rows) (Some asked.workers)
   pub sessions_told : Spells (one_of (codes "sessions") rows) asked.sessions
   pub history_told : Spells (one_of (codes "history") rows) (option_map places_in asked.history)
+  pub keeps_none : TellsFlag rows (codes "no-history") asked.no_history
   pub idle_told : Spells (one_of (codes "idle") rows) asked.idle
   pub unlinks : TellsFlag rows (codes "unlink") asked.unlink
   pub ends : TellsFlag rows (codes "until-eof") asked.until_eof

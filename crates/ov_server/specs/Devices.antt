@@ -20,5 +20,5 @@ IsToldBy failures Memory = Unit {0}
 
 -- a read fails by its stream only where the input has failed, or no read is left
 abbrev pub IsInputFault : ℕ → ℕ → DeviceFault → Type 0
-IsInputFault failures reads Stream = (0 < failures) ⊎ (reads ≡ 4294967295)
+IsInputFault failures reads Stream = (0 < failures) ⊎ (reads ≡ 140737488355327)
 IsInputFault failures reads Memory = Unit {0}

@@ -116,7 +116,7 @@ TellsPlay before after (Err (play.Device f)) = IsToldBy after f
 
 -- the play tells a stream at fault only where a device has failed, or no read is left
 abbrev pub IsStreamFault : ℕ → ℕ → ℕ → PlayFault → Type 0
-IsStreamFault input_failures reads output_failures (play.Device Stream) = (0 < input_failures) ⊎ ((reads ≡ 4294967295) ⊎ (0 < output_failures))
+IsStreamFault input_failures reads output_failures (play.Device Stream) = (0 < input_failures) ⊎ ((reads ≡ 140737488355327) ⊎ (0 < output_failures))
 IsStreamFault input_failures reads output_failures _ = Unit {0}
 
 -- The lines of a script that have ended were played, and left this mount. `begun` is what there is of the next one, and `rest` follows.

@@ -35,5 +35,5 @@ IsRunFault script layers _ = ⊥
 
 -- a stream is told at fault only where the input or the output has failed, or no read is left
 abbrev pub IsStreamFault : ℕ → ℕ → ℕ → Fault → Type 0
-IsStreamFault input_failures reads output_failures Stream = (0 < input_failures) ⊎ ((reads ≡ 4294967295) ⊎ (0 < output_failures))
+IsStreamFault input_failures reads output_failures Stream = (0 < input_failures) ⊎ ((reads ≡ 140737488355327) ⊎ (0 < output_failures))
 IsStreamFault input_failures reads output_failures _ = Unit {0}

@@ -9,7 +9,7 @@ ghost use Rattle.clap.specs.declared.builder.command.Command.TheViews.{out-Comma
 ghost use Rattle.ov_server.specs.Arguments.{IsAskedBy, IsLoneWord, IsRefusedBy, IsServing, Names};
 ghost use Rattle.ov_server.specs.Arguments.{Spells, TellsLimit, app_named, overlayd_app, places_in, serve_app};
 ghost use Rattle.ov_server.specs.Arguments.{flag_rule, manifest_limit_rule, manifest_rule, number_rule};
-ghost use Rattle.ov_server.specs.Arguments.{history_rule, idle_rule, sessions_rule, socket_rule, unlink_rule};
+ghost use Rattle.ov_server.specs.Arguments.{history_rule, idle_rule, no_history_rule, sessions_rule, socket_rule, unlink_rule};
 ghost use Rattle.ov_server.specs.Arguments.{save_rule, until_eof_rule, verbose_rule, workers_rule};
 
 use crate::history_length::HistoryLength;
@@ -56,6 +56,8 @@ pub struct Serving<'a> {
     pub sessions: Option<u64>,
     /// How many places the history has; none where the manifest says it.
     pub history: Option<HistoryLength>,
+    /// Whether no history is kept, so that none gets full.
+    pub no_history: bool,
     /// After how many seconds a connection that does nothing ends; none where it never does.
     pub idle: Option<u64>,
     /// Whether the file of a socket on which nobody listens is removed first.
@@ -116,6 +118,7 @@ fn serve<'a>(alloc: Global) -> Result<Command<'a>, AllocError>
     .arg(workers(alloc))?
     .arg(sessions(alloc))?
     .arg(history(alloc))?
+    .arg(no_history(alloc))?
     .arg(idle(alloc))?
     .arg(unlink(alloc))?
     .arg(until_eof(alloc))?
@@ -154,6 +157,14 @@ fn history<'a>(alloc: Global) -> Arg<'a>
 {
     let help = "Give the history N places, 2 to 1000000 [default: the manifest's]";
     number(alloc, "history", "N", help, 2, 1_000_000)
+}
+
+fn no_history<'a>(alloc: Global) -> Arg<'a>
+    ensures rule { rule_of result ≡ no_history_rule }
+    ensures local { result.global ≡ false }
+{
+    let help = "Keep nothing of the calls that were made, so that they never get too many";
+    flag(alloc, "no-history", help)
 }
 
 fn idle<'a>(alloc: Global) -> Arg<'a>
@@ -297,6 +308,7 @@ fn serving_of<'a>(
     let workers = matches.get_one("workers")?;
     let sessions = matches.try_get_one("sessions").ok()?;
     let history = history_of(matches)?;
+    let no_history = matches.get_flag("no-history");
     let idle = matches.try_get_one("idle").ok()?;
     let unlink = matches.get_flag("unlink");
     let until_eof = matches.get_flag("until-eof");
@@ -309,6 +321,7 @@ fn serving_of<'a>(
         workers,
         sessions,
         history,
+        no_history,
         idle,
         unlink,
         until_eof,

@@ -35,6 +35,9 @@ pub enum Fault {
     /// The upper is to be saved at an end of the server that never comes.
     #[error("--save needs --until-eof or --sessions")]
     SaveWithoutEnd,
+    /// A history that is kept nowhere is to have so many places.
+    #[error("--history does not go with --no-history")]
+    HistoryOfNone,
     /// There is no upper to save.
     #[error("cannot save: the mount has no upper layer")]
     NoUpper,
@@ -64,7 +67,8 @@ impl Fault {
             Fault::CannotReadManifest | Fault::CannotReadBlob { .. } | Fault::Manifest(_) => 1,
             Fault::Stream | Fault::Socket => 1,
             Fault::NoUpper | Fault::CannotSave | Fault::LeftOut { .. } => 1,
-            Fault::NotText | Fault::SaveWithoutEnd | Fault::BadCommand { .. } => 2,
+            Fault::NotText | Fault::BadCommand { .. } => 2,
+            Fault::SaveWithoutEnd | Fault::HistoryOfNone => 2,
             Fault::Memory => 3,
         }
     }

@@ -1,33 +1,31 @@
 //! The program: shows the merged tree of a manifest, plays a script on its mount, or serves it.
 #![tactic(auto)]
 
+ghost use Rattle.std.specs.Prelude.{IsSome};
+
 mod described;
 mod ending;
 mod listening;
+mod mounting;
 mod saving;
-
-ghost use Rattle.std.specs.Prelude.{◌≡◌, IfOk};
-ghost use Rattle.toml.specs.View.{table_view};
-ghost use Rattle.locked_history.specs.Names.{blank_core};
-ghost use Rattle.ov_server.specs.Mounts.{IsMountOf};
-ghost use Rattle.overlay_core.specs.Views.{core_options};
 
 use crate::described::{Described, read_manifest};
 use crate::ending::{close_at_end, closing_in, ending_of};
 use crate::listening::{hold_standard, listen};
+use crate::mounting::{Mounting, mounting_of};
 use crate::saving::Saver;
-use locked_history::Blank;
 use ov_devices::{CountedReader, CountedWriter};
 use ov_server::{
-    Fault, Invocation, Output, Serving, command_line, core_of, hooks_by_slot, play_run, show_run,
+    Fault, Invocation, Output, Serving, command_line, hooks_by_slot, play_run, show_run,
 };
-use socket_server::{Closing, ServeOptions, Served, serve_on};
+use socket_server::{Closing, ServeOptions, Served, serve_endless_on, serve_on};
 use std::alloc::Global;
 use std::env::Env;
 use std::fs::Files;
 use std::hash::RandomState;
 use std::io::{Eprint, Print, Read};
 use std::net::Net;
+use std::os::unix::net::UnixListener;
 use std::process::ExitCode;
 use std::random::RandomSource;
 use std::rt::Runtime;
@@ -139,6 +137,9 @@ where
     if serving.save.is_some() && serving.sessions.is_none() && !serving.until_eof {
         return Err(Fault::SaveWithoutEnd);
     }
+    if serving.no_history && serving.history.is_some() {
+        return Err(Fault::HistoryOfNone);
+    }
     hold_standard(rt, serving)?;
     let hooks = hooks_by_slot(rt.alloc())?;
     serve_with(rt, keys, hooks.as_slice(), serving, closes_at_end)
@@ -161,25 +162,66 @@ where
     requires closes { (closing : _) → W.pre closes_at_end.now closing }
 {
     let described = read_manifest(rt, serving.manifest, serving.manifest_limit)?;
-    let (blank, places) = blank_of(rt.alloc(), keys, described, serving)?;
+    let (mounting, places) = mounting_of(rt.alloc(), keys, described, serving)?;
+    let mut mounting = Some(mounting);
+    serve_lent(rt, &mut mounting, places, hooks, serving, closes_at_end)
+}
+
+// The same of a mount that is lent, and taken when there is a socket: where it fails before, the mount
+// is let go at one place.
+fn serve_lent<F, H, R, W>(
+    rt: &R,
+    mounting: &mut Option<Mounting<F, H>>,
+    places: u32,
+    hooks: &[Hook<F, H>],
+    serving: &Serving<'_>,
+    closes_at_end: &W,
+) -> Result<u8, Fault>
+where
+    F: Callback + Copy + Send + Sync,
+    H: Rule + Send + Sync,
+    R: Runtime + AllocGlobal + Net + Threads + Wait + Sync,
+    W: Fn(Arc<Closing, Global>) -> Result<(), Fault>,
+    requires mounted { IsSome mounting.old }
+    requires closes { (closing : _) → W.pre closes_at_end.now closing }
+{
     let mut saver = Saver::new(rt, serving)?;
     let listener = listen(rt, serving)?;
     let ending = ending_of(rt.alloc(), &listener, serving, closes_at_end)?;
     let options = options_of(serving, places, closing_in(&ending));
-    let served = serve_on(
-        rt,
-        rt.alloc(),
-        &listener,
-        blank,
-        hooks,
-        &options,
-        &mut saver,
-    )?;
+    let Some(mounting) = mounting.take() else {
+        unreachable!()
+    };
+    let served = serve_mounting(rt, &listener, mounting, hooks, &options, &mut saver)?;
     saver.outcome?;
     match served {
         Served::Done | Served::Stopped => Ok(0),
         Served::Failed => Ok(Fault::Socket.status()),
     }
+}
+
+// Serves a mount, whose history is kept or isn't, until the server ends.
+fn serve_mounting<F, H, R>(
+    rt: &R,
+    listener: &UnixListener,
+    mounting: Mounting<F, H>,
+    hooks: &[Hook<F, H>],
+    options: &ServeOptions<'_>,
+    saver: &mut Saver<'_, R>,
+) -> Result<Served, Fault>
+where
+    F: Callback + Copy + Send + Sync,
+    H: Rule + Send + Sync,
+    R: Runtime + AllocGlobal + Net + Threads + Wait + Sync,
+{
+    let alloc = rt.alloc();
+    let served = match mounting {
+        Mounting::Kept(blank) => serve_on(rt, alloc, listener, blank, hooks, options, saver)?,
+        Mounting::Endless(blank) => {
+            serve_endless_on(rt, alloc, listener, blank, hooks, options, saver)?
+        }
+    };
+    Ok(served)
 }
 
 // How a server is asked for, and what ends it.
@@ -196,29 +238,6 @@ fn options_of<'a>(
         idle: serving.idle,
         closing,
         verbose: serving.verbose,
-    }
-}
-
-// A mount of a manifest on which nothing was done, and how many places its history has: as many as are
-// told, or else as the manifest says. It has an upper where that is to be saved.
-fn blank_of<F: Callback + Drop, H: Rule>(
-    alloc: Global,
-    keys: RandomState,
-    manifest: Described,
-    serving: &Serving<'_>,
-) -> Result<(Blank<F, H>, u32), Fault>
-    ensures mount { IfOk result (λ r. IsMountOf manifest.blobs.items (table_view manifest.table) serving.now.history (blank_core r.0)) }
-    ensures places { IfOk result (λ r. r.1 ≡ (core_options (blank_core r.0)).history) }
-{
-    let Described { table, blobs } = manifest;
-    let core = core_of(alloc, keys, &table, blobs.as_slice(), serving.history)?;
-    if serving.save.is_some() && !core.has_upper() {
-        return Err(Fault::NoUpper);
-    }
-    let places = core.history();
-    match Blank::new(alloc, core) {
-        Ok(blank) => Ok((blank, places)),
-        Err(_) => Err(Fault::Memory),
     }
 }
 

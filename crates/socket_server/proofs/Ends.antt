@@ -1,5 +1,5 @@
 -- What receipts are handed back, and how a server doesn't end.
-use Rattle.std.proofs.Common.{◌≡◌, ◌≢◌, Bool, true, false, ℕ, ◌≤◌, List, length, All, get_or, subst, sym}
+use Rattle.std.proofs.Common.{◌≡◌, ◌≢◌, Bool, true, false, ◌≤◌, List, length, All, subst, sym}
 use Rattle.std.specs.List.{filter, list_any}
 use Rattle.std.proofs.lemmas.Bool.{ltb-false, not-true}
 use Rattle.std.proofs.lemmas.List.Elements.{filter_passes}
@@ -22,7 +22,7 @@ ends-else true e = cc
 ends-else false e = cc
 
 -- nor is one of whose workers none was stopped
-pub not-stopped : {N : Type 0} (workers : List (Worked N)) (failed : Bool) →
+pub not-stopped : {K : Type 0} (workers : List (Worked K)) (failed : Bool) →
     All (λ worked. worked.stopped ≡ false) workers →
     end_of failed (list_any (λ worked. worked.stopped) workers) ≢ Stopped
 not-stopped workers failed none =

@@ -1,1 +1,2 @@
+mod Clients
 mod Ends

@@ -1,1 +1,3 @@
+pub mod Clients
+pub mod EndlessClients
 pub mod Working

@@ -3,25 +3,25 @@ ghost use Rattle.std.specs.Prelude.{◌≡◌, None, false};
 
 use crate::closing::Closing;
 use crate::reports::Reports;
-use locked_history::{Gate, Mount, MountName, Pass};
+use crate::service::Places;
+use locked_history::{Gate, Pass};
 use std::io;
 use std::io::Eprint;
 use std::os::unix::net::UnixStream;
 use std::sync::Wait;
-use watch_table::{Callback, Rule};
 
 /// A mount that is served by a worker of this number, how many places its history has, the reports
 /// that tell when these are used, and what ends the server, if anything does.
 #[derive(Drop)]
-pub(crate) struct Guard<'a, 'r, N: MountName, F: Callback, R: Rule, H: Eprint + Wait> {
-    pub(crate) mount: &'a Mount<N, F, R>,
+pub(crate) struct Guard<'a, 'r, M: Places, H: Eprint + Wait> {
+    pub(crate) mount: &'a M,
     pub(crate) places: usize,
     pub(crate) reports: &'a Reports<'r, H>,
     pub(crate) closing: Option<&'a Closing>,
     pub(crate) worker: usize,
 }
 
-impl<N: MountName, F: Callback, R: Rule, H: Eprint + Wait> Guard<'_, '_, N, F, R, H> {
+impl<M: Places, H: Eprint + Wait> Guard<'_, '_, M, H> {
     /// Tells of the history where that is due.
     pub(crate) fn look(&self) {
         self.reports.looks(self.mount, self.places);
@@ -53,7 +53,7 @@ impl<N: MountName, F: Callback, R: Rule, H: Eprint + Wait> Guard<'_, '_, N, F, R
     }
 }
 
-impl<N: MountName, F: Callback, R: Rule, H: Eprint + Wait> Gate for Guard<'_, '_, N, F, R, H> {
+impl<M: Places, H: Eprint + Wait> Gate for Guard<'_, '_, M, H> {
     fn pass(&self, _client: u64, step: u64) -> Pass {
         if step == 1 {
             self.look();

@@ -1,7 +1,6 @@
 // How much of a history is used, of which two lines tell.
-use locked_history::{Mount, MountName};
+use crate::service::Places;
 use std::sync::atomic::{AtomicBool, AtomicU64, Ordering};
-use watch_table::{Callback, Rule};
 
 /// How many clients are attached, each of which has a place of the history kept for its detach, and
 /// whether it was told that nine tenths of the places are used, and that all are.
@@ -32,43 +31,25 @@ impl HistoryMarks {
     }
 
     /// Whether nine tenths of so many places are used for the first time.
-    pub(crate) fn comes_to_nine_tenths<N: MountName, F: Callback, R: Rule>(
-        &self,
-        mount: &Mount<N, F, R>,
-        places: usize,
-    ) -> bool {
+    pub(crate) fn comes_to_nine_tenths<M: Places>(&self, mount: &M, places: usize) -> bool {
         self.is_reached(&self.nine_tenths, mount, places - places / 10)
     }
 
     /// Whether all of so many places are used for the first time.
-    pub(crate) fn comes_to_all<N: MountName, F: Callback, R: Rule>(
-        &self,
-        mount: &Mount<N, F, R>,
-        places: usize,
-    ) -> bool {
+    pub(crate) fn comes_to_all<M: Places>(&self, mount: &M, places: usize) -> bool {
         self.is_reached(&self.full, mount, places)
     }
 
     // Whether so many places are used and it wasn't told.
-    fn is_reached<N: MountName, F: Callback, R: Rule>(
-        &self,
-        told: &AtomicBool,
-        mount: &Mount<N, F, R>,
-        places: usize,
-    ) -> bool {
+    fn is_reached<M: Places>(&self, told: &AtomicBool, mount: &M, places: usize) -> bool {
         !told.load(Ordering::SeqCst)
             && self.are_used(mount, places)
             && !told.swap(true, Ordering::SeqCst)
     }
 
     // Whether so many places are used or kept for detaches. It waits for nobody.
-    fn are_used<N: MountName, F: Callback, R: Rule>(
-        &self,
-        mount: &Mount<N, F, R>,
-        places: usize,
-    ) -> bool {
+    fn are_used<M: Places>(&self, mount: &M, places: usize) -> bool {
         let kept = self.clients.load(Ordering::SeqCst) as usize;
-        let entries = places.saturating_sub(kept);
-        entries == 0 || mount.event(entries - 1).is_some()
+        mount.are_used(places.saturating_sub(kept))
     }
 }

@@ -1,14 +1,13 @@
 // What a server tells on standard error, and its counts.
 use crate::history_marks::HistoryMarks;
 use crate::lines::{Line, Waiting};
-use locked_history::{Mount, MountName};
+use crate::service::Places;
 use ov_base::Errno;
 use ov_session::Ending;
 use std::alloc::{AllocError, Global};
 use std::io::Eprint;
 use std::sync::atomic::{AtomicBool, AtomicU64, Ordering};
 use std::sync::{Condvar, Mutex, Wait};
-use watch_table::{Callback, Rule};
 
 /// How many lines wait at most to be told.
 const LINES_MOST: usize = 1_024;
@@ -94,11 +93,7 @@ impl<'r, E: Eprint + Wait> Reports<'r, E> {
 
     /// Tells once each that nine tenths and all of a mount's history of so many places are used. A
     /// place that is kept for the detach of a client is used.
-    pub(crate) fn looks<N: MountName, F: Callback, R: Rule>(
-        &self,
-        mount: &Mount<N, F, R>,
-        places: usize,
-    ) {
+    pub(crate) fn looks<M: Places>(&self, mount: &M, places: usize) {
         if !self.verbose {
             return;
         }

@@ -1,27 +1,25 @@
-// All workers of a server.
-ghost use Rattle.std.specs.Prelude.{◌≡◌, ◌≢◌, ◌++◌, ◌≤◌, All, IfOk, List, None, OnOk, false, filter, length, map};
-ghost use Rattle.std.specs.List.{flat_map, list_any};
+// The server of a mount whose history is kept.
+ghost use Rattle.std.specs.Prelude.{◌≡◌, ◌≢◌, ◌++◌, ◌≤◌, All, IfOk, List, None, OnOk, filter, length, map};
+ghost use Rattle.std.specs.List.{flat_map};
 ghost use Rattle.locked_history.specs.Claims.{Claim, StandsIn, is_past_end, uncounted};
 ghost use Rattle.locked_history.specs.Entries.{history_of};
 ghost use Rattle.overlay_core.specs.LegalHistories.{Legally};
 ghost use Rattle.locked_history.specs.Names.{IsNamed};
 ghost use Rattle.locked_history.specs.Views.{core_past, entries_past};
-ghost use Rattle.socket_server.specs.Working.{IsWork, Serves, receipts_in};
-ghost use Rattle.socket_server.specs.Working as working;
+ghost use Rattle.socket_server.specs.Working.{Serves, receipts_in};
 
 use crate::closing::Closing;
 use crate::keeper::Keeper;
 use crate::reports::Reports;
 use crate::served::Served;
-use crate::threads::threads_to_be_had;
-use crate::worker::{Worked, work};
+use crate::worker::Worked;
+use crate::workers::serve_all;
 use locked_history::{Blank, Mount, MountName, Past, Receipt};
 use std::alloc::{AllocError, Global};
 use std::io::Eprint;
 use std::marker::Brand;
 use std::os::unix::net::UnixListener;
 use std::sync::Wait;
-use std::thread;
 use std::thread::Threads;
 use watch_table::{Callback, Hook, Rule};
 
@@ -32,7 +30,7 @@ pub struct ServeOptions<'a> {
     pub socket: &'a str,
     /// How many connections it serves at once.
     pub workers: usize,
-    /// How many places the history of its mount has; it tells when they are used.
+    /// How many places the history of its mount has, if it is kept; it tells when they are used.
     pub history: usize,
     /// After how many sessions each worker ends; none where they never do.
     pub sessions: Option<u64>,
@@ -63,157 +61,22 @@ fn put_all<N: MountName>(
 // All receipts of the workers.
 fn gathered<N: MountName>(
     alloc: Global,
-    workers: Vec<Worked<N>>,
+    workers: Vec<Worked<Vec<Vec<Receipt<N>>>>>,
 ) -> Result<Vec<Receipt<N>>, AllocError>
     ensures { IfOk result (λ all. all.items ≡ flat_map receipts_in workers.items) }
 {
     let mut all = Vec::new(alloc);
     for worked in workers {
         let Worked {
-            clients,
+            kept,
+            served: _,
             refused: _,
             failed: _,
             stopped: _,
         } = worked;
-        put_all(&mut all, clients)?;
+        put_all(&mut all, kept)?;
     }
     Ok(all)
-}
-
-// Whether one of the workers could not go on.
-fn has_failed<N: MountName>(workers: &[Worked<N>]) -> bool
-    ensures { result ≡ list_any (λ worked. worked.failed) workers.now }
-{
-    workers.iter().any(|worked| worked.failed)
-}
-
-// Whether one of the workers was stopped.
-fn was_stopped<N: MountName>(workers: &[Worked<N>]) -> bool
-    ensures { result ≡ list_any (λ worked. worked.stopped) workers.now }
-{
-    workers.iter().any(|worked| worked.stopped)
-}
-
-// How the server ended.
-fn end_of(failed: bool, stopped: bool) -> Served
-    ensures { result ≡ working.end_of failed stopped }
-{
-    if failed {
-        Served::Failed
-    } else if stopped {
-        Served::Stopped
-    } else {
-        Served::Done
-    }
-}
-
-// Has the workers serve, and their lines end when all have ended.
-fn work_all<N, F, R, H>(
-    rt: &H,
-    alloc: Global,
-    listener: &UnixListener,
-    mount: &Mount<N, F, R>,
-    hooks: &[Hook<F, R>],
-    reports: &Reports<'_, H>,
-    options: &ServeOptions<'_>,
-) -> Result<Vec<Worked<N>>, AllocError>
-where
-    N: MountName + Send + Sync,
-    F: Callback + Copy + Send + Sync,
-    R: Rule + Send + Sync,
-    H: Threads + Wait + Eprint + Sync,
-    ensures count { IfOk result (λ left. length left.items ≡ options.now.workers) }
-    ensures work { IfOk result (λ left.
-        All (IsWork (map (λ h. h.tag) hooks.now) options.now.sessions) left.items) }
-    ensures stopped { options.now.closing ≡ None
-        → IfOk result (λ left. All (λ worked. worked.stopped ≡ false) left.items) }
-{
-    let left = thread::map_indices(
-        rt,
-        alloc,
-        options.workers,
-        &|worker| work(worker, rt, alloc, listener, mount, hooks, reports, options),
-    );
-    reports.close();
-    left
-}
-
-// What the second of two threads does, which has the workers serve, or else the first, which tells
-// their lines and leaves nothing. Where the system gives no thread more, the second is done first, in
-// the thread that asks for both.
-fn work_or_tell<N, F, R, H>(
-    thread: usize,
-    rt: &H,
-    alloc: Global,
-    listener: &UnixListener,
-    mount: &Mount<N, F, R>,
-    hooks: &[Hook<F, R>],
-    reports: &Reports<'_, H>,
-    options: &ServeOptions<'_>,
-) -> Result<Vec<Worked<N>>, AllocError>
-where
-    N: MountName + Send + Sync,
-    F: Callback + Copy + Send + Sync,
-    R: Rule + Send + Sync,
-    H: Threads + Wait + Eprint + Sync,
-    ensures count { thread ≡ 1 → IfOk result (λ left. length left.items ≡ options.now.workers) }
-    ensures work { IfOk result (λ left.
-        All (IsWork (map (λ h. h.tag) hooks.now) options.now.sessions) left.items) }
-    ensures stopped { options.now.closing ≡ None
-        → IfOk result (λ left. All (λ worked. worked.stopped ≡ false) left.items) }
-{
-    if thread == 1 {
-        work_all(rt, alloc, listener, mount, hooks, reports, options)
-    } else {
-        reports.tell_all();
-        Ok(Vec::new(alloc))
-    }
-}
-
-// Has the workers serve, while a thread tells their lines.
-fn work_and_tell<N, F, R, H>(
-    rt: &H,
-    alloc: Global,
-    listener: &UnixListener,
-    mount: &Mount<N, F, R>,
-    hooks: &[Hook<F, R>],
-    reports: &Reports<'_, H>,
-    options: &ServeOptions<'_>,
-) -> Result<Vec<Worked<N>>, AllocError>
-where
-    N: MountName + Send + Sync,
-    F: Callback + Copy + Send + Sync,
-    R: Rule + Send + Sync,
-    H: Threads + Wait + Eprint + Sync,
-    ensures count { IfOk result (λ left. length left.items ≡ options.now.workers) }
-    ensures work { IfOk result (λ left.
-        All (IsWork (map (λ h. h.tag) hooks.now) options.now.sessions) left.items) }
-    ensures stopped { options.now.closing ≡ None
-        → IfOk result (λ left. All (λ worked. worked.stopped ≡ false) left.items) }
-{
-    let mut left = thread::map_indices(
-        rt,
-        alloc,
-        2,
-        &|thread| work_or_tell(thread, rt, alloc, listener, mount, hooks, reports, options),
-    )?;
-    left.swap_remove(1)
-}
-
-// Tells where fewer workers serve than were asked for, for want of threads: this one is a worker's,
-// and one of those that can be had tells the lines.
-fn tell_of_threads<H: Threads + Wait + Eprint + Sync>(
-    rt: &H,
-    reports: &Reports<'_, H>,
-    workers: usize,
-) {
-    if !reports.is_verbose() {
-        return;
-    }
-    let serving = threads_to_be_had(rt, workers).max(1);
-    if serving < workers {
-        reports.lacks(serving, workers);
-    }
 }
 
 /// Serves the clients of a mount, each with copies of these hooks, until all workers have ended. The
@@ -234,16 +97,11 @@ where
     F: Callback + Copy + Send + Sync,
     R: Rule + Send + Sync,
     H: Threads + Wait + Eprint + Sync,
-    ensures served { IfOk result (λ r. Serves N (map (λ h. h.tag) hooks.now)
+    ensures served { IfOk result (λ r. Serves (map (λ h. h.tag) hooks.now)
         options.now.workers options.now.sessions r.0.items r.1) }
     ensures stopped { IfOk result (λ r. options.now.closing ≡ None → r.1 ≢ Served.Stopped) }
 {
-    reports.listens(options.socket, options.workers);
-    tell_of_threads(rt, reports, options.workers);
-    let workers = work_and_tell(rt, alloc, listener, mount, hooks, reports, options)?;
-    let failed = has_failed(workers.as_slice());
-    let stopped = was_stopped(workers.as_slice());
-    let end = end_of(failed, stopped);
+    let (workers, end) = serve_all(rt, alloc, listener, mount, hooks, reports, options)?;
     let receipts = gathered(alloc, workers)?;
     Ok((receipts, end))
 }
@@ -272,7 +130,7 @@ where
     ensures past { IfOk result (λ r. All (λ receipt. length (entries_past r.0) ≤ receipt.place)
         r.1.items) }
     ensures served { IfOk result (λ r. (receipts : List Claim)
-        × Serves N (map (λ h. h.tag) hooks.now)
+        × Serves (map (λ h. h.tag) hooks.now)
         options.now.workers options.now.sessions receipts r.2
         × All (StandsIn (entries_past r.0)) receipts
         × (r.1.items ≡ filter (is_past_end (entries_past r.0)) (map uncounted receipts))) }

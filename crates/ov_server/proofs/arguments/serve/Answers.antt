@@ -28,17 +28,19 @@ returns-clause-app c =
     c.in_ok-arg-3.ensures in
     let placed = with_one _ _ _ _ _ ended c.history.ensures.rule c.history.ensures.local
     c.in_ok-arg-4.ensures in
-    let timed = with_one _ _ _ _ _ placed c.idle.ensures.rule c.idle.ensures.local
+    let unkept = with_one _ _ _ _ _ placed c.no_history.ensures.rule c.no_history.ensures.local
     c.in_ok-arg-5.ensures in
-    let cleared = with_one _ _ _ _ _ timed c.unlink.ensures.rule c.unlink.ensures.local
+    let timed = with_one _ _ _ _ _ unkept c.idle.ensures.rule c.idle.ensures.local
     c.in_ok-arg-6.ensures in
-    let closed = with_one _ _ _ _ _ cleared c.until_eof.ensures.rule c.until_eof.ensures.local
+    let cleared = with_one _ _ _ _ _ timed c.unlink.ensures.rule c.unlink.ensures.local
     c.in_ok-arg-7.ensures in
-    let saved = with_one _ _ _ _ _ closed c.save.ensures.rule c.save.ensures.local
+    let closed = with_one _ _ _ _ _ cleared c.until_eof.ensures.rule c.until_eof.ensures.local
     c.in_ok-arg-8.ensures in
-    IfOk-weaker c.arg-9.result _ _
+    let saved = with_one _ _ _ _ _ closed c.save.ensures.rule c.save.ensures.local
+    c.in_ok-arg-9.ensures in
+    IfOk-weaker c.arg-10.result _ _
     (λ r adds. with_one _ r _ _ _ saved c.verbose.ensures.rule c.verbose.ensures.local adds)
-    c.arg-9.ensures
+    c.arg-10.ensures
 
 pub returns-clause-local : goal.returns-clause-local
 returns-clause-local c =
@@ -47,9 +49,10 @@ returns-clause-local c =
     let worked = still_local _ _ _ named c.workers.ensures.local c.in_ok-arg-2.ensures in
     let ended = still_local _ _ _ worked c.sessions.ensures.local c.in_ok-arg-3.ensures in
     let placed = still_local _ _ _ ended c.history.ensures.local c.in_ok-arg-4.ensures in
-    let timed = still_local _ _ _ placed c.idle.ensures.local c.in_ok-arg-5.ensures in
-    let cleared = still_local _ _ _ timed c.unlink.ensures.local c.in_ok-arg-6.ensures in
-    let closed = still_local _ _ _ cleared c.until_eof.ensures.local c.in_ok-arg-7.ensures in
-    let saved = still_local _ _ _ closed c.save.ensures.local c.in_ok-arg-8.ensures in
-    IfOk-weaker c.arg-9.result _ _
-    (λ r adds. still_local _ r _ saved c.verbose.ensures.local adds) c.arg-9.ensures
+    let unkept = still_local _ _ _ placed c.no_history.ensures.local c.in_ok-arg-5.ensures in
+    let timed = still_local _ _ _ unkept c.idle.ensures.local c.in_ok-arg-6.ensures in
+    let cleared = still_local _ _ _ timed c.unlink.ensures.local c.in_ok-arg-7.ensures in
+    let closed = still_local _ _ _ cleared c.until_eof.ensures.local c.in_ok-arg-8.ensures in
+    let saved = still_local _ _ _ closed c.save.ensures.local c.in_ok-arg-9.ensures in
+    IfOk-weaker c.arg-10.result _ _
+    (λ r adds. still_local _ r _ saved c.verbose.ensures.local adds) c.arg-10.ensures

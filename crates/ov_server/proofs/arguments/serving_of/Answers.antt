@@ -17,6 +17,9 @@ returns c =
             c.in_ok-sessions.sessions c.in_ok-sessions.ensures.value c.try_get_one.ensures.none
             c.try_get_one.ensures.value;
         history_told = c.in_ok-history.ensures;
+        keeps_none = flag found (codes "no-history") c.get_flag-no_history.result
+            c.get_flag-no_history.ensures.value c.get_flag-no_history.ensures.other
+            c.get_flag-no_history.ensures.none;
         idle_told = told_if found (codes "idle") c.try_get_one-2.result c.in_ok-idle.idle
             c.in_ok-idle.ensures.value c.try_get_one-2.ensures.none c.try_get_one-2.ensures.value;
         unlinks = flag found (codes "unlink") c.get_flag-unlink.result

@@ -1,19 +1,8 @@
-use Rattle.std.proofs.Common.{rules, sym, ◌∙◌}
-use Rattle.std.specs.List.{list_any}
-use Rattle.socket_server.proofs.Ends.{not-stopped}
 use Rattle.socket_server.proofs.serving.serve_mount.Goals as goal
 
 pub returns-clause-served : goal.returns-clause-served
 returns-clause-served g c = record {
   workers = c.in_ok-workers.workers.items;
-  many = c.in_ok-workers.ensures.count;
-  work = c.in_ok-workers.ensures.work;
-  all = search rules;
-  end = search rules;
+  work = c.in_ok-workers.ensures.served;
+  all = c.in_ok-receipts.ensures;
 }
-
-pub returns-clause-stopped : goal.returns-clause-stopped
-unfolding returns-clause-served
-returns-clause-stopped g c none e =
-    not-stopped c.in_ok-workers.workers.items (list_any (λ worked. worked.failed) c.in_ok-workers.workers.items) (c.in_ok-workers.ensures.stopped none)
-    (sym (returns-clause-served g c).end ∙ e)

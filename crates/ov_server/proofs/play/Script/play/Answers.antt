@@ -19,13 +19,13 @@ one_read reads was read first e h = omega arith
 more_lines : (lines before taken count piece_then piece read : ℕ) → lines ≤ before + taken → taken ≡ min count piece_then → piece_then ≡ piece → piece ≡ 65536 → before ≤ 65536 * read → lines ≤ 65536 * (read + 1)
 more_lines lines before taken count piece_then piece read fed is same long h = omega arith
 
-room : (lines read stop : ℕ) → lines ≤ 65536 * read → read < stop → stop < 2 ^ 32 → lines + 1 < 2 ^ 63
-room lines read stop few within fits = omega arith
+room : (lines read stop first : ℕ) → lines ≤ 65536 * read → read < stop → stop + first ≡ 140737488355327 → lines + 1 < 2 ^ 63
+room lines read stop first few within fits = omega arith
 
-room_for : (before taken count piece_then piece read stop : ℕ) → taken ≡ min count piece_then → piece_then ≡ piece → piece ≡ 65536 → before ≤ 65536 * read → read < stop → stop < 2 ^ 32 → before + taken < 2 ^ 63
-room_for before taken count piece_then piece read stop is same long few within fits = omega arith
+room_for : (before taken count piece_then piece read stop first : ℕ) → taken ≡ min count piece_then → piece_then ≡ piece → piece ≡ 65536 → before ≤ 65536 * read → read < stop → stop + first ≡ 140737488355327 → before + taken < 2 ^ 63
+room_for before taken count piece_then piece read stop first is same long few within fits = omega arith
 
-none_left : (reads read stop first : ℕ) → reads ≡ first + read → stop ≤ read → stop + first ≡ 4294967295 → reads ≤ 4294967295 → reads ≡ 4294967295
+none_left : (reads read stop first : ℕ) → reads ≡ first + read → stop ≤ read → stop + first ≡ 140737488355327 → reads ≤ 140737488355327 → reads ≡ 140737488355327
 none_left reads read stop first all past is bound = omega arith
 
 pub loop-read-init : goal.loop-read-init
@@ -60,7 +60,7 @@ loop-read-preserved-in_default g c =
     }
 
 pub end-requires : goal.end-requires
-end-requires g c = room _ _ _ c.loop-read.invariant.few c.loop-read-test.true c.reads_left-read-end.type_inv
+end-requires g c = room _ _ _ _ c.loop-read.invariant.few c.loop-read-test.true c.reads_left-read-end.ensures
 
 pub returns-then-count-eq0-clause-ok : goal.returns-then-count-eq0-clause-ok
 returns-then-count-eq0-clause-ok g c =
@@ -81,7 +81,7 @@ pub returns-then-count-eq0-clause-well : goal.returns-then-count-eq0-clause-well
 returns-then-count-eq0-clause-well g c = output_well (g.K.Sink.failures c.args.output.now.sink) (g.K.Sink.failures c.loop-read.output.sink) (g.K.Sink.failures c.end.new.output.sink) _ c.end.result (c.in_ok-count.ensures.well ∙ c.loop-read.invariant.input) c.loop-read.invariant.output c.end.ensures.stream
 
 pub feed-requires : goal.feed-requires
-feed-requires g c = room_for _ _ c.in-Some.count _ _ _ _ (length-take c.in-Some.count c.read_some.new.piece) c.read_some.auto.piece c.loop-read.invariant.piece c.loop-read.invariant.few c.loop-read-test.true c.reads_left-read-end.type_inv
+feed-requires g c = room_for _ _ c.in-Some.count _ _ _ _ _ (length-take c.in-Some.count c.read_some.new.piece) c.read_some.auto.piece c.loop-read.invariant.piece c.loop-read.invariant.few c.loop-read-test.true c.reads_left-read-end.ensures
 
 pub returns-in_err-feed-clause-err : goal.returns-in_err-feed-clause-err
 returns-in_err-feed-clause-err g c =

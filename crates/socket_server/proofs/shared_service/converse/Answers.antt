@@ -1,19 +1,18 @@
 use Rattle.std.proofs.Common.{◌++◌, refl}
 use Rattle.mount_door.specs.Advancing.{standing}
-use Rattle.socket_server.proofs.worker.converse.Goals as goal
+use Rattle.socket_server.proofs.shared_service.converse.Goals as goal
 
 pub returns : goal.returns
-returns g c =
+returns g c tags new =
     let s = c.run_session.ensures.session.1 in
-    let came = c.requires.came in
     let left = c.run_session.result in record {
-      client = c.args.session.client;
-      came = came.0;
-      attached = came.2;
-      counted = came.3;
+      client = c.args.client.session.client;
+      came = new.came;
+      attached = new.attached;
+      counted = new.counted;
       told = s.heard.told ++ s.heard.stopped;
       farewell = s.farewell;
       left = standing left.session left.receipts.items;
-      went = rw (c.requires.number, came.1) at s.went;
+      went = rw (new.next, new.only) at s.went;
       all = refl;
     }

@@ -1,5 +1,5 @@
 use Rattle.std.proofs.Common.{◌≡◌, take}
-use Rattle.socket_server.proofs.worker.copies_of.Given as goal
+use Rattle.socket_server.proofs.hooks.copies_of.Given as goal
 
 -- the copies so far are those of the first hooks
 abbrev pub invariant-loop-hook : goal.invariant-loop-hook

@@ -1,0 +1,134 @@
+// The service of a mount whose history is kept nowhere: of all clients together the longest front is
+// kept that one of them has seen.
+ghost use Rattle.std.specs.Prelude.{ℕ, List};
+ghost use Rattle.endless_door.specs.Advancing.{standing};
+ghost use Rattle.socket_server.specs.EndlessClients.{IsClient, IsNew};
+
+use crate::connection::Connection;
+use crate::hooks::copies_of;
+use crate::service::{Ended, Places, Service};
+use endless_door::{Departure, run_session};
+use endless_mount::{BookName, EndlessMount, Front};
+use locked_history::{Gate, Session};
+use ov_base::Errno;
+use ov_devices::{CountedReader, CountedWriter};
+use ov_session::SessionOutput;
+use std::alloc::{AllocError, Global};
+use std::sync::Wait;
+use watch_table::{Callback, Hook, Rule};
+
+/// A mount whose history is kept nowhere, and a front that has seen nothing of that.
+#[derive(Drop)]
+pub(crate) struct Endless<N: BookName, F: Callback, R: Rule> {
+    pub(crate) mount: EndlessMount<N, F, R>,
+    pub(crate) unseen: Front<N>,
+}
+
+/// A client that was just attached, and the front that it has seen.
+#[derive(Drop)]
+pub(crate) struct Guest<N: BookName> {
+    session: Session,
+    seen: Front<N>,
+}
+
+// Runs the session of a client that was just attached, over its connection.
+fn converse<N: BookName, F: Callback + Copy, R: Rule, G: Gate, H: Wait>(
+    rt: &H,
+    alloc: Global,
+    mount: &EndlessMount<N, F, R>,
+    gate: &G,
+    client: Guest<N>,
+    connection: &Connection,
+) -> Departure<N, F, R>
+    ensures { (tags : List ℕ) →
+        IsNew tags client.session.client client.session.number client.seen →
+        IsClient tags (standing result.session result.seen) }
+{
+    let mut input = CountedReader::new(connection);
+    let mut output = SessionOutput::new(alloc, CountedWriter::new(connection));
+    let Guest { session, seen } = client;
+    run_session(
+        rt,
+        alloc,
+        mount,
+        gate,
+        session,
+        seen,
+        &mut input,
+        &mut output,
+    )
+}
+
+impl<N: BookName, F: Callback, R: Rule> Places for Endless<N, F, R> {
+    fn are_used(&self, _places: usize) -> bool {
+        false
+    }
+}
+
+impl<N, F, R> Service for Endless<N, F, R>
+where
+    N: BookName + Send + Sync,
+    F: Callback + Copy + Send + Sync,
+    R: Rule + Send + Sync,
+{
+    type Hook = Hook<F, R>;
+
+    type Client = Guest<N>;
+
+    type Kept = Front<N>;
+
+    ghost use Rattle.socket_server.specs.EndlessClients.{AreClientsIn, IsNew};
+
+    ghost tag = { λ h. h.tag };
+
+    ghost comes = { λ tags c. IsNew tags c.session.client c.session.number c.seen };
+
+    ghost keeps = { AreClientsIn };
+
+    ghost has_room = { λ kept. Unit {0} };
+
+    fn kept_of_none(&self, _alloc: Global) -> Front<N> {
+        self.unseen.again()
+    }
+
+    fn reserve(&self, _kept: &mut Front<N>) -> Result<(), AllocError> {
+        Ok(())
+    }
+
+    fn attach<H: Wait>(
+        &self,
+        rt: &H,
+        alloc: Global,
+        hooks: &[Hook<F, R>],
+    ) -> Result<Guest<N>, Errno> {
+        let Ok(copies) = copies_of(alloc, hooks) else {
+            return Err(Errno::ENOMEM);
+        };
+        match self.mount.attach(rt, copies) {
+            Ok((session, _, seen)) => Ok(Guest { session, seen }),
+            Err(fault) => Err(fault.errno),
+        }
+    }
+
+    fn number_of(&self, client: &Guest<N>) -> u64 {
+        client.session.client
+    }
+
+    fn run<G: Gate, H: Wait>(
+        &self,
+        rt: &H,
+        alloc: Global,
+        gate: &G,
+        client: Guest<N>,
+        connection: &Connection,
+        kept: &mut Front<N>,
+    ) -> Ended {
+        let left = converse(rt, alloc, &self.mount, gate, client, connection);
+        *kept = kept.longer(&left.seen);
+        Ended {
+            ending: left.ending,
+            calls: left.calls,
+            detached: left.hooks.is_some(),
+        }
+    }
+}

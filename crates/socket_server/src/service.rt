@@ -1,0 +1,85 @@
+// What workers serve: a mount to which a client of each connection is attached.
+ghost use Rattle.std.specs.Prelude.{IfOk, OnOk, map};
+
+use crate::connection::Connection;
+use locked_history::Gate;
+use ov_base::Errno;
+use ov_session::Ending;
+use std::alloc::{AllocError, Global};
+use std::sync::Wait;
+
+/// Tells how much of a history is used.
+pub(crate) trait Places {
+    /// Whether so many places are used. It waits for nobody.
+    fn are_used(&self, places: usize) -> bool;
+}
+
+/// How a session ended, how many calls were answered, and whether its client was detached.
+#[derive(Drop)]
+pub(crate) struct Ended {
+    pub(crate) ending: Ending,
+    pub(crate) calls: u64,
+    pub(crate) detached: bool,
+}
+
+/// A mount that workers serve.
+pub(crate) trait Service {
+    /// A hook that each client is attached with.
+    type Hook: Sync;
+
+    /// A client that was attached.
+    type Client: Drop + Send;
+
+    /// What a worker keeps of the clients that it served.
+    type Kept: Drop + Send;
+
+    ghost use Rattle.std.specs.Prelude.{ℕ, ◌+◌, List};
+
+    /// The tag of a hook.
+    ghost tag: { Self.Hook → ℕ };
+
+    /// A client was just attached with hooks of these tags.
+    ghost comes: { List ℕ → Self.Client → Type 0 };
+
+    /// What is kept is of so many clients, which were attached with hooks of these tags.
+    ghost keeps: { List ℕ → ℕ → Self.Kept → Type 0 };
+
+    /// There is memory to keep what is left of one client more.
+    ghost has_room: { Self.Kept → Type 0 };
+
+    /// What is kept where no client was served.
+    fn kept_of_none(&self, alloc: Global) -> Self::Kept
+        ensures { (tags : List ℕ) → keeps tags 0 result };
+
+    /// Gets memory to keep what is left of one client more.
+    fn reserve(&self, kept: &mut Self::Kept) -> Result<(), AllocError>
+        ensures room { OnOk result (has_room kept.new) }
+        ensures same { (tags : List ℕ) (count : ℕ) →
+            keeps tags count kept.old → keeps tags count kept.new };
+
+    /// Attaches a client with copies of these hooks, or says why there is none.
+    fn attach<H: Wait>(
+        &self,
+        rt: &H,
+        alloc: Global,
+        hooks: &[Self::Hook],
+    ) -> Result<Self::Client, Errno>
+        ensures { IfOk result (comes (map tag hooks.now)) };
+
+    /// The number of a client.
+    fn number_of(&self, client: &Self::Client) -> u64;
+
+    /// Runs the session of a client over its connection, and keeps what is left of it.
+    fn run<G: Gate, H: Wait>(
+        &self,
+        rt: &H,
+        alloc: Global,
+        gate: &G,
+        client: Self::Client,
+        connection: &Connection,
+        kept: &mut Self::Kept,
+    ) -> Ended
+        requires { has_room kept.old }
+        ensures { (tags : List ℕ) (count : ℕ) →
+            comes tags client → keeps tags count kept.old → keeps tags (count + 1) kept.new };
+}

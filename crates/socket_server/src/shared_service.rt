@@ -1,0 +1,135 @@
+// The service of a mount whose history is kept: of each client its receipts are kept.
+ghost use Rattle.std.specs.Prelude.{◌<◌, ℕ, List};
+ghost use Rattle.std.specs.Vec.{vec_capacity, vec_len};
+ghost use Rattle.socket_server.specs.Clients.{IsClient, IsNew};
+
+use crate::connection::Connection;
+use crate::hooks::copies_of;
+use crate::service::{Ended, Places, Service};
+use locked_history::{Gate, Mount, MountName, Receipt, Session};
+use mount_door::{Departure, run_session};
+use ov_base::Errno;
+use ov_devices::{CountedReader, CountedWriter};
+use ov_session::SessionOutput;
+use std::alloc::{AllocError, Global};
+use std::sync::Wait;
+use watch_table::{Callback, Hook, Rule};
+
+/// A client that was just attached, whose receipts have memory for that of its detach.
+#[derive(Drop)]
+pub(crate) struct Newcomer<N: MountName> {
+    session: Session,
+    receipts: Vec<Receipt<N>>,
+    ghost room: { vec_len receipts < vec_capacity receipts },
+}
+
+// Runs the session of a client that was just attached, over its connection.
+fn converse<N: MountName, F: Callback + Copy, R: Rule, G: Gate, H: Wait>(
+    rt: &H,
+    alloc: Global,
+    mount: &Mount<N, F, R>,
+    gate: &G,
+    client: Newcomer<N>,
+    connection: &Connection,
+) -> Departure<N, F, R>
+    ensures { (tags : List ℕ) →
+        IsNew tags client.session.client client.session.number client.receipts.items →
+        IsClient tags result.receipts.items }
+{
+    let mut input = CountedReader::new(connection);
+    let mut output = SessionOutput::new(alloc, CountedWriter::new(connection));
+    let Newcomer { session, receipts } = client;
+    run_session(
+        rt,
+        alloc,
+        mount,
+        gate,
+        session,
+        receipts,
+        &mut input,
+        &mut output,
+    )
+}
+
+impl<N: MountName, F: Callback, R: Rule> Places for Mount<N, F, R> {
+    fn are_used(&self, places: usize) -> bool {
+        places == 0 || self.event(places - 1).is_some()
+    }
+}
+
+impl<N, F, R> Service for Mount<N, F, R>
+where
+    N: MountName + Send + Sync,
+    F: Callback + Copy + Send + Sync,
+    R: Rule + Send + Sync,
+{
+    type Hook = Hook<F, R>;
+
+    type Client = Newcomer<N>;
+
+    type Kept = Vec<Vec<Receipt<N>>>;
+
+    ghost use Rattle.std.specs.Prelude.{◌<◌};
+    ghost use Rattle.std.specs.Vec.{vec_capacity, vec_len};
+    ghost use Rattle.socket_server.specs.Clients.{AreClients, IsNew};
+
+    ghost tag = { λ h. h.tag };
+
+    ghost comes = { λ tags c.
+        IsNew tags c.session.client c.session.number c.receipts.items };
+
+    ghost keeps = { AreClients };
+
+    ghost has_room = { λ kept. vec_len kept < vec_capacity kept };
+
+    fn kept_of_none(&self, alloc: Global) -> Vec<Vec<Receipt<N>>> {
+        Vec::new(alloc)
+    }
+
+    fn reserve(&self, kept: &mut Vec<Vec<Receipt<N>>>) -> Result<(), AllocError> {
+        kept.reserve(1)
+    }
+
+    fn attach<H: Wait>(
+        &self,
+        rt: &H,
+        alloc: Global,
+        hooks: &[Hook<F, R>],
+    ) -> Result<Newcomer<N>, Errno> {
+        let Ok(mut receipts) = Vec::with_capacity(alloc, 2) else {
+            return Err(Errno::ENOMEM);
+        };
+        let Ok(copies) = copies_of(alloc, hooks) else {
+            return Err(Errno::ENOMEM);
+        };
+        match Mount::attach(self, rt, copies) {
+            Ok((session, receipt)) => {
+                receipts.push_reserved(receipt);
+                Ok(Newcomer { session, receipts })
+            }
+            Err(fault) => Err(fault.errno),
+        }
+    }
+
+    fn number_of(&self, client: &Newcomer<N>) -> u64 {
+        client.session.client
+    }
+
+    fn run<G: Gate, H: Wait>(
+        &self,
+        rt: &H,
+        alloc: Global,
+        gate: &G,
+        client: Newcomer<N>,
+        connection: &Connection,
+        kept: &mut Vec<Vec<Receipt<N>>>,
+    ) -> Ended {
+        let left = converse(rt, alloc, self, gate, client, connection);
+        kept.push_reserved(left.receipts);
+        Ended {
+            ending: left.ending,
+            calls: left.calls,
+            detached: left.hooks.is_some(),
+        }
+    }
+}

@@ -1,0 +1,174 @@
+// All workers of a server.
+ghost use Rattle.std.specs.Prelude.{◌≡◌, ◌≢◌, All, IfOk, None, false, length, map};
+ghost use Rattle.std.specs.List.{list_any};
+ghost use Rattle.socket_server.specs.Working.{AreWorkers, IsWork};
+ghost use Rattle.socket_server.specs.Working as working;
+
+use crate::reports::Reports;
+use crate::served::Served;
+use crate::service::{Places, Service};
+use crate::serving::ServeOptions;
+use crate::threads::threads_to_be_had;
+use crate::worker::{Worked, work};
+use std::alloc::{AllocError, Global};
+use std::io::Eprint;
+use std::os::unix::net::UnixListener;
+use std::sync::Wait;
+use std::thread;
+use std::thread::Threads;
+
+// Whether one of the workers could not go on.
+fn has_failed<K: Drop>(workers: &[Worked<K>]) -> bool
+    ensures { result ≡ list_any (λ worked. worked.failed) workers.now }
+{
+    workers.iter().any(|worked| worked.failed)
+}
+
+// Whether one of the workers was stopped.
+fn was_stopped<K: Drop>(workers: &[Worked<K>]) -> bool
+    ensures { result ≡ list_any (λ worked. worked.stopped) workers.now }
+{
+    workers.iter().any(|worked| worked.stopped)
+}
+
+// How the server ended.
+fn end_of(failed: bool, stopped: bool) -> Served
+    ensures { result ≡ working.end_of failed stopped }
+{
+    if failed {
+        Served::Failed
+    } else if stopped {
+        Served::Stopped
+    } else {
+        Served::Done
+    }
+}
+
+// Has the workers serve, and their lines end when all have ended.
+fn work_all<M, H>(
+    rt: &H,
+    alloc: Global,
+    listener: &UnixListener,
+    mount: &M,
+    hooks: &[M::Hook],
+    reports: &Reports<'_, H>,
+    options: &ServeOptions<'_>,
+) -> Result<Vec<Worked<M::Kept>>, AllocError>
+where
+    M: Service + Places + Sync,
+    H: Threads + Wait + Eprint + Sync,
+    ensures count { IfOk result (λ left. length left.items ≡ options.now.workers) }
+    ensures work { IfOk result (λ left.
+        All (IsWork (M.keeps (map M.tag hooks.now)) options.now.sessions) left.items) }
+    ensures stopped { options.now.closing ≡ None
+        → IfOk result (λ left. All (λ worked. worked.stopped ≡ false) left.items) }
+{
+    let left = thread::map_indices(
+        rt,
+        alloc,
+        options.workers,
+        &|worker| work(worker, rt, alloc, listener, mount, hooks, reports, options),
+    );
+    reports.close();
+    left
+}
+
+// What the second of two threads does, which has the workers serve, or else the first, which tells
+// their lines and leaves nothing. Where the system gives no thread more, the second is done first, in
+// the thread that asks for both.
+fn work_or_tell<M, H>(
+    thread: usize,
+    rt: &H,
+    alloc: Global,
+    listener: &UnixListener,
+    mount: &M,
+    hooks: &[M::Hook],
+    reports: &Reports<'_, H>,
+    options: &ServeOptions<'_>,
+) -> Result<Vec<Worked<M::Kept>>, AllocError>
+where
+    M: Service + Places + Sync,
+    H: Threads + Wait + Eprint + Sync,
+    ensures count { thread ≡ 1 → IfOk result (λ left. length left.items ≡ options.now.workers) }
+    ensures work { IfOk result (λ left.
+        All (IsWork (M.keeps (map M.tag hooks.now)) options.now.sessions) left.items) }
+    ensures stopped { options.now.closing ≡ None
+        → IfOk result (λ left. All (λ worked. worked.stopped ≡ false) left.items) }
+{
+    if thread == 1 {
+        work_all(rt, alloc, listener, mount, hooks, reports, options)
+    } else {
+        reports.tell_all();
+        Ok(Vec::new(alloc))
+    }
+}
+
+// Has the workers serve, while a thread tells their lines.
+fn work_and_tell<M, H>(
+    rt: &H,
+    alloc: Global,
+    listener: &UnixListener,
+    mount: &M,
+    hooks: &[M::Hook],
+    reports: &Reports<'_, H>,
+    options: &ServeOptions<'_>,
+) -> Result<Vec<Worked<M::Kept>>, AllocError>
+where
+    M: Service + Places + Sync,
+    H: Threads + Wait + Eprint + Sync,
+    ensures count { IfOk result (λ left. length left.items ≡ options.now.workers) }
+    ensures work { IfOk result (λ left.
+        All (IsWork (M.keeps (map M.tag hooks.now)) options.now.sessions) left.items) }
+    ensures stopped { options.now.closing ≡ None
+        → IfOk result (λ left. All (λ worked. worked.stopped ≡ false) left.items) }
+{
+    let mut left = thread::map_indices(
+        rt,
+        alloc,
+        2,
+        &|thread| work_or_tell(thread, rt, alloc, listener, mount, hooks, reports, options),
+    )?;
+    left.swap_remove(1)
+}
+
+// Tells where fewer workers serve than were asked for, for want of threads: this one is a worker's,
+// and one of those that can be had tells the lines.
+fn tell_of_threads<H: Threads + Wait + Eprint + Sync>(
+    rt: &H,
+    reports: &Reports<'_, H>,
+    workers: usize,
+) {
+    if !reports.is_verbose() {
+        return;
+    }
+    let serving = threads_to_be_had(rt, workers).max(1);
+    if serving < workers {
+        reports.lacks(serving, workers);
+    }
+}
+
+/// Has workers serve the clients of a mount, each with copies of these hooks, until all have ended:
+/// what each leaves, and how the server ended.
+pub(crate) fn serve_all<M, H>(
+    rt: &H,
+    alloc: Global,
+    listener: &UnixListener,
+    mount: &M,
+    hooks: &[M::Hook],
+    reports: &Reports<'_, H>,
+    options: &ServeOptions<'_>,
+) -> Result<(Vec<Worked<M::Kept>>, Served), AllocError>
+where
+    M: Service + Places + Sync,
+    H: Threads + Wait + Eprint + Sync,
+    ensures served { IfOk result (λ r. AreWorkers (M.keeps (map M.tag hooks.now))
+        options.now.workers options.now.sessions r.0.items r.1) }
+    ensures stopped { IfOk result (λ r. options.now.closing ≡ None → r.1 ≢ Served.Stopped) }
+{
+    reports.listens(options.socket, options.workers);
+    tell_of_threads(rt, reports, options.workers);
+    let workers = work_and_tell(rt, alloc, listener, mount, hooks, reports, options)?;
+    let failed = has_failed(workers.as_slice());
+    let stopped = was_stopped(workers.as_slice());
+    Ok((workers, end_of(failed, stopped)))
+}
