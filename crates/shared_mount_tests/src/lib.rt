@@ -7,6 +7,8 @@ mod devices;
 #[cfg(test)]
 mod doors;
 #[cfg(test)]
+mod endless;
+#[cfg(test)]
 mod gates;
 #[cfg(test)]
 mod mounts;

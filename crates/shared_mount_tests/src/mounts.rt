@@ -1,4 +1,7 @@
 // Blank mounts, the callback, the gate and the calls of the tests, and what their entries say.
+ghost use Rattle.std.specs.Prelude.{◌≡◌, IfOk};
+ghost use Rattle.overlay_core.specs.Views.{core_finished};
+
 use crate::doors::is_left_clean;
 use crate::gates::is_untouched;
 use crate::refusals::is_filled;
@@ -41,9 +44,21 @@ pub fn blank_of<F: Callback + Drop, R: Rule>(
     keys: RandomState,
     manifest: &str,
 ) -> Result<Blank<F, R>, Fail> {
+    let core = core_of::<F, R>(alloc, keys, manifest)?;
+    Blank::new(alloc, core).map_err(|_| Fail::from("out of memory"))
+}
+
+/// A core of a manifest's layers, on which nothing was done.
+pub fn core_of<F: Callback + Drop, R: Rule>(
+    alloc: Global,
+    keys: RandomState,
+    manifest: &str,
+) -> Result<Core<F, R>, Fail>
+    ensures { IfOk result (λ core. core_finished core ≡ 0) }
+{
     let (upper, lowers, options) = manifest_of(alloc, keys, manifest.as_bytes())?;
     match Core::mount(alloc, keys, upper, lowers, options) {
-        Ok(core) => Blank::new(alloc, core).map_err(|_| Fail::from("out of memory")),
+        Ok(core) => Ok(core),
         Err(_) => Err(Fail::from("no mount")),
     }
 }

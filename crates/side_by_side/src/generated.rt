@@ -1,14 +1,17 @@
-// Scripts made by a seeded generator, on the engine and on the slow reference.
+// Scripts made by a seeded generator, on the engine, on the slow reference and on a mount that threads
+// share and that keeps no history.
 use crate::dice::Dice;
 use crate::engine::{look_ups_difference, look_ups_difference_in_turn, run_of};
 use crate::manifests::Manifests;
 use crate::playing::reference_difference;
 use crate::random_calls::{push_call, push_open_of};
 use crate::random_watches::{push_arm_of, push_watch_call};
+use crate::shared::endless_difference;
 use std::alloc::{AllocError, Global};
 use std::hash::RandomState;
 use std::ops::Range;
 use std::rt::Files;
+use std::sync::Wait;
 use std::{fs, io};
 
 /// How many scripts are played over a manifest, and how many lines each has: of arms and opens at first, then of any calls, and more after a
@@ -24,8 +27,9 @@ const LINES: u32 = 40;
 const LINES_MORE: u32 = 20;
 
 /// Plays generated scripts over the manifest of a file, a quarter of them on a mount that makes redirects, a quarter on one that copies files up
-/// without their bytes, too, and a sixth on one without an upper, and tells how many get the same lines from the engine and from the reference.
-pub fn play_generated<R: Files + AllocGlobal + Print>(
+/// without their bytes, too, and a sixth on one without an upper, and tells how many get the same lines from the engine, from the reference and
+/// from a mount that keeps no history.
+pub fn play_generated<R: Files + AllocGlobal + Print + Wait>(
     rt: &R,
     keys: RandomState,
     (file, layers): (&str, u32),
@@ -35,7 +39,7 @@ pub fn play_generated<R: Files + AllocGlobal + Print>(
     for seed in 0..SCRIPTS {
         let manifest = manifests.with_seed(seed);
         let script = script_of(rt.alloc(), seed, manifest.numbers(layers))?;
-        match script_difference(rt.alloc(), keys, manifest.text, script.as_bytes())? {
+        match script_difference(rt, (rt.alloc(), keys), manifest.text, script.as_bytes())? {
             None => count = count.saturating_add(1),
             Some(found) => println!(rt; "script {seed} over {file} differs: {found}")?,
         }
@@ -43,9 +47,9 @@ pub fn play_generated<R: Files + AllocGlobal + Print>(
     println!(rt; "{count} generated scripts over {file} agree")
 }
 
-fn script_difference(
-    alloc: Global,
-    keys: RandomState,
+fn script_difference<H: Wait>(
+    rt: &H,
+    (alloc, keys): (Global, RandomState),
     manifest: &[u8],
     script: &[u8],
 ) -> io::Result<Option<String>> {
@@ -54,7 +58,10 @@ fn script_difference(
     if let Some(kept) = look_ups_difference(alloc, keys, manifest, script, text)? {
         return Ok(Some(format!(in alloc; "with {kept} look-ups kept")?));
     }
-    let found = reference_difference(alloc, manifest, Some(script), text)?;
+    if let Some(found) = reference_difference(alloc, manifest, Some(script), text)? {
+        return Ok(Some(found));
+    }
+    let found = endless_difference(rt, (alloc, keys), manifest, Some(script), text)?;
     Ok(found)
 }
 

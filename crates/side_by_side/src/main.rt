@@ -1,12 +1,13 @@
-//! Plays the rows of its data folder on the engine, on the slow reference and on a mount that
+//! Plays the rows of its data folder on the engine, on the slow reference and on mounts that
 //! threads share, and tells of each row whether all answer what is wanted. Plays scripts made by a
-//! generator on the engine and on the slow reference.
+//! generator on the engine and on the slow reference, and some on a mount that threads share.
 #![tactic(auto)]
 
 mod answers;
 mod blobs;
 mod contents;
 mod dice;
+mod endless_play;
 mod engine;
 mod entries;
 mod expanded;
@@ -14,6 +15,7 @@ mod generated;
 mod generated_limits;
 mod generated_steps;
 mod history;
+mod judging;
 mod kept_trees;
 mod layer_lines;
 mod manifests;
@@ -27,11 +29,14 @@ mod random_calls;
 mod random_limits;
 mod random_steps;
 mod random_watches;
+mod recorded_play;
 mod rows;
 mod shared;
 mod shared_clients;
+mod shared_mount;
 mod sights;
 mod stepper;
+mod told;
 mod told_entries;
 mod told_layers;
 mod tree_lines;
@@ -39,7 +44,7 @@ mod tree_lines;
 use crate::generated::play_generated;
 use crate::generated_limits::play_generated_limits;
 use crate::generated_steps::play_generated_steps;
-use crate::playing::{Verdict, judged};
+use crate::judging::{Verdict, judged};
 use crate::rows::rows_in;
 use std::hash::RandomState;
 use std::rt::Files;
@@ -78,34 +83,46 @@ const MANIFESTS: [(&str, u32); 3] = [
     ("four_layers.toml", 4),
 ];
 
-/// How many rows agree, and how many of them were played on a mount that threads share.
+/// How many rows agree, how many of them were played on mounts that threads share, and to how many
+/// of these the one that keeps no history gives the same lines.
 #[derive(Clone, Copy)]
 struct Counts {
     rows: u64,
-    mounts: u64,
+    shared: u64,
+    endless: u64,
 }
 
 impl Counts {
     fn count(&mut self, verdict: &Verdict) {
-        match verdict {
-            Verdict::Agrees => {
-                self.rows = self.rows.saturating_add(1);
-                self.mounts = self.mounts.saturating_add(1);
-            }
-            Verdict::NoMount | Verdict::NotShared => self.rows = self.rows.saturating_add(1),
-            Verdict::Differs(_) => (),
-        }
+        let (is_shared, is_endless) = match verdict {
+            Verdict::Agrees => (true, true),
+            Verdict::FillsHistory => (true, false),
+            Verdict::NoMount | Verdict::NotShared => (false, false),
+            Verdict::Differs(_) => return,
+        };
+        self.rows = self.rows.saturating_add(1);
+        self.shared = self.shared.saturating_add(u64::from(is_shared));
+        self.endless = self.endless.saturating_add(u64::from(is_endless));
     }
 }
 
 fn main(rt: HostRuntime) -> io::Result<()> {
     let keys = RandomState::new(&rt)?;
-    let mut counts = Counts { rows: 0, mounts: 0 };
+    let mut counts = Counts {
+        rows: 0,
+        shared: 0,
+        endless: 0,
+    };
     for file in FILES {
         play_file(&rt, keys, file, &mut counts)?;
     }
-    let Counts { rows, mounts } = counts;
-    println!(rt; "{rows} rows agree, {mounts} of them on a mount that threads share")?;
+    let Counts {
+        rows,
+        shared,
+        endless,
+    } = counts;
+    print!(rt; "{rows} rows agree, {shared} of them on a mount that threads share, ")?;
+    println!(rt; "{endless} of these on one that keeps no history")?;
     for manifest in MANIFESTS {
         play_generated(&rt, keys, manifest)?;
     }

@@ -1,18 +1,11 @@
-// A row on the engine, on the slow reference and on a mount that threads share; a script over a
-// manifest on the first two.
+// A script over a manifest on the slow reference.
 use crate::answers::{attached_line, detached_line, not_attached_line, not_taken_line};
-use crate::engine::{look_ups_difference, run_of};
 use crate::mount::{PlainMount, mount_of};
-use crate::pending::{counted, dropped, has_steps, started, stepped};
-use crate::rows::Row;
-use crate::shared::shared_text;
+use crate::pending::{counted, dropped, started, stepped};
 use crate::told_layers::layer_difference;
 use ov_base::Errno;
 use ov_script::{CallText, Command, command_of};
 use std::alloc::{AllocError, Global};
-use std::hash::RandomState;
-use std::io;
-use std::sync::Wait;
 
 /// What the reference answers to a line.
 #[derive(Drop)]
@@ -22,69 +15,6 @@ enum Answer {
     /// The lines of a layer.
     Layer(usize),
     BadCommand,
-}
-
-/// How a row is judged.
-#[derive(Drop)]
-pub enum Verdict {
-    /// The engine, the slow reference and a mount that threads share answer what is wanted.
-    Agrees,
-    /// The engine refuses the manifest as is wanted, so that there is no mount.
-    NoMount,
-    /// The engine and the slow reference do. A mount that threads share has no calls in steps.
-    NotShared,
-    Differs(String),
-}
-
-/// Whether the answers to a row are those that are wanted.
-pub fn judged<R: AllocGlobal + Wait>(
-    rt: &R,
-    keys: RandomState,
-    row: &Row<'_>,
-) -> io::Result<Verdict> {
-    let alloc = rt.alloc();
-    let script = row.script.as_ref().map(|script| script.as_slice());
-    let manifest = row.manifest.as_slice();
-    let wanted = row.wanted.as_slice();
-    let engine = run_of(alloc, keys, manifest, script)?;
-    if engine.text.as_slice() != wanted {
-        let found = String::from_utf8_lossy(alloc, engine.text.as_slice())?;
-        return Ok(Verdict::Differs(format!(in alloc; "the engine answers\n{found}")?));
-    }
-    if engine.refuses_manifest {
-        return Ok(Verdict::NoMount);
-    }
-    if let Some(found) = kept_difference(alloc, keys, manifest, script, wanted)? {
-        return Ok(Verdict::Differs(found));
-    }
-    if let Some(found) = reference_difference(alloc, manifest, script, wanted)? {
-        return Ok(Verdict::Differs(found));
-    }
-    if script.is_some_and(has_steps) {
-        return Ok(Verdict::NotShared);
-    }
-    let shared = shared_text(rt, alloc, keys, manifest, script)?;
-    if shared.as_bytes() != wanted {
-        return Ok(Verdict::Differs(format!(in alloc; "a shared mount answers\n{shared}")?));
-    }
-    Ok(Verdict::Agrees)
-}
-
-// How the answers of the engine differ where it keeps fewer look-ups in the lower layers.
-fn kept_difference(
-    alloc: Global,
-    keys: RandomState,
-    manifest: &[u8],
-    script: Option<&[u8]>,
-    wanted: &[u8],
-) -> io::Result<Option<String>> {
-    let Some(script) = script else {
-        return Ok(None);
-    };
-    match look_ups_difference(alloc, keys, manifest, script, wanted)? {
-        Some(kept) => Ok(Some(format!(in alloc; "the engine differs with {kept} look-ups kept")?)),
-        None => Ok(None),
-    }
 }
 
 /// How the answers of the reference differ from those that are wanted.

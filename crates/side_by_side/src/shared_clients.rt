@@ -1,7 +1,7 @@
 // The clients of a mount that threads share, as the lines of a script name them.
-use crate::answers::{attached_line, detached_line, not_attached_line, not_taken_line, reply_line};
-use crate::sights::Sight;
-use locked_history::{Deed, Mount, MountName, Open, Receipt, Refused, Session};
+use crate::answers::{attached_line, detached_line, not_attached_line, not_taken_line};
+use crate::shared_mount::SharedMount;
+use locked_history::{Refused, Session};
 use ov_base::{Call, Errno};
 use ov_script::{CallText, Command, command_of};
 use std::alloc::{AllocError, Global};
@@ -13,104 +13,101 @@ use watch_table::{Callback, Hook, Rule};
 pub enum Answer {
     /// These lines.
     Lines(String),
-    /// The lines of what is only seen once the mount has ended.
-    Asks(Sight),
+    /// These lines, since its history has no place for what the line asks for.
+    NoPlace(String),
+    /// What is only seen once the mount has ended.
+    Asks,
     BadCommand,
 }
 
-/// The session of each client, by its number, until it is detached, and the receipts of all that
-/// was done.
-#[derive(Drop)]
-pub struct Clients<N: MountName> {
-    sessions: Vec<Option<Session>>,
-    receipts: Vec<Receipt<N>>,
+/// Whether a line of a script says nothing.
+pub fn is_silent(line: &[u8]) -> bool {
+    matches!(line, [] | [b'#', ..])
 }
 
-impl<N: MountName> Clients<N> {
-    /// No client, and nothing done.
-    pub fn new(alloc: Global) -> Clients<N> {
+/// The session of each client, by its number, until it is detached.
+#[derive(Drop)]
+pub struct Clients {
+    sessions: Vec<Option<Session>>,
+}
+
+impl Clients {
+    /// No client.
+    pub fn new(alloc: Global) -> Clients {
         Clients {
             sessions: Vec::new(alloc),
-            receipts: Vec::new(alloc),
         }
     }
 
-    /// The receipts of all that was done.
-    pub fn into_receipts(self) -> Vec<Receipt<N>> {
-        self.receipts
-    }
-
-    /// What the mount answers to a line. Each client comes with copies of these hooks.
-    pub fn answer<F: Callback + Copy, R: Rule, H: Wait>(
+    /// What the mount answers to a line.
+    pub fn answer<M: SharedMount, H: Wait>(
         &mut self,
         rt: &H,
         alloc: Global,
-        mount: &Mount<N, F, R>,
-        hooks: &[Hook<F, R>],
+        mount: &mut M,
         line: &[u8],
     ) -> Result<Answer, AllocError> {
-        if matches!(line, [] | [b'#', ..]) {
+        if is_silent(line) {
             return Ok(Answer::Lines(String::new(alloc)));
         }
         let Ok(command) = command_of(line) else {
             return Ok(Answer::BadCommand);
         };
         match command {
-            Command::Attach => self.attach(rt, alloc, mount, hooks),
+            Command::Attach => self.attach(rt, alloc, mount),
             Command::Detach { client } => self.detach(rt, alloc, mount, client),
             Command::Call { client, call } => self.call(rt, alloc, mount, client, &call),
-            Command::Layer { index } => Ok(Answer::Asks(Sight::Layer(index as usize))),
-            Command::Merge => Ok(Answer::Asks(Sight::Tree)),
+            Command::Layer { .. } | Command::Merge => Ok(Answer::Asks),
             Command::Start { .. } | Command::Step { .. } | Command::Drop { .. } | Command::Work => {
                 Ok(Answer::BadCommand)
             }
         }
     }
 
-    fn attach<F: Callback + Copy, R: Rule, H: Wait>(
+    fn attach<M: SharedMount, H: Wait>(
         &mut self,
         rt: &H,
         alloc: Global,
-        mount: &Mount<N, F, R>,
-        hooks: &[Hook<F, R>],
+        mount: &mut M,
     ) -> Result<Answer, AllocError> {
-        let line = match mount.attach(rt, copies_of(alloc, hooks)?) {
-            Ok((session, receipt)) => {
+        match mount.attach(rt) {
+            Ok(session) => {
                 self.sessions.push(Some(session))?;
-                self.receipts.push(receipt)?;
-                attached_line(alloc, session.client)?
+                Ok(Answer::Lines(attached_line(alloc, session.client)?))
             }
-            Err(fault) => not_attached_line(alloc, fault.errno)?,
-        };
-        Ok(Answer::Lines(line))
+            Err(errno) => {
+                let line = not_attached_line(alloc, errno)?;
+                Ok(match errno {
+                    Errno::ENOSPC => Answer::NoPlace(line),
+                    _ => Answer::Lines(line),
+                })
+            }
+        }
     }
 
     // Who isn't attached has no session.
-    fn detach<F: Callback + Copy, R: Rule, H: Wait>(
+    fn detach<M: SharedMount, H: Wait>(
         &mut self,
         rt: &H,
         alloc: Global,
-        mount: &Mount<N, F, R>,
+        mount: &mut M,
         client: u32,
     ) -> Result<Answer, AllocError> {
         let Some(session) = self.session(client) else {
             return Ok(Answer::BadCommand);
         };
-        match mount.detach(rt, session) {
-            Ok((_, receipt)) => {
-                self.keep(client, None);
-                self.receipts.push(receipt)?;
-                Ok(Answer::Lines(detached_line(alloc, client)?))
-            }
-            Err(_) => Ok(Answer::BadCommand),
+        if !mount.detach(rt, session) {
+            return Ok(Answer::BadCommand);
         }
+        self.keep(client, None);
+        Ok(Answer::Lines(detached_line(alloc, client)?))
     }
 
-    fn call<F: Callback + Copy, R: Rule, H: Wait>(
+    fn call<M: SharedMount, H: Wait>(
         &mut self,
         rt: &H,
         alloc: Global,
-        mount: &Mount<N, F, R>,
+        mount: &mut M,
         client: u32,
         call: &CallText<'_>,
     ) -> Result<Answer, AllocError> {
@@ -123,27 +120,22 @@ impl<N: MountName> Clients<N> {
         }
     }
 
-    // Makes a call, whose reply is that of the entry of its receipt.
-    fn make<F: Callback + Copy, R: Rule, H: Wait>(
+    fn make<M: SharedMount, H: Wait>(
         &mut self,
         rt: &H,
         alloc: Global,
-        mount: &Mount<N, F, R>,
+        mount: &mut M,
         (client, session): (u32, Session),
         call: Call,
     ) -> Result<Answer, AllocError> {
         let mut session = session;
-        let mut receipt = match mount.call(rt, &mut session, call, &Open) {
-            Ok(receipt) => receipt,
-            Err(why) => return refused(alloc, client, why),
-        };
-        self.keep(client, Some(session));
-        let line = match &mount.event_of(&mut receipt).deed {
-            Deed::Called(_, reply) => reply_line(alloc, client, reply)?,
-            _ => String::from_str(alloc, "no reply\n")?,
-        };
-        self.receipts.push(receipt)?;
-        Ok(Answer::Lines(line))
+        match mount.call(rt, &mut session, client, call) {
+            Ok(line) => {
+                self.keep(client, Some(session));
+                Ok(Answer::Lines(line))
+            }
+            Err(why) => refused(alloc, client, why),
+        }
     }
 
     fn session(&self, client: u32) -> Option<Session> {
@@ -162,12 +154,17 @@ impl<N: MountName> Clients<N> {
 
 // A session that is not judged right, and a gate that stops, have no line of a script.
 fn refused(alloc: Global, client: u32, why: Refused) -> Result<Answer, AllocError> {
-    let errno = match why {
-        Refused::Full => Errno::ENOSPC,
-        Refused::Memory => Errno::ENOMEM,
-        Refused::Session | Refused::Stopped => return Ok(Answer::BadCommand),
-    };
-    Ok(Answer::Lines(not_taken_line(alloc, client, errno)?))
+    match why {
+        Refused::Full => {
+            let line = not_taken_line(alloc, client, Errno::ENOSPC)?;
+            Ok(Answer::NoPlace(line))
+        }
+        Refused::Memory => {
+            let line = not_taken_line(alloc, client, Errno::ENOMEM)?;
+            Ok(Answer::Lines(line))
+        }
+        Refused::Session | Refused::Stopped => Ok(Answer::BadCommand),
+    }
 }
 
 /// Other hooks of the same tags and callbacks.

@@ -1,6 +1,7 @@
 // What a script asks of a mount beside calls, and where its text ends.
 use crate::kept_trees::KeptLayer;
 use crate::tree_lines::push_tree;
+use ov_script::{Command, command_of};
 use overlay_core::Core;
 use std::alloc::{AllocError, Global};
 use watch_table::{Callback, Rule};
@@ -10,6 +11,15 @@ use watch_table::{Callback, Rule};
 pub enum Sight {
     Layer(usize),
     Tree,
+}
+
+/// What a line of a script asks to see.
+pub fn sight_of(line: &[u8]) -> Option<Sight> {
+    match command_of(line) {
+        Ok(Command::Layer { index }) => Some(Sight::Layer(index as usize)),
+        Ok(Command::Merge) => Some(Sight::Tree),
+        _ => None,
+    }
 }
 
 impl Sight {

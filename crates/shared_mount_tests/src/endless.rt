@@ -1,0 +1,278 @@
+// A mount that keeps no entry of its history: it never fills, and all else is as on one that does.
+ghost use Rattle.endless_mount.specs.Names.{IsNamed};
+
+use crate::mounts::{Shut, Silent, core_of, path_of};
+use endless_mount::{Blank, BookName, EndlessMount, Front};
+use locked_history::{Gate, Open, Refused, Session};
+use ov_base::{Call, ObjectKind, Path, Reply, Stat};
+use std::alloc::Global;
+use std::hash::RandomState;
+use std::marker::Brand;
+use std::process::Abort;
+use std::sync::Wait;
+use std::test::Fail;
+use std::thread;
+use std::thread::Threads;
+use watch_table::{AnyAnswer, Callback, Rule};
+
+/// A history of three places is no limit here.
+const FILE: &str = "history = 3
+layer = [{}, {entry = [{path = '/f', kind = 'file', text = 'x'}]}]";
+
+const ROOT: Stat = Stat {
+    kind: ObjectKind::Directory,
+    mode: 0o755,
+    uid: 0,
+    gid: 0,
+    size: 0,
+    links: 1,
+};
+
+const WORKERS: usize = 8;
+
+/// The calls of each worker, beside its attach and its detach.
+const CALLS: u64 = 20;
+
+/// What is tried on a mount.
+#[derive(Clone, Copy)]
+enum Trial {
+    GoesOn,
+    UsesANumber,
+    Stops,
+    Races,
+}
+
+impl Trial {
+    // How many entries the history has then.
+    fn entries(self) -> u64 {
+        match self {
+            Trial::GoesOn => 11,
+            Trial::UsesANumber => 5,
+            Trial::Stops => 2,
+            Trial::Races => WORKERS as u64 * (CALLS + 2),
+        }
+    }
+}
+
+// Makes `stat /`, a session's next call.
+fn looks<N: BookName, F: Callback, R: Rule, H: Wait, G: Gate>(
+    rt: &H,
+    alloc: Global,
+    mount: &EndlessMount<N, F, R>,
+    client: &mut (Session, Front<N>),
+    gate: &G,
+) -> Result<(u64, Reply), Refused> {
+    let call = Call::Stat {
+        path: Path::root(alloc),
+    };
+    mount.call(rt, &mut client.0, &mut client.1, call, gate)
+}
+
+// A client without hooks, whose attach has this place.
+fn attached<N: BookName, F: Callback + Drop, R: Rule, H: Wait + Abort>(
+    rt: &H,
+    alloc: Global,
+    mount: &EndlessMount<N, F, R>,
+    wanted: u64,
+) -> Result<(Session, Front<N>), Fail> {
+    let (session, place, seen) = mount.attach(rt, Vec::new(alloc)).map_err(|_| "attach")?;
+    assert_eq!(rt; place, wanted);
+    assert_eq!(rt; seen.len(), wanted.saturating_add(1));
+    Ok((session, seen))
+}
+
+// More calls are answered than the manifest's history has places, each at the next place.
+fn goes_on<N: BookName, F: Callback + Drop, R: Rule, H: Wait + Abort>(
+    rt: &H,
+    alloc: Global,
+    mount: &EndlessMount<N, F, R>,
+) -> Result<(), Fail> {
+    let mut client = attached(rt, alloc, mount, 0)?;
+    for wanted in 1..10 {
+        let (place, reply) = looks(rt, alloc, mount, &mut client, &Open).map_err(|_| "call")?;
+        assert_eq!(rt; place, wanted);
+        assert!(rt; matches!(reply, Reply::Status(stat) if stat == ROOT));
+    }
+    let (session, mut seen) = client;
+    assert_eq!(rt; session.number, 11);
+    let (_, place) = mount.detach(rt, session, &mut seen).map_err(|_| "detach")?;
+    assert!(rt; place == 10 && seen.len() == 11);
+    Ok(())
+}
+
+// A copy of a session whose number was used is refused, and the next right one is answered.
+fn uses_a_number<N: BookName, F: Callback + Drop, R: Rule, H: Wait + Abort>(
+    rt: &H,
+    alloc: Global,
+    mount: &EndlessMount<N, F, R>,
+) -> Result<(), Fail> {
+    let mut client = attached(rt, alloc, mount, 0)?;
+    let mut used = (client.0, client.1.again());
+    let _first = looks(rt, alloc, mount, &mut client, &Open).map_err(|_| "first call")?;
+    let again = looks(rt, alloc, mount, &mut used, &Open).err();
+    assert!(rt; matches!(again, Some(Refused::Session)));
+    assert!(rt; used.0.number == 2 && used.1.len() == 1);
+    let refused = mount.detach(rt, used.0, &mut used.1).err();
+    assert_eq!(rt; refused, Some(Refused::Session));
+    let (place, _) = looks(rt, alloc, mount, &mut client, &Open).map_err(|_| "second call")?;
+    assert!(rt; place == 2 && client.0.number == 4);
+    assert!(rt; mount.detach(rt, client.0, &mut client.1).is_ok());
+    let gone = mount.detach(rt, client.0, &mut client.1).err();
+    assert_eq!(rt; gone, Some(Refused::Session));
+    let next = attached(rt, alloc, mount, 4)?;
+    assert_eq!(rt; next.0.client, 1);
+    Ok(())
+}
+
+// A call that the gate stops is no entry, and leaves the session's number and the front.
+fn stops<N: BookName, F: Callback + Drop, R: Rule, H: Wait + Abort>(
+    rt: &H,
+    alloc: Global,
+    mount: &EndlessMount<N, F, R>,
+) -> Result<(), Fail> {
+    let mut client = attached(rt, alloc, mount, 0)?;
+    let stopped = looks(rt, alloc, mount, &mut client, &Shut).err();
+    assert!(rt; matches!(stopped, Some(Refused::Stopped)));
+    assert!(rt; client.0.number == 2 && client.1.len() == 1);
+    let (place, _) = looks(rt, alloc, mount, &mut client, &Open).map_err(|_| "call")?;
+    assert_eq!(rt; place, 1);
+    Ok(())
+}
+
+// A worker's client attaches, makes its calls and detaches. Its front comes back, and how often it
+// was the one that made the directory.
+fn works<N: BookName, F: Callback + Drop, R: Rule, H: Wait>(
+    rt: &H,
+    alloc: Global,
+    mount: &EndlessMount<N, F, R>,
+) -> Option<(Front<N>, u64)> {
+    let (mut session, _, mut seen) = mount.attach(rt, Vec::new(alloc)).ok()?;
+    let mut made = 0u64;
+    for _ in 0..CALLS {
+        let path = path_of(alloc, "/d").ok()?;
+        let call = Call::Mkdir { path, mode: 0o755 };
+        let (_, reply) = mount.call(rt, &mut session, &mut seen, call, &Open).ok()?;
+        if let Reply::Done = reply {
+            made = made.saturating_add(1);
+        }
+    }
+    let _ = mount.detach(rt, session, &mut seen).ok()?;
+    Some((seen, made))
+}
+
+// The longest of the workers' fronts, and how often the directory was made.
+fn longest<N: BookName>(
+    first: &Front<N>,
+    worked: Vec<Option<(Front<N>, u64)>>,
+) -> Option<(Front<N>, u64)> {
+    let mut seen = first.again();
+    let mut made = 0u64;
+    for one in worked {
+        let (front, count) = one?;
+        seen = seen.longer(&front);
+        made = made.saturating_add(count);
+    }
+    Some((seen, made))
+}
+
+// Each worker's calls are answered, one of them makes the directory, and the longest front has all
+// of them and nothing else. It is left.
+fn races<
+    N: BookName + Send + Sync,
+    F: Callback + Drop + Send,
+    R: Rule + Send,
+    H: Threads + Wait + Abort + Sync,
+>(rt: &H, alloc: Global, mount: &EndlessMount<N, F, R>, seen: &mut Front<N>) -> Result<(), Fail> {
+    let worked = thread::map_indices(rt, alloc, WORKERS, &|_worker| works(rt, alloc, mount))?;
+    let Some((front, made)) = longest(seen, worked) else {
+        return Err(Fail::from("a worker failed"));
+    };
+    *seen = front;
+    assert_eq!(rt; made, 1);
+    assert_eq!(rt; seen.len(), Trial::Races.entries());
+    Ok(())
+}
+
+// Tries this, and leaves what was seen of the history.
+fn tried<
+    N: BookName + Send + Sync,
+    F: Callback + Drop + Send,
+    R: Rule + Send,
+    H: Threads + Wait + Abort + Sync,
+>(
+    rt: &H,
+    alloc: Global,
+    mount: &EndlessMount<N, F, R>,
+    trial: Trial,
+    seen: &mut Front<N>,
+) -> Result<(), Fail> {
+    match trial {
+        Trial::GoesOn => goes_on(rt, alloc, mount),
+        Trial::UsesANumber => uses_a_number(rt, alloc, mount),
+        Trial::Stops => stops(rt, alloc, mount),
+        Trial::Races => races(rt, alloc, mount, seen),
+    }
+}
+
+// How many entries the history has in which a mount ends, and how much was done on its core, which
+// is let go nowhere else.
+fn ended<N: BookName, F: Callback + Drop, R: Rule, H: Wait>(
+    rt: &H,
+    mount: EndlessMount<N, F, R>,
+    seen: Front<N>,
+) -> (u64, u64) {
+    let (core, whole) = mount.finish(rt, seen);
+    (whole.len(), core.finished())
+}
+
+fn tries<
+    N: BookName + Send + Sync,
+    F: Callback + Drop + Send,
+    R: Rule + Send,
+    H: Threads + Wait + Abort + Sync,
+>(rt: &H, alloc: Global, blank: Blank<F, R>, trial: Trial) -> Result<(), Fail>
+    requires { IsNamed N.book N.opening blank }
+{
+    let (mount, first) = EndlessMount::<N, F, R>::open(blank);
+    let mut seen = first;
+    let outcome = tried(rt, alloc, &mount, trial, &mut seen);
+    let (entries, finished) = ended(rt, mount, seen);
+    outcome?;
+    assert!(rt; entries == trial.entries() && finished == entries);
+    Ok(())
+}
+
+// Tries this on a mount of its own.
+fn named<F: Callback + Drop + Send, R: Rule + Send, H: Threads + Wait + Abort + Sync>(
+    rt: &H,
+    alloc: Global,
+    keys: RandomState,
+    trial: Trial,
+) -> Result<(), Fail> {
+    let blank = Blank::new(alloc, core_of::<F, R>(alloc, keys, FILE)?);
+    tries::<Brand, F, R, H>(rt, alloc, blank, trial)
+}
+
+#[test]
+fn endless_history_goes_on(rt: HostRuntime) -> Result<(), Fail> {
+    let keys = RandomState::new(&rt)?;
+    named::<Silent, AnyAnswer, _>(&rt, rt.alloc(), keys, Trial::GoesOn)
+}
+
+#[test]
+fn endless_history_refuses_a_used_number(rt: HostRuntime) -> Result<(), Fail> {
+    let keys = RandomState::new(&rt)?;
+    named::<Silent, AnyAnswer, _>(&rt, rt.alloc(), keys, Trial::UsesANumber)
+}
+
+#[test]
+fn endless_history_leaves_out_a_stopped_call(rt: HostRuntime) -> Result<(), Fail> {
+    let keys = RandomState::new(&rt)?;
+    named::<Silent, AnyAnswer, _>(&rt, rt.alloc(), keys, Trial::Stops)
+}
+
+#[test]
+fn eight_threads_make_one_endless_history(rt: HostRuntime) -> Result<(), Fail> {
+    let keys = RandomState::new(&rt)?;
+    named::<Silent, AnyAnswer, _>(&rt, rt.alloc(), keys, Trial::Races)
+}

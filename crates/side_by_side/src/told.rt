@@ -1,0 +1,132 @@
+// What a script comes to on mounts that threads share. Such a mount lends its core to nobody before
+// it has ended, so where the script asks for a layer or the tree a play ends, and the next one
+// begins on a new mount.
+use crate::shared_clients::{Answer, Clients, is_silent};
+use crate::shared_mount::SharedMount;
+use crate::sights::sight_of;
+use overlay_core::Core;
+use std::alloc::{AllocError, Global};
+use std::sync::Wait;
+use watch_table::{Callback, Rule};
+
+/// What a script's lines came to, up to one of them.
+#[derive(Drop)]
+pub struct Told {
+    pub text: String,
+    /// Whether the history had no place for what one of them asks for.
+    pub is_full: bool,
+    lines: u64,
+}
+
+/// Where a play on one mount ends.
+#[derive(Clone, Copy)]
+pub enum Stop {
+    End,
+    /// At a line that asks for a layer or the tree.
+    Asks,
+    BadCommand,
+}
+
+impl Told {
+    /// Nothing is told yet.
+    pub fn new(alloc: Global) -> Told {
+        Told {
+            text: String::new(alloc),
+            is_full: false,
+            lines: 0,
+        }
+    }
+
+    /// Plays the lines from the first one on, and tells what those answer that are not told yet, up
+    /// to one that asks for a layer or the tree.
+    pub fn play<M: SharedMount, H: Wait>(
+        &mut self,
+        rt: &H,
+        alloc: Global,
+        mount: &mut M,
+        script: &[u8],
+    ) -> Result<Stop, AllocError> {
+        let mut clients = Clients::new(alloc);
+        let mut number = 0u64;
+        for line in script.split(|byte| *byte == b'\n') {
+            number = number.saturating_add(1);
+            let answer = clients.answer(rt, alloc, mount, line)?;
+            if number <= self.lines {
+                continue;
+            }
+            match answer {
+                Answer::Lines(lines) => self.text.push_str(lines.as_str())?,
+                Answer::NoPlace(lines) => {
+                    self.is_full = true;
+                    self.text.push_str(lines.as_str())?;
+                }
+                Answer::Asks => return Ok(Stop::Asks),
+                Answer::BadCommand => return Ok(Stop::BadCommand),
+            }
+            self.lines = number;
+        }
+        Ok(Stop::End)
+    }
+
+    /// Tells what the mount came to where its play ended; false where nothing is left to tell.
+    pub fn end<F: Callback, R: Rule>(
+        &mut self,
+        alloc: Global,
+        core: &Core<F, R>,
+        script: &[u8],
+        stop: Result<Stop, AllocError>,
+        is_whole: bool,
+    ) -> Result<bool, AllocError> {
+        let stop = stop?;
+        if !is_whole {
+            self.text.push_str("the history has not what was done\n")?;
+            return Ok(false);
+        }
+        match stop {
+            Stop::End => Ok(false),
+            Stop::Asks => self.tell_sights(alloc, core, script),
+            Stop::BadCommand => self.tell_fault(alloc),
+        }
+    }
+
+    // Tells what the lines that are not told yet ask for, up to one that asks for something else;
+    // false where there is none.
+    fn tell_sights<F: Callback, R: Rule>(
+        &mut self,
+        alloc: Global,
+        core: &Core<F, R>,
+        script: &[u8],
+    ) -> Result<bool, AllocError> {
+        let mut number = 0u64;
+        for line in script.split(|byte| *byte == b'\n') {
+            number = number.saturating_add(1);
+            if number <= self.lines {
+                continue;
+            }
+            if !is_silent(line) {
+                let Some(sight) = sight_of(line) else {
+                    return Ok(true);
+                };
+                if !sight.push_lines(alloc, core, &mut self.text)? {
+                    return self.tell_fault(alloc);
+                }
+            }
+            self.lines = number;
+        }
+        Ok(false)
+    }
+
+    // The next line is at fault, and nothing is told behind it.
+    fn tell_fault(&mut self, alloc: Global) -> Result<bool, AllocError> {
+        let line = self.lines.saturating_add(1);
+        let fault = format!(in alloc; "line {line}: bad command\n")?;
+        self.text.push_str(fault.as_str())?;
+        Ok(false)
+    }
+
+    /// Tells that there is no mount.
+    pub fn end_without_mount(&mut self) -> Result<bool, AllocError> {
+        self.text.push_str("no mount\n")?;
+        Ok(false)
+    }
+}
