@@ -1,5 +1,5 @@
 // A mount that threads share, whose history is kept nowhere.
-ghost use Rattle.std.specs.Prelude.{◌≡◌, ◌≢◌, ◌+◌, ◌<◌, ◌≤◌, ◌↔◌, [], IfErr, IfOk, IfSome, IsSomeAnd, MatchResult, OnErr, OnOk, Some, length, map, slice_get, true};
+ghost use Rattle.std.specs.Prelude.{◌≡◌, ◌≢◌, ◌+◌, ◌<◌, ◌≤◌, ◌↔◌, [], IfErr, IfOk, IfSome, IsSomeAnd, MatchResult, OnErr, OnOk, Some, length, map, slice_get, true, ℕ};
 ghost use mathlib.Core.List.{IsPrefix};
 ghost use Rattle.mount_calls.specs.Keeping.{takes_no_memory};
 ghost use Rattle.overlay_core.specs.LegalHistories.{Legally};
@@ -8,10 +8,10 @@ ghost use Rattle.locked_history.specs.Entries.{history_of};
 use crate::blank::Blank;
 use crate::book::{BookName, Front};
 use crate::recorded::{Pending, Recorded};
-use locked_history::{Gate, Pass, Refused, Session};
+use locked_history::{Gate, Pass, Refused, Session, tags_of};
 use ov_base::{Call, Errno, Reply};
 use overlay_core::{Core, Job};
-use std::alloc::{AllocError, Global};
+use std::alloc::Global;
 use std::collections::BTreeMap;
 use std::sync::{Mutex, Wait};
 use watch_table::{Callback, Hook, NotAttached, Rule};
@@ -96,9 +96,9 @@ impl<N: BookName, F: Callback, R: Rule> EndlessMount<N, F, R> {
     }
 
     /// Makes a session's call, with the lock taken once for each of its steps, at most 66,049. Before
-    /// each step the lock is free, and the gate is asked. It gives the reply with the place of the
-    /// call's entry, which the caller's front then has. What is refused is no entry, and leaves the
-    /// session's number and the front.
+    /// each step the lock is free, and the gate is asked, which alone can stop it. It gives the reply
+    /// with the place of the call's entry, which the caller's front then has. What is refused is no
+    /// entry, and leaves the session's number and the front.
     pub fn call<H: Wait, G: Gate>(
         &self,
         rt: &H,
@@ -119,6 +119,8 @@ impl<N: BookName, F: Callback, R: Rule> EndlessMount<N, F, R> {
             (λ _. (session.new.client ≡ session.old.client)
             × (session.new.number ≡ session.old.number + 1))
             (λ _. session.new ≡ session.old) }
+        ensures stopped { IfErr result (λ why. why ≡ Refused.Stopped →
+            (step : ℕ) × G.may_stop gate.now session.old.client step) }
     {
         let client = session.client;
         let mut job = Job::new(client, call);
@@ -154,18 +156,4 @@ impl<N: BookName, F: Callback, R: Rule> EndlessMount<N, F, R> {
         }
         (core, front)
     }
-}
-
-// The tags of hooks.
-fn tags_of<F: Callback, R: Rule>(
-    alloc: Global,
-    hooks: &[Hook<F, R>],
-) -> Result<Vec<u32>, AllocError>
-    ensures { IfOk result (λ tags. tags.items ≡ map (λ h. h.tag) hooks.now) }
-{
-    let mut tags = Vec::with_capacity(alloc, hooks.len())?;
-    for hook in hooks {
-        tags.push(hook.tag())?;
-    }
-    Ok(tags)
 }

@@ -14,7 +14,7 @@ mod row;
 mod session;
 
 pub use blank::Blank;
-pub use entry::{Deed, Entry};
+pub use entry::{Deed, Entry, tags_of};
 pub use gate::{Gate, Open, Pass};
 pub use locked::{Arrival, Locked, Pending};
 pub use mount::Mount;

@@ -1,12 +1,12 @@
 // A mount that threads share.
-ghost use Rattle.std.specs.Prelude.{◌≡◌, ◌+◌, ◌<◌, ◌≤◌, ◌↔◌, All, IfErr, IfOk, IfSome, MatchResult, OnOk, count_by, false, filter, length, map, true};
+ghost use Rattle.std.specs.Prelude.{◌≡◌, ◌+◌, ◌<◌, ◌≤◌, ◌↔◌, All, IfErr, IfOk, IfSome, MatchResult, OnOk, count_by, false, filter, length, map, true, ℕ};
 ghost use Rattle.once_cell.specs.Once.{cell_name};
 ghost use Rattle.locked_history.specs.Claims.{StandsIn, is_past_end, uncounted};
 ghost use Rattle.locked_history.specs.Entries.{history_of};
 ghost use Rattle.overlay_core.specs.LegalHistories.{Legally};
 
 use crate::blank::Blank;
-use crate::entry::{Deed, Entry};
+use crate::entry::{Deed, Entry, tags_of};
 use crate::gate::{Gate, Pass};
 use crate::locked::{Arrival, Locked, Pending};
 use crate::mount_name::MountName;
@@ -16,7 +16,7 @@ use crate::session::{Refused, Session};
 use once_cell::race::OnceBox;
 use ov_base::{Call, Errno};
 use overlay_core::Job;
-use std::alloc::{AllocError, Global};
+use std::alloc::Global;
 use std::sync::{Mutex, Wait};
 use watch_table::{Callback, Hook, NotAttached, Rule};
 use work_dir::STEPS_MAX;
@@ -104,8 +104,8 @@ impl<N: MountName, F: Callback, R: Rule> Mount<N, F, R> {
     }
 
     /// Makes a session's call, with the lock taken once for each of its steps, at most 66,049. Before
-    /// each step the lock is free, and the gate is asked. What is refused is no entry, and leaves the
-    /// session's number.
+    /// each step the lock is free, and the gate is asked, which alone can stop it. What is refused is
+    /// no entry, and leaves the session's number.
     pub fn call<H: Wait, G: Gate>(
         &self,
         rt: &H,
@@ -120,6 +120,8 @@ impl<N: MountName, F: Callback, R: Rule> Mount<N, F, R> {
             (λ _. (session.new.client ≡ session.old.client)
             × (session.new.number ≡ session.old.number + 1))
             (λ _. session.new ≡ session.old) }
+        ensures stopped { IfErr result (λ why. why ≡ Refused.Stopped →
+            (step : ℕ) × G.may_stop gate.now session.old.client step) }
     {
         let client = session.client;
         let mut job = Job::new(client, call);
@@ -217,20 +219,6 @@ impl<N: MountName, F: Callback, R: Rule> Mount<N, F, R> {
         };
         (past, receipts)
     }
-}
-
-// The tags of hooks.
-fn tags_of<F: Callback, R: Rule>(
-    alloc: Global,
-    hooks: &[Hook<F, R>],
-) -> Result<Vec<u32>, AllocError>
-    ensures { IfOk result (λ tags. tags.items ≡ map (λ h. h.tag) hooks.now) }
-{
-    let mut tags = Vec::with_capacity(alloc, hooks.len())?;
-    for hook in hooks {
-        tags.push(hook.tag())?;
-    }
-    Ok(tags)
 }
 
 // What an attach needs, or none where memory runs out.

@@ -52,6 +52,8 @@ struct Holding<'a, H: Clock> {
 }
 
 impl<H: Clock> Gate for Holding<'_, H> {
+    ghost may_stop = { λ gate client step. step ≡ gate.step };
+
     fn pass(&self, _client: u64, step: u64) -> Pass {
         if step != self.step {
             return Pass::On;
@@ -200,6 +202,8 @@ pub struct Stopping {
 }
 
 impl Gate for Stopping {
+    ghost may_stop = { λ gate client step. step ≡ gate.step };
+
     fn pass(&self, _client: u64, step: u64) -> Pass {
         if step == self.step {
             Pass::Stop
@@ -277,6 +281,8 @@ impl<N: MountName, F: Callback + Drop, R: Rule, H: Wait> Meddling<'_, N, F, R, H
 }
 
 impl<N: MountName, F: Callback + Drop, R: Rule, H: Wait> Gate for Meddling<'_, N, F, R, H> {
+    ghost may_stop = { λ gate client step. ⊥ };
+
     fn pass(&self, _client: u64, step: u64) -> Pass {
         if step == 3 {
             self.told.store(self.meddles(), Ordering::SeqCst);

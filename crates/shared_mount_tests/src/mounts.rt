@@ -33,6 +33,8 @@ impl Callback for Silent {
 pub struct Shut;
 
 impl Gate for Shut {
+    ghost may_stop = { λ gate client step. Unit {0} };
+
     fn pass(&self, _client: u64, _step: u64) -> Pass {
         Pass::Stop
     }

@@ -54,6 +54,8 @@ impl<M: Places, H: Eprint + Wait> Guard<'_, '_, M, H> {
 }
 
 impl<M: Places, H: Eprint + Wait> Gate for Guard<'_, '_, M, H> {
+    ghost may_stop = { λ gate client step. gate.closing ≡ None → ⊥ };
+
     fn pass(&self, _client: u64, step: u64) -> Pass {
         if step == 1 {
             self.look();

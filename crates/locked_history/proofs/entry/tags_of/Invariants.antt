@@ -1,5 +1,5 @@
 use Rattle.std.proofs.Common.{◌≡◌, map, take}
-use Rattle.endless_mount.proofs.mount.tags_of.Given as goal
+use Rattle.locked_history.proofs.entry.tags_of.Given as goal
 
 abbrev pub invariant-loop-hook : goal.invariant-loop-hook
 invariant-loop-hook g l = l.tags.items ≡ map (λ h. h.tag) (take l.hook-index l.initial.hooks)
