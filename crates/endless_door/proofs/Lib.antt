@@ -1,1 +1,1 @@
-mod Stepping
+mod Seen

@@ -1,16 +1,11 @@
--- How a client of a mount goes on, exchange by exchange.
-use Rattle.std.specs.Prelude.{◌≡◌, ℕ, ◌+◌, List, [], ◌∷◌, Some, slice_get}
+-- What is known of a client of a mount that keeps no history: the beginning of it that it has seen.
+use Rattle.std.specs.Prelude.{◌≡◌, ℕ, List, Some, slice_get}
 use mathlib.Core.List.{IsPrefix}
-use Rattle.ov_base.specs.declared.errno.Errno.TheVariants.{EINVAL}
-use Rattle.ov_base.specs.declared.reply.Reply.TheVariants.{Done}
-use Rattle.ov_frames.specs.declared.answer.Answer.TheVariants.{Replied, NotTaken}
 use Rattle.ov_session.specs.declared.exchange.Exchange.{Exchange}
-use Rattle.ov_session.specs.declared.exchange.Exchange.TheVariants.{Called, HeldBack, Departed}
 use Rattle.locked_history.specs.declared.entry.Deed.{Deed}
-use Rattle.locked_history.specs.declared.entry.Deed.TheVariants as deed
 use Rattle.locked_history.specs.declared.entry.Entry.{Entry}
 use Rattle.locked_history.specs.declared.session.Session.{Session}
-use Rattle.mount_door.specs.Advancing.{IsRefusal}
+use Rattle.mount_door.specs.GoingOn.{GoesOn}
 
 -- where a client stands: the number of its next entry, and the beginning of the history that it has
 -- seen
@@ -30,19 +25,10 @@ pub record IsEntered (old : Standing) (place : ℕ) (did : Deed) (number : ℕ) 
   pub whose : new.client ≡ old.client
   pub numbered : new.number ≡ number
 
--- EACH REPLY STANDS IN THE HISTORY at the place that is told, as the reply to this call of the client,
--- and under its next number. What is refused or held back is no entry
-abbrev pub IsStep : Standing → Exchange → Standing → Type 0
-IsStep old (Called call (Replied place reply)) new =
-    IsEntered old place (deed.Called call reply) (old.number + 1) new
-IsStep old (Called call (NotTaken errno)) new = IsRefusal errno × (new ≡ old)
-IsStep old (HeldBack call) new = new ≡ old
-IsStep old (Departed (Replied place reply)) new =
-    (reply ≡ Done) × IsEntered old place deed.Detached old.number new
-IsStep old (Departed (NotTaken errno)) new = (errno ≡ EINVAL) × (new ≡ old)
+-- the number of its next entry
+abbrev pub next_of : Standing → ℕ
+next_of s = s.number
 
--- A CLIENT GOES ON AS ITS EXCHANGES TELL, one after the other: it does nothing that isn't told
+-- a client goes on as its exchanges tell, and has seen each entry
 abbrev pub Advances : Standing → List Exchange → Standing → Type 0
-Advances old [] new = new ≡ old
-Advances old (exchange ∷ told) new =
-    (between : Standing) × IsStep old exchange between × Advances between told new
+Advances = GoesOn IsEntered next_of

@@ -1,3 +1,1 @@
-pub mod Exchanges
 pub mod Advancing
-pub mod Joining

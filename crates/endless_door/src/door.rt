@@ -3,10 +3,9 @@ ghost use Rattle.std.specs.Prelude.{◌≡◌, ◌∷◌, []};
 ghost use Rattle.ov_session.specs.declared.exchange.Exchange.TheVariants.{Departed};
 ghost use Rattle.endless_door.specs.Advancing.{Advances, standing};
 
-use crate::session::EndlessSession;
 use endless_mount::{BookName, EndlessMount, Front};
 use locked_history::{Gate, Refused, Session};
-use mount_door::errno_of;
+use mount_door::{ClientSession, errno_of};
 use ov_base::{Call, Reply};
 use ov_frames::{Answer, LentAnswer};
 use ov_session::{CallOutcome, Door};
@@ -76,26 +75,26 @@ impl<'m, N: BookName, F: Callback + Drop, R: Rule, G: Gate, H: Wait> EndlessDoor
 
 impl<'m, N: BookName, F: Callback + Drop, R: Rule, G: Gate, H: Wait> Door
     for EndlessDoor<'m, N, F, R, G, H> {
-    type Session = EndlessSession;
+    type Session = ClientSession<Answer>;
 
     ghost use Rattle.std.specs.Prelude.{◌≡◌};
-    ghost use Rattle.endless_door.specs.Advancing.{Advances, standing};
-    ghost use Rattle.endless_door.specs.Exchanges.{told_in};
-    ghost use Rattle.endless_door.specs.Joining.{advances_nothing, advances_on};
+    ghost use Rattle.mount_door.specs.Exchanges.{told_in};
+    ghost use Rattle.mount_door.specs.GoingOn.{goes_further, stays_there};
+    ghost use Rattle.endless_door.specs.Advancing.{Advances, IsEntered, next_of, standing};
 
-    ghost told = { told_in };
+    ghost told = { told_in (λ answer. answer) };
 
     ghost goes = { λ d told e. Advances (standing d.session d.seen) told
         (standing e.session e.seen) };
 
     ghost admits = { λ d s. Unit {0} };
 
-    ghost stays = { λ d. advances_nothing (standing d.session d.seen) };
+    ghost stays = { λ d. stays_there IsEntered next_of (standing d.session d.seen) };
 
-    ghost joins = { λ a b c xs ys. advances_on (standing a.session a.seen)
+    ghost joins = { λ a b c xs ys. goes_further IsEntered next_of (standing a.session a.seen)
         (standing b.session b.seen) (standing c.session c.seen) xs ys };
 
-    fn call(&mut self, session: &mut EndlessSession, call: Call) -> CallOutcome {
+    fn call(&mut self, session: &mut ClientSession<Answer>, call: Call) -> CallOutcome {
         let asked = Snapshot::of(&call);
         match self.mount.call(self.rt, &mut self.session, &mut self.seen, call, self.gate) {
             Ok((place, reply)) => {
@@ -113,11 +112,11 @@ impl<'m, N: BookName, F: Callback + Drop, R: Rule, G: Gate, H: Wait> Door
         }
     }
 
-    fn answer<'s>(&'s self, session: &'s EndlessSession) -> LentAnswer<'s> {
-        session.answer().lent()
+    fn answer<'s>(&'s self, session: &'s ClientSession<Answer>) -> LentAnswer<'s> {
+        session.answer()
     }
 
-    fn detach(&mut self, session: &mut EndlessSession) -> Answer {
+    fn detach(&mut self, session: &mut ClientSession<Answer>) -> Answer {
         let answer = self.leave();
         session.part(&answer);
         answer

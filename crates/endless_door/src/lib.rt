@@ -4,8 +4,6 @@
 
 mod door;
 mod running;
-mod session;
 
 pub use door::EndlessDoor;
 pub use running::{Departure, run_session};
-pub use session::EndlessSession;

@@ -7,9 +7,9 @@ ghost use Rattle.ov_session.specs.declared.exchange.Exchange.{Exchange};
 ghost use Rattle.endless_door.specs.Advancing.{Advances, standing};
 
 use crate::door::EndlessDoor;
-use crate::session::EndlessSession;
 use endless_mount::{BookName, EndlessMount, Front};
 use locked_history::{Gate, Session};
+use mount_door::ClientSession;
 use ov_devices::{Sink, Source};
 use ov_session::{Ending, SessionOutput, session_run};
 use std::alloc::Global;
@@ -62,7 +62,7 @@ where
     ensures output { OutputAt (K.failures output.old.sink) (K.failures output.new.sink)
         result.ending }
 {
-    let mut told = EndlessSession::new();
+    let mut told = ClientSession::new();
     let mut door = EndlessDoor::new(rt, mount, gate, session, seen);
     let ending = session_run(alloc, input, output, &mut door, &mut told);
     let EndlessDoor {

@@ -1,1 +1,2 @@
-mod Stepping
+pub mod Stepping
+mod Claimed

@@ -1,4 +1,4 @@
 pub mod Exchanges
 pub mod Claiming
+pub mod GoingOn
 pub mod Advancing
-pub mod Joining

@@ -11,7 +11,7 @@ ghost use Rattle.mount_door.specs.Claiming.{IsToldBy};
 ghost use Rattle.mount_door.specs.Exchanges.{told_in};
 
 use crate::refusals::errno_of;
-use crate::session::MountSession;
+use crate::session::ClientSession;
 use locked_history::{Deed, Gate, Mount, MountName, Receipt, Refused, Session};
 use ov_base::{Call, Errno, Reply};
 use ov_frames::{Answer, LentAnswer};
@@ -76,7 +76,7 @@ impl<'m, N: MountName, F: Callback + Drop, R: Rule, G: Gate, H: Wait> MountDoor<
     // next number.
     fn settle(
         &mut self,
-        session: &mut MountSession<'m>,
+        session: &mut ClientSession<LentAnswer<'m>>,
         next: Session,
         call: Snapshot<Call>,
         receipt: Receipt<N>,
@@ -90,7 +90,7 @@ impl<'m, N: MountName, F: Callback + Drop, R: Rule, G: Gate, H: Wait> MountDoor<
         ensures told { IsAsked Advances
             (standing self.old.session self.old.receipts.items)
             (standing self.new.session self.new.receipts.items)
-            (told_in session.old) (told_in session.new) call.value Answered }
+            (told_in answer_of session.old) (told_in answer_of session.new) call.value Answered }
         ensures spare { vec_len self.new.receipts < vec_capacity self.new.receipts }
     {
         let mut receipt = receipt;
@@ -124,27 +124,29 @@ impl<'m, N: MountName, F: Callback + Drop, R: Rule, G: Gate, H: Wait> MountDoor<
 
 impl<'m, N: MountName, F: Callback + Drop, R: Rule, G: Gate, H: Wait> Door
     for MountDoor<'m, N, F, R, G, H> {
-    type Session = MountSession<'m>;
+    type Session = ClientSession<LentAnswer<'m>>;
 
     ghost use Rattle.std.specs.Prelude.{◌≡◌, ◌<◌};
     ghost use Rattle.std.specs.Vec.{vec_capacity, vec_len};
-    ghost use Rattle.mount_door.specs.Advancing.{Advances, standing};
+    ghost use Rattle.ov_frames.specs.Lending.{answer_of};
+    ghost use Rattle.mount_door.specs.Advancing.{Advances, IsClaimed, next_of, standing};
     ghost use Rattle.mount_door.specs.Exchanges.{told_in};
-    ghost use Rattle.mount_door.specs.Joining.{advances_nothing, advances_on};
+    ghost use Rattle.mount_door.specs.GoingOn.{goes_further, stays_there};
 
-    ghost told = { told_in };
+    ghost told = { told_in answer_of };
 
     ghost goes = { λ d told e. Advances (standing d.session d.receipts.items) told
         (standing e.session e.receipts.items) };
 
     ghost admits = { λ d s. vec_len d.receipts < vec_capacity d.receipts };
 
-    ghost stays = { λ d. advances_nothing (standing d.session d.receipts.items) };
+    ghost stays = { λ d. stays_there IsClaimed next_of (standing d.session d.receipts.items) };
 
-    ghost joins = { λ a b c xs ys. advances_on (standing a.session a.receipts.items)
-        (standing b.session b.receipts.items) (standing c.session c.receipts.items) xs ys };
+    ghost joins = { λ a b c xs ys. goes_further IsClaimed next_of
+        (standing a.session a.receipts.items) (standing b.session b.receipts.items)
+        (standing c.session c.receipts.items) xs ys };
 
-    fn call(&mut self, session: &mut MountSession<'m>, call: Call) -> CallOutcome {
+    fn call(&mut self, session: &mut ClientSession<LentAnswer<'m>>, call: Call) -> CallOutcome {
         let asked = Snapshot::of(&call);
         if self.receipts.reserve(2).is_err() {
             session.tell(asked, LentAnswer::NotTaken(Errno::ENOMEM));
@@ -167,11 +169,11 @@ impl<'m, N: MountName, F: Callback + Drop, R: Rule, G: Gate, H: Wait> Door
         }
     }
 
-    fn answer<'s>(&'s self, session: &'s MountSession<'m>) -> LentAnswer<'s> {
+    fn answer<'s>(&'s self, session: &'s ClientSession<LentAnswer<'m>>) -> LentAnswer<'s> {
         session.answer()
     }
 
-    fn detach(&mut self, session: &mut MountSession<'m>) -> Answer {
+    fn detach(&mut self, session: &mut ClientSession<LentAnswer<'m>>) -> Answer {
         let answer = self.leave();
         session.part(&answer);
         answer

@@ -10,4 +10,4 @@ mod session;
 pub use door::MountDoor;
 pub use refusals::errno_of;
 pub use running::{Departure, run_session};
-pub use session::MountSession;
+pub use session::{ClientSession, Kept};

@@ -1,13 +1,13 @@
 // The numbers of refusals.
 ghost use Rattle.std.specs.Prelude.{◌≡◌};
-ghost use Rattle.mount_door.specs.Advancing as advancing;
+ghost use Rattle.mount_door.specs.GoingOn as going_on;
 
 use locked_history::Refused;
 use ov_base::Errno;
 
 /// The number with which a frame tells that a call or a detach has no place in the history.
 pub fn errno_of(why: Refused) -> Errno
-    ensures { result ≡ advancing.errno_of why }
+    ensures { result ≡ going_on.errno_of why }
 {
     match why {
         Refused::Memory => Errno::ENOMEM,

@@ -7,7 +7,7 @@ ghost use Rattle.ov_session.specs.declared.exchange.Exchange.{Exchange};
 ghost use Rattle.mount_door.specs.Advancing.{Advances, standing};
 
 use crate::door::MountDoor;
-use crate::session::MountSession;
+use crate::session::ClientSession;
 use locked_history::{Gate, Mount, MountName, Receipt, Session};
 use ov_devices::{Sink, Source};
 use ov_session::{Ending, SessionOutput, session_run};
@@ -62,7 +62,7 @@ where
     ensures output { OutputAt (K.failures output.old.sink) (K.failures output.new.sink)
         result.ending }
 {
-    let mut told = MountSession::new();
+    let mut told = ClientSession::new();
     let mut door = MountDoor::new(rt, mount, gate, session, receipts);
     let ending = session_run(alloc, input, output, &mut door, &mut told);
     let MountDoor {

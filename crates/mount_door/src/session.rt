@@ -1,6 +1,7 @@
 // What a client asked and was answered.
 ghost use Rattle.std.specs.Prelude.{◌≡◌, ◌++◌, ◌∷◌, []};
 ghost use Rattle.ov_frames.specs.Lending.{answer_of};
+ghost use Rattle.ov_frames.specs.declared.answer.Answer.{Answer};
 ghost use Rattle.ov_session.specs.Doors.{EndsInCall, IsLastAnswer};
 ghost use Rattle.ov_session.specs.declared.exchange.Exchange.TheVariants.{Called, Departed, HeldBack};
 ghost use Rattle.mount_door.specs.Exchanges.{told_in};
@@ -9,30 +10,55 @@ use ov_base::Call;
 use ov_frames::{Answer, LentAnswer};
 use std::snapshot::Snapshot;
 
-// What passed last, behind what passed before. All but the last answer is there for contracts alone;
-// the mount keeps the reply of that.
-#[derive(Drop)]
-enum Told<'m> {
-    Nothing,
-    Called(Snapshot<Told<'m>>, Snapshot<Call>, LentAnswer<'m>),
-    HeldBack(Snapshot<Told<'m>>, Snapshot<Call>),
-    Departed(Snapshot<Told<'m>>, Snapshot<Answer>),
+/// What a session keeps of an answer: the answer, or what the mount lends of it.
+pub trait Kept {
+    /// The answer.
+    ghost kept: { Self → Answer };
+
+    /// The answer, lent.
+    fn lent(&self) -> LentAnswer<'_>
+        ensures { answer_of result ≡ kept self.now };
 }
 
-/// The calls of a client of a mount and their answers, in order, until it is detached. It takes no
-/// memory: the entries of the history keep the calls and the replies.
+impl Kept for Answer {
+    ghost kept = { λ answer. answer };
+
+    fn lent(&self) -> LentAnswer<'_> {
+        Answer::lent(self)
+    }
+}
+
+impl<'m> Kept for LentAnswer<'m> {
+    ghost kept = { λ answer. answer_of answer };
+
+    fn lent(&self) -> LentAnswer<'_> {
+        *self
+    }
+}
+
+// What passed last, behind what passed before. All but the last answer is there for contracts alone.
 #[derive(Drop)]
-pub struct MountSession<'m> {
-    told: Told<'m>,
+enum Told<A> {
+    Nothing,
+    Called(Snapshot<Told<A>>, Snapshot<Call>, A),
+    HeldBack(Snapshot<Told<A>>, Snapshot<Call>),
+    Departed(Snapshot<Told<A>>, Snapshot<Answer>),
+}
+
+/// The calls of a client of a mount and their answers, in order, until it is detached. It keeps the
+/// last answer, and takes no memory for the others.
+#[derive(Drop)]
+pub struct ClientSession<A: Kept> {
+    told: Told<A>,
     calls: u64,
 }
 
-impl<'m> MountSession<'m> {
+impl<A: Kept + Drop> ClientSession<A> {
     /// A session in which nothing was asked yet.
-    pub fn new() -> MountSession<'m>
-        ensures { told_in result ≡ [] }
+    pub fn new() -> ClientSession<A>
+        ensures { told_in A.kept result ≡ [] }
     {
-        MountSession {
+        ClientSession {
             told: Told::Nothing,
             calls: 0,
         }
@@ -45,36 +71,36 @@ impl<'m> MountSession<'m> {
         self.calls
     }
 
-    // Tells a call and its answer more.
-    pub(crate) fn tell(&mut self, call: Snapshot<Call>, answer: LentAnswer<'m>)
-        ensures { told_in self.new
-            ≡ told_in self.old ++ Called call.value (answer_of answer.entry) ∷ [] }
+    /// Tells a call and its answer more.
+    pub fn tell(&mut self, call: Snapshot<Call>, answer: A)
+        ensures { told_in A.kept self.new
+            ≡ told_in A.kept self.old ++ Called call.value (A.kept answer) ∷ [] }
     {
         self.calls = self.calls.saturating_add(1);
         self.told = Told::Called(Snapshot::of(&self.told), call, answer);
     }
 
-    // Tells a call more that was held back.
-    pub(crate) fn hold_back(&mut self, call: Snapshot<Call>)
-        ensures { told_in self.new ≡ told_in self.old ++ HeldBack call.value ∷ [] }
+    /// Tells a call more that was held back.
+    pub fn hold_back(&mut self, call: Snapshot<Call>)
+        ensures { told_in A.kept self.new ≡ told_in A.kept self.old ++ HeldBack call.value ∷ [] }
     {
         self.told = Told::HeldBack(Snapshot::of(&self.told), call);
     }
 
-    // Tells a detach and its answer more.
-    pub(crate) fn part(&mut self, answer: &Answer)
-        ensures { told_in self.new ≡ told_in self.old ++ Departed answer.now ∷ [] }
+    /// Tells a detach and its answer more.
+    pub fn part(&mut self, answer: &Answer)
+        ensures { told_in A.kept self.new ≡ told_in A.kept self.old ++ Departed answer.now ∷ [] }
     {
         self.told = Told::Departed(Snapshot::of(&self.told), Snapshot::of(answer));
     }
 
-    // The answer to the last call.
-    pub(crate) fn answer(&self) -> LentAnswer<'m>
-        requires { EndsInCall (told_in self.now) }
-        ensures { IsLastAnswer (told_in self.now) (answer_of result) }
+    /// The answer to the last call.
+    pub fn answer(&self) -> LentAnswer<'_>
+        requires { EndsInCall (told_in A.kept self.now) }
+        ensures { IsLastAnswer (told_in A.kept self.now) (answer_of result) }
     {
         match &self.told {
-            Told::Called(_, _, answer) => *answer,
+            Told::Called(_, _, answer) => answer.lent(),
             _ => unreachable!(),
         }
     }

@@ -1,6 +1,7 @@
 use Rattle.std.proofs.Common.{◌≡◌, ◌∙◌, List, [], ◌∷◌, ◌++◌, ap}
 use Rattle.ov_session.specs.declared.exchange.Exchange.{Exchange}
 use Rattle.ov_session.specs.declared.exchange.Exchange.TheVariants.{Departed}
+use Rattle.ov_frames.specs.Lending.{answer_of}
 use Rattle.mount_door.specs.Exchanges.{told_in}
 use Rattle.mount_door.proofs.running.run_session.Goals as goal
 
@@ -8,7 +9,7 @@ pub returns-clause-session : goal.returns-clause-session
 returns-clause-session g c =
     let s = c.session_run-ending.ensures.session in
     let door = c.new-door.ensures in (
-      told_in c.session_run-ending.new.session,
+      told_in answer_of c.session_run-ending.new.session,
       record {
         heard = s.heard;
         farewell = s.farewell;

@@ -1,7 +1,8 @@
 use Rattle.std.proofs.Common.{◌≡◌}
 use Rattle.ov_frames.specs.declared.answer.Answer.TheVariants.{NotTaken, Replied}
-use Rattle.endless_door.specs.Advancing.{standing}
-use Rattle.endless_door.proofs.Stepping.{went_called, went_held, went_refused}
+use Rattle.mount_door.proofs.Stepping.{went_held, went_refused}
+use Rattle.endless_door.specs.Advancing.{IsEntered, next_of, standing}
+use Rattle.endless_door.proofs.Seen.{went_called}
 use Rattle.endless_door.proofs.door.EndlessDoorDoor.call.Goals as goal
 
 pub returns-in-Ok-clause-told : goal.returns-in-Ok-clause-told
@@ -20,7 +21,7 @@ returns-in-Err-Stopped-clause-told g c =
     let e = c.in-Err-Stopped.ensures in
     let same : standing c.call.new.session c.call.new.seen ≡ standing was.session was.seen = cc (e.session, e.unseen) in (
       rw c.of-asked.ensures at c.hold_back.ensures,
-      went_held (standing was.session was.seen) (standing c.call.new.session c.call.new.seen) c.args.call same,
+      went_held IsEntered next_of (standing was.session was.seen) (standing c.call.new.session c.call.new.seen) c.args.call same,
     )
 
 pub returns-in-Err-clause-told : goal.returns-in-Err-clause-told
@@ -30,6 +31,6 @@ returns-in-Err-clause-told g c =
     let same : standing c.call.new.session c.call.new.seen ≡ standing was.session was.seen = cc (e.session, e.unseen) in (
       NotTaken c.errno_of.result,
       rw c.of-asked.ensures at c.tell-in-Err.ensures,
-      rw c.errno_of.ensures (went_refused (standing was.session was.seen)
+      rw c.errno_of.ensures (went_refused IsEntered next_of (standing was.session was.seen)
           (standing c.call.new.session c.call.new.seen) c.args.call c.in-Err.why same),
     )

@@ -1,6 +1,7 @@
 use Rattle.std.proofs.Common.{refl}
-use Rattle.mount_door.specs.Advancing.{standing}
-use Rattle.mount_door.proofs.Stepping.{departed, stayed}
+use Rattle.mount_door.specs.Advancing.{IsClaimed, next_of, standing}
+use Rattle.mount_door.proofs.Claimed.{departed}
+use Rattle.mount_door.proofs.Stepping.{stayed}
 use Rattle.mount_door.proofs.door.MountDoor.leave.Goals as goal
 
 pub returns-in-Ok : goal.returns-in-Ok
@@ -14,4 +15,4 @@ pub returns-in-Err : goal.returns-in-Err
 returns-in-Err g c =
     let was = c.args.self.now in
     let stands = standing was.session was.receipts.items in
-    rw (c.errno_of.ensures, c.in-Err.ensures.refused) (stayed stands stands refl)
+    rw (c.errno_of.ensures, c.in-Err.ensures.refused) (stayed IsClaimed next_of stands stands refl)

@@ -1,5 +1,5 @@
 use Rattle.ov_frames.specs.Lending.{answer_of}
-use Rattle.mount_door.proofs.Stepping.{went_called}
+use Rattle.mount_door.proofs.Claimed.{went_called}
 use Rattle.mount_door.proofs.door.MountDoor.settle.Goals as goal
 
 pub returns-clause-told : goal.returns-clause-told

@@ -2,7 +2,7 @@ use Rattle.std.proofs.Common.{ap}
 use Rattle.ov_base.specs.declared.errno.Errno.TheVariants.{ENOMEM}
 use Rattle.ov_frames.specs.declared.answer.Answer.TheVariants.{NotTaken}
 use Rattle.locked_history.specs.declared.session.Refused.TheVariants.{Memory}
-use Rattle.mount_door.specs.Advancing.{standing}
+use Rattle.mount_door.specs.Advancing.{IsClaimed, next_of, standing}
 use Rattle.mount_door.proofs.Stepping.{went_held, went_refused}
 use Rattle.mount_door.proofs.door.MountDoorDoor.call.Goals as goal
 
@@ -11,7 +11,7 @@ returns-then-is_err-clause-told g c =
     let was = c.args.self.now in (
       NotTaken ENOMEM,
       rw c.of-asked.ensures at c.tell.ensures,
-      went_refused (standing was.session was.receipts.items)
+      went_refused IsClaimed next_of (standing was.session was.receipts.items)
           (standing was.session c.reserve.new.self.items) c.args.call Memory
           (ap (λ items. standing was.session items) c.reserve.ensures.items),
     )
@@ -20,7 +20,7 @@ pub returns-in-Err-Stopped-clause-told : goal.returns-in-Err-Stopped-clause-told
 returns-in-Err-Stopped-clause-told g c =
     let was = c.args.self.now in (
       rw c.of-asked.ensures at c.hold_back.ensures,
-      went_held (standing was.session was.receipts.items)
+      went_held IsClaimed next_of (standing was.session was.receipts.items)
           (standing was.session c.reserve.new.self.items) c.args.call
           (ap (λ items. standing was.session items) c.reserve.ensures.items),
     )
@@ -30,7 +30,7 @@ returns-in-Err-clause-told g c =
     let was = c.args.self.now in (
       NotTaken c.errno_of.result,
       rw c.of-asked.ensures at c.tell-in-Err.ensures,
-      rw c.errno_of.ensures (went_refused (standing was.session was.receipts.items)
+      rw c.errno_of.ensures (went_refused IsClaimed next_of (standing was.session was.receipts.items)
           (standing was.session c.reserve.new.self.items) c.args.call c.in-Err.why
           (ap (λ items. standing was.session items) c.reserve.ensures.items)),
     )
