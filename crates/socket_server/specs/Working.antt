@@ -1,5 +1,5 @@
 -- What the workers of a server leave of the connections that they took.
-use Rattle.std.specs.Prelude.{◌≡◌, ℕ, ◌+◌, true, false, Bool, List, All, length, Option, unwrap_or}
+use Rattle.std.specs.Prelude.{◌≡◌, ℕ, ◌+◌, true, false, Bool, List, All, length, Option, None, unwrap_or}
 use Rattle.std.specs.Global.{Vec}
 use Rattle.std.specs.List.{flat_map, list_any}
 use mathlib.Core.List.{IsPrefix}
@@ -9,6 +9,7 @@ use Rattle.socket_server.specs.Clients.{AreClients}
 use Rattle.socket_server.specs.EndlessClients.{AreClientsIn}
 use Rattle.socket_server.specs.declared.served.Served.{Served}
 use Rattle.socket_server.specs.declared.served.Served.TheVariants.{Done, Failed, Stopped}
+use Rattle.socket_server.specs.declared.serving.ServeOptions.{ServeOptions}
 use Rattle.socket_server.specs.declared.worker.Worked.{Worked}
 
 -- how the server ends: it fails where one of its workers did, and else is stopped where one was
@@ -28,6 +29,14 @@ pub record IsWork {K : Type 0} (keeps : ℕ → K → Type 0) (sessions : Option
   pub clients : keeps worked.served worked.kept
   pub all : worked.failed ≡ false → worked.stopped ≡ false →
       worked.served + worked.refused ≡ unwrap_or sessions 18446744073709551615
+
+-- all workers have ended: they are as many as were asked for, each served as it was to, and none was
+-- stopped where nothing ends the server
+pub record HaveWorked {K : Type 0} (keeps : ℕ → K → Type 0) (options : ServeOptions)
+    (workers : List (Worked K)) : Type 0 where
+  pub many : length workers ≡ options.workers
+  pub work : All (IsWork keeps options.sessions) workers
+  pub stopped : options.closing ≡ None → All (λ worked. worked.stopped ≡ false) workers
 
 -- these workers are so many, each served as it was to, and so the server ended
 pub record AreWorkers {K : Type 0} (keeps : ℕ → K → Type 0) (count : ℕ) (sessions : Option ℕ)

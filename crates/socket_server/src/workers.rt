@@ -1,7 +1,7 @@
 // All workers of a server.
-ghost use Rattle.std.specs.Prelude.{◌≡◌, ◌≢◌, All, IfOk, None, false, length, map};
+ghost use Rattle.std.specs.Prelude.{◌≡◌, ◌≢◌, IfOk, None, map};
 ghost use Rattle.std.specs.List.{list_any};
-ghost use Rattle.socket_server.specs.Working.{AreWorkers, IsWork};
+ghost use Rattle.socket_server.specs.Working.{AreWorkers, HaveWorked};
 ghost use Rattle.socket_server.specs.Working as working;
 
 use crate::reports::Reports;
@@ -57,11 +57,8 @@ fn work_all<M, H>(
 where
     M: Service + Places + Sync,
     H: Threads + Wait + Eprint + Sync,
-    ensures count { IfOk result (λ left. length left.items ≡ options.now.workers) }
-    ensures work { IfOk result (λ left.
-        All (IsWork (M.keeps (map M.tag hooks.now)) options.now.sessions) left.items) }
-    ensures stopped { options.now.closing ≡ None
-        → IfOk result (λ left. All (λ worked. worked.stopped ≡ false) left.items) }
+    ensures { IfOk result (λ left.
+        HaveWorked (M.keeps (map M.tag hooks.now)) options.now left.items) }
 {
     let left = thread::map_indices(
         rt,
@@ -89,11 +86,8 @@ fn work_or_tell<M, H>(
 where
     M: Service + Places + Sync,
     H: Threads + Wait + Eprint + Sync,
-    ensures count { thread ≡ 1 → IfOk result (λ left. length left.items ≡ options.now.workers) }
-    ensures work { IfOk result (λ left.
-        All (IsWork (M.keeps (map M.tag hooks.now)) options.now.sessions) left.items) }
-    ensures stopped { options.now.closing ≡ None
-        → IfOk result (λ left. All (λ worked. worked.stopped ≡ false) left.items) }
+    ensures { thread ≡ 1 → IfOk result (λ left.
+        HaveWorked (M.keeps (map M.tag hooks.now)) options.now left.items) }
 {
     if thread == 1 {
         work_all(rt, alloc, listener, mount, hooks, reports, options)
@@ -116,11 +110,8 @@ fn work_and_tell<M, H>(
 where
     M: Service + Places + Sync,
     H: Threads + Wait + Eprint + Sync,
-    ensures count { IfOk result (λ left. length left.items ≡ options.now.workers) }
-    ensures work { IfOk result (λ left.
-        All (IsWork (M.keeps (map M.tag hooks.now)) options.now.sessions) left.items) }
-    ensures stopped { options.now.closing ≡ None
-        → IfOk result (λ left. All (λ worked. worked.stopped ≡ false) left.items) }
+    ensures { IfOk result (λ left.
+        HaveWorked (M.keeps (map M.tag hooks.now)) options.now left.items) }
 {
     let mut left = thread::map_indices(
         rt,

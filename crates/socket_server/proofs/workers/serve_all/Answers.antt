@@ -5,7 +5,7 @@ use Rattle.socket_server.proofs.workers.serve_all.Goals as goal
 
 pub returns-clause-served : goal.returns-clause-served
 returns-clause-served g c = record {
-  many = c.in_ok-workers.ensures.count;
+  many = c.in_ok-workers.ensures.many;
   work = c.in_ok-workers.ensures.work;
   end = search rules;
 }
