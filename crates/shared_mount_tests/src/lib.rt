@@ -9,6 +9,8 @@ mod doors;
 #[cfg(test)]
 mod endless;
 #[cfg(test)]
+mod endless_server;
+#[cfg(test)]
 mod gates;
 #[cfg(test)]
 mod mounts;

@@ -21,7 +21,8 @@ use std::thread::{Threads, join};
 use std::{env, fs};
 use watch_table::{AnyAnswer, Callback, Hook, Rule};
 
-const EMPTY: &str = "layer = [{}, {}]";
+/// An empty upper over an empty lower layer.
+pub const EMPTY: &str = "layer = [{}, {}]";
 
 /// `stat /`, `mkdir 755 /a`, `stat /x` and `stat x`, each with its reply to the first client of a
 /// mount.
@@ -48,8 +49,8 @@ const SHOWN_SECOND: &[u8] =
 /// What the first client's `detach` is answered at place 6.
 const DETACHED: &[u8] = b"\x00\x00\x00\x09\x00\x00\x00\x00\x00\x00\x00\x00\x06";
 
-// What the clients ask: the second comes while the first is there still.
-fn two_clients<H: Net + Abort>(rt: &H, path: &str) -> Result<(), Fail> {
+/// What the clients ask: the second comes while the first is there still.
+pub fn two_clients<H: Net + Abort>(rt: &H, path: &str) -> Result<(), Fail> {
     let first = UnixStream::connect(rt, path)?;
     patient(&first)?;
     for (request, reply) in WORKED {
@@ -152,14 +153,9 @@ where
     served::<Brand, F, R, H>(rt, alloc, options, blank)
 }
 
-// The same on a mount of its own, by two workers with one session each.
-fn served_by_two<F, R, H>(rt: &H, alloc: Global, keys: RandomState, path: &str) -> Result<(), Fail>
-where
-    F: Callback + Copy + Send + Sync,
-    R: Rule + Send + Sync,
-    H: Files + Net + Threads + Wait + Eprint + Abort + Sync,
-{
-    let options = ServeOptions {
+/// Two workers with one session each.
+pub fn by_two(path: &str) -> ServeOptions<'_> {
+    ServeOptions {
         socket: path,
         workers: 2,
         history: 100_000,
@@ -167,9 +163,18 @@ where
         idle: None,
         closing: None,
         verbose: false,
-    };
+    }
+}
+
+// The same on a mount of its own.
+fn served_by_two<F, R, H>(rt: &H, alloc: Global, keys: RandomState, path: &str) -> Result<(), Fail>
+where
+    F: Callback + Copy + Send + Sync,
+    R: Rule + Send + Sync,
+    H: Files + Net + Threads + Wait + Eprint + Abort + Sync,
+{
     let blank = blank_of::<F, R>(alloc, keys, EMPTY)?;
-    served_named(rt, alloc, &options, blank)
+    served_named(rt, alloc, &by_two(path), blank)
 }
 
 #[test]
