@@ -22,6 +22,13 @@ impl Dice {
         high.checked_rem(sides).unwrap_or(0)
     }
 
+    /// The first of a few words, at least one of them.
+    pub fn front<'w>(&mut self, words: &'w [&'static str]) -> &'w [&'static str] {
+        let sides = u8::try_from(words.len()).unwrap_or(u8::MAX);
+        let count = (self.roll(sides) as usize).saturating_add(1);
+        &words[..count.min(words.len())]
+    }
+
     /// One of a few words.
     pub fn pick(&mut self, words: &[&'static str]) -> &'static str {
         let sides = u8::try_from(words.len()).unwrap_or(u8::MAX);

@@ -83,19 +83,21 @@ pub fn script_difference_in_turn(
     Ok(found)
 }
 
-// Three clients come, watch, open files and make calls, one goes with what it has open, another comes, and there are more calls. Then what
-// stands at some paths is read, and the layers and the whole tree are printed.
+// Three clients come, and the first, the first two or all of them watch, open files and make calls. One goes with what it has open, another
+// comes, and one to three make more calls. Then what stands at some paths is read, and the layers and the whole tree are printed.
 fn script_of(alloc: Global, seed: u64, layers: Range<u32>) -> Result<String, AllocError> {
     let mut dice = Dice::new(seed);
     let mut script = String::from_str(alloc, "attach\nattach\nattach\n")?;
-    push_arms(&mut dice, &["0", "1", "2"], &mut script)?;
+    let clients = dice.front(&["0", "1", "2"]);
+    push_arms(&mut dice, clients, &mut script)?;
     for _ in 0..OPENS {
-        push_open_of(&mut dice, &["0", "1", "2"], &mut script)?;
+        push_open_of(&mut dice, clients, &mut script)?;
     }
-    push_calls(LINES, &mut dice, &["0", "1", "2"], &mut script)?;
+    push_calls(LINES, &mut dice, clients, &mut script)?;
     push_unread(&["1"], &mut script)?;
     script.push_str("1 detach\nattach\n")?;
-    push_calls(LINES_MORE, &mut dice, &["0", "2", "3"], &mut script)?;
+    let clients = dice.front(&["0", "2", "3"]);
+    push_calls(LINES_MORE, &mut dice, clients, &mut script)?;
     push_unread(&["0", "2", "3"], &mut script)?;
     push_readings(alloc, &mut script)?;
     push_unread(&["0", "2", "3"], &mut script)?;

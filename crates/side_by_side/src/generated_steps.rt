@@ -110,16 +110,19 @@ struct Draft<'a, F: Callback, R: Rule> {
 }
 
 impl<F: Callback + Copy, R: Rule> Draft<'_, F, R> {
-    // Three clients come, and some watch and open files. Then they make calls in steps, one goes,
-    // another comes, and there are more. What stands at some paths is read, while calls may go on.
+    // Three clients come, and the first, the first two or all of them watch, open files and make calls
+    // in steps. One goes, another comes, and one to three make more. What stands at some paths is
+    // read, while calls may go on.
     fn fill(&mut self, alloc: Global, hooks: &[Hook<F, R>]) -> Result<(), AllocError> {
         let mut lines = String::from_str(alloc, "attach\nattach\nattach\n")?;
-        push_first(&mut self.dice, &mut lines)?;
+        let clients = self.dice.front(&["0", "1", "2"]);
+        push_first(&mut self.dice, clients, &mut lines)?;
         self.add(alloc, hooks, &mut lines)?;
-        self.add_turns(alloc, hooks, LINES, &["0", "1", "2"])?;
+        self.add_turns(alloc, hooks, LINES, clients)?;
         lines.push_str("1 detach\nattach\n")?;
         self.add(alloc, hooks, &mut lines)?;
-        self.add_turns(alloc, hooks, LINES_MORE, &["0", "2", "3"])?;
+        let clients = self.dice.front(&["0", "2", "3"]);
+        self.add_turns(alloc, hooks, LINES_MORE, clients)?;
         push_readings(alloc, &mut lines)?;
         self.add(alloc, hooks, &mut lines)?;
         self.add_ends(alloc, hooks, &["0", "2", "3"])?;
@@ -200,13 +203,17 @@ fn push_end(client: &str, is_calling: bool, lines: &mut String) -> Result<(), Al
     lines.push_str(" notices 65\n")
 }
 
-// Lines of arms and opens.
-fn push_first(dice: &mut Dice, lines: &mut String) -> Result<(), AllocError> {
+// Lines of arms and opens of these clients.
+fn push_first(
+    dice: &mut Dice,
+    clients: &[&'static str],
+    lines: &mut String,
+) -> Result<(), AllocError> {
     for _ in 0..ARMS {
-        push_arm_of(dice, &["0", "1", "2"], lines)?;
+        push_arm_of(dice, clients, lines)?;
     }
     for _ in 0..OPENS {
-        push_open_of(dice, &["0", "1", "2"], lines)?;
+        push_open_of(dice, clients, lines)?;
     }
     Ok(())
 }
