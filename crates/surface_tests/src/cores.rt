@@ -54,6 +54,10 @@ pub fn mounted<F: Callback + Copy, H: Rule>(
     mounted_on(alloc, keys, upper, lowers, options)
 }
 
+/// Lets a mount go. Where a test has two ends it is let go here, since each place where a core is
+/// dropped costs much of a proof.
+pub fn unmount<F: Callback + Copy, H: Rule>(_core: Core<F, H>) {}
+
 // Why these layers are no mount, and the layers, handed back.
 pub fn refused<F: Callback + Copy, H: Rule>(
     alloc: Global,
@@ -65,7 +69,10 @@ pub fn refused<F: Callback + Copy, H: Rule>(
     requires layers { AreLayers (layer_of upper ∷ map layer_of lowers.items) }
 {
     match mounting::<F, H>(alloc, keys, upper, lowers, options) {
-        Ok(_) => Err(Fail::from("a mount")),
+        Ok(core) => {
+            unmount(core);
+            Err(Fail::from("a mount"))
+        }
         Err(unmounted) => Ok(unmounted),
     }
 }

@@ -1,10 +1,8 @@
-//! Tests of what no script reaches: sessions on a core, streams that fail, command lines, options, schedules of jobs, callbacks that are
+//! Tests of what no script reaches: sessions on a core, streams that fail, options, schedules of jobs, callbacks that are
 //! asked, hooks that are too many, marks and long files that no manifest makes, places that are freed, and public functions that no command
 //! calls. Scripts and manifests with what they come to are rows of `side_by_side`.
 #![tactic(auto)]
 
-#[cfg(test)]
-mod command_lines;
 #[cfg(test)]
 mod cores;
 #[cfg(test)]

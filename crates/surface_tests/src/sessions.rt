@@ -15,7 +15,7 @@ mod shaky;
 mod told;
 mod told_calls;
 
-use crate::cores::{DEEDS_MAX, attached, mounted};
+use crate::cores::{DEEDS_MAX, attached, mounted, unmount};
 use crate::fixtures::EMPTY;
 use core_door::{CoreSession, run_session};
 use ov_devices::{CountedReader, CountedWriter};
@@ -77,10 +77,6 @@ fn attach_and_serve<F: Callback + Copy, H: Rule, I: Read, O: Write>(
         }
     }
 }
-
-// Lets a mount go. It is let go nowhere else, since each place where a core is dropped costs much
-// of a proof.
-fn unmount<F: Callback + Copy, H: Rule>(_core: Core<F, H>) {}
 
 // How a session of a client ends, and what was asked and answered; the core goes back.
 fn serve<F: Callback + Copy, H: Rule, I: Read, O: Write>(

@@ -2,9 +2,9 @@
 // the session has open, hears once that it is closed.
 use super::devices::{Pieces, Taker};
 use super::rows::{later_replies_to, requests};
+use super::serve;
 use super::shaky::Once;
-use super::{serve, unmount};
-use crate::cores::{attached, mounted, reply};
+use crate::cores::{attached, mounted, reply, unmount};
 use crate::fixtures::{flags, path};
 use ov_base::{Call, Reply};
 use ov_server::hooks_by_slot;
