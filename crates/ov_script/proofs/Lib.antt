@@ -1,3 +1,4 @@
 pub mod EscapeLaws
 pub mod Escapes
+pub mod Ranges
 pub mod Words

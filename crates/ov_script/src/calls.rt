@@ -17,29 +17,21 @@ impl CallText<'_> {
         ensures { IfOk result (λ outcome. outcome ≡ commands.call_of self.now) }
     {
         match self {
-            CallText::Stat { path } => Ok(path_of(alloc, path)?.map(|path| Call::Stat { path })),
-            CallText::Readlink { path } => {
-                Ok(path_of(alloc, path)?.map(|path| Call::Readlink { path }))
-            }
+            CallText::Stat { path } => stat(alloc, path),
+            CallText::Readlink { path } => readlink(alloc, path),
             CallText::Chmod { mode, path } => chmod(alloc, *mode, path),
             CallText::Chown { uid, gid, path } => chown(alloc, *uid, *gid, path),
             CallText::SetAttribute { path, name, value } => set_attribute(alloc, path, name, value),
             CallText::GetAttribute { path, name } => get_attribute(alloc, path, name),
             CallText::DeleteAttribute { path, name } => delete_attribute(alloc, path, name),
-            CallText::ListAttributes { path } => {
-                Ok(path_of(alloc, path)?.map(|path| Call::ListAttributes { path }))
-            }
+            CallText::ListAttributes { path } => list_attributes(alloc, path),
             CallText::Mkdir { mode, path } => mkdir(alloc, *mode, path),
             CallText::Symlink { target, path } => symlink(alloc, target, path),
             CallText::Link { old, new } => link(alloc, old, new),
             CallText::Rename { old, new } => rename(alloc, old, new),
             CallText::Open { flags, path, mode } => open(alloc, *flags, path, *mode),
-            CallText::Unlink { path } => {
-                Ok(path_of(alloc, path)?.map(|path| Call::Unlink { path }))
-            }
-            CallText::Rmdir { path } => {
-                Ok(path_of(alloc, path)?.map(|path| Call::Rmdir { path }))
-            }
+            CallText::Unlink { path } => unlink(alloc, path),
+            CallText::Rmdir { path } => rmdir(alloc, path),
             CallText::Read { descriptor, count } => Ok(Ok(read(*descriptor, *count))),
             CallText::Write { descriptor, bytes } => write(alloc, *descriptor, bytes),
             CallText::Seek {
@@ -83,6 +75,18 @@ fn bytes_of(alloc: Global, word: &EscapedWord<'_>) -> Result<Bytes, AllocError>
     ensures { IfOk result (λ bytes. bytes ≡ word.now) }
 {
     Ok(Bytes::from_vec(word.bytes(alloc)?))
+}
+
+fn stat(alloc: Global, path: &EscapedWord<'_>) -> Result<Result<Call, Errno>, AllocError>
+    ensures { IfOk result (λ outcome. outcome ≡ commands.call_of (text.Stat path.now)) }
+{
+    Ok(path_of(alloc, path)?.map(|path| Call::Stat { path }))
+}
+
+fn readlink(alloc: Global, path: &EscapedWord<'_>) -> Result<Result<Call, Errno>, AllocError>
+    ensures { IfOk result (λ outcome. outcome ≡ commands.call_of (text.Readlink path.now)) }
+{
+    Ok(path_of(alloc, path)?.map(|path| Call::Readlink { path }))
 }
 
 fn chmod(
@@ -141,6 +145,12 @@ fn delete_attribute(
     Ok(path_of(alloc, path)?.map(|path| Call::DeleteAttribute { path, name }))
 }
 
+fn list_attributes(alloc: Global, path: &EscapedWord<'_>) -> Result<Result<Call, Errno>, AllocError>
+    ensures { IfOk result (λ outcome. outcome ≡ commands.call_of (text.ListAttributes path.now)) }
+{
+    Ok(path_of(alloc, path)?.map(|path| Call::ListAttributes { path }))
+}
+
 fn mkdir(
     alloc: Global,
     mode: u32,
@@ -182,6 +192,18 @@ fn rename(
 {
     let paths = paths_of(alloc, old, new)?;
     Ok(paths.map(|(old, new)| Call::Rename { old, new }))
+}
+
+fn unlink(alloc: Global, path: &EscapedWord<'_>) -> Result<Result<Call, Errno>, AllocError>
+    ensures { IfOk result (λ outcome. outcome ≡ commands.call_of (text.Unlink path.now)) }
+{
+    Ok(path_of(alloc, path)?.map(|path| Call::Unlink { path }))
+}
+
+fn rmdir(alloc: Global, path: &EscapedWord<'_>) -> Result<Result<Call, Errno>, AllocError>
+    ensures { IfOk result (λ outcome. outcome ≡ commands.call_of (text.Rmdir path.now)) }
+{
+    Ok(path_of(alloc, path)?.map(|path| Call::Rmdir { path }))
 }
 
 fn open(

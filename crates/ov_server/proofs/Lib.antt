@@ -1,3 +1,4 @@
+pub mod Added
 pub mod Clients
 pub mod Histories
 pub mod JobSteps

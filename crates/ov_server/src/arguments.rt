@@ -2,12 +2,13 @@
 ghost use Rattle.std.specs.Prelude.{◌≡◌, false, codes, [], ◌∷◌, IfErr, IfOk, IfSome, map, option_map};
 ghost use Rattle.clap.specs.Faults.{fault_of};
 ghost use Rattle.clap.specs.Kinds.{FailsBy};
-ghost use Rattle.clap.specs.Simple.{app_of};
+ghost use Rattle.clap.specs.Simple.{app_of, with_rule, with_subcommand};
 ghost use Rattle.clap.specs.Matches.{found_of};
 ghost use Rattle.clap.specs.Walk.{one_of, rows_of, rule_of};
 ghost use Rattle.clap.specs.declared.builder.command.Command.TheViews.{out-Command};
 ghost use Rattle.ov_server.specs.Arguments.{IsAskedBy, IsLoneWord, IsRefusedBy, IsServing, Names};
-ghost use Rattle.ov_server.specs.Arguments.{Spells, TellsLimit, app_named, overlayd_app, places_in, serve_app};
+ghost use Rattle.ov_server.specs.Arguments.{Spells, TellsLimit, app_named, bare_app, overlayd_app};
+ghost use Rattle.ov_server.specs.Arguments.{places_in, serve_app};
 ghost use Rattle.ov_server.specs.Arguments.{flag_rule, manifest_limit_rule, manifest_rule, number_rule};
 ghost use Rattle.ov_server.specs.Arguments.{history_rule, idle_rule, no_history_rule, sessions_rule, socket_rule, unlink_rule};
 ghost use Rattle.ov_server.specs.Arguments.{save_rule, until_eof_rule, verbose_rule, workers_rule};
@@ -27,7 +28,7 @@ const PLAYED: &str =
     "Plays lines: attach, C CALL, C start CALL, C step [N], C drop, C detach, work, layer I, merge";
 
 /// What the command line asks for. A manifest is read up to so many bytes.
-#[derive(Clone, Copy, Debug, PartialEq, Eq)]
+#[derive(Clone, Copy, PartialEq, Eq)]
 pub enum Invocation<'a> {
     /// The merged tree of a manifest is printed.
     Show {
@@ -44,7 +45,7 @@ pub enum Invocation<'a> {
 }
 
 /// What is served, and how.
-#[derive(Clone, Copy, Debug, PartialEq, Eq)]
+#[derive(Clone, Copy, PartialEq, Eq)]
 pub struct Serving<'a> {
     pub manifest: &'a str,
     /// Up to how many bytes the manifest is read.
@@ -92,16 +93,39 @@ pub fn command_line<'a, S: AsStr>(alloc: Global, words: &'a [S]) -> Result<Invoc
 fn overlayd<'a>(alloc: Global) -> Result<Command<'a>, AllocError>
     ensures { IfOk result (λ command. app_of command ≡ overlayd_app) }
 {
-    let show = subcommand(alloc, "show", "Prints the merged tree of a manifest")?;
-    let play = subcommand(alloc, "play", PLAYED)?;
+    let command = playing(alloc)?;
     let serve = serve(alloc)?;
+    command.subcommand(serve)
+}
+
+// The program with the subcommands that show a tree and play a script.
+fn playing<'a>(alloc: Global) -> Result<Command<'a>, AllocError>
+    ensures { IfOk result (λ command. app_of command
+        ≡ with_subcommand (with_subcommand bare_app (app_named (codes "show")).top)
+        (app_named (codes "play")).top) }
+{
+    let command = showing(alloc)?;
+    let play = subcommand(alloc, "play", PLAYED)?;
+    command.subcommand(play)
+}
+
+// The program with the subcommand that shows a tree.
+fn showing<'a>(alloc: Global) -> Result<Command<'a>, AllocError>
+    ensures { IfOk result (λ command. app_of command
+        ≡ with_subcommand bare_app (app_named (codes "show")).top) }
+{
+    let show = subcommand(alloc, "show", "Prints the merged tree of a manifest")?;
+    bare(alloc).subcommand(show)
+}
+
+// The program without its subcommands.
+fn bare<'a>(alloc: Global) -> Command<'a>
+    ensures { app_of result ≡ bare_app }
+{
     Command::new(alloc, "overlayd")
         .version(VERSION)
         .about("An overlay mount in memory")
         .subcommand_required(true)
-        .subcommand(show)?
-        .subcommand(play)?
-        .subcommand(serve)
 }
 
 // The subcommand that serves a mount on a socket.
@@ -109,21 +133,36 @@ fn serve<'a>(alloc: Global) -> Result<Command<'a>, AllocError>
     ensures app { IfOk result (λ command. app_of command ≡ serve_app) }
     ensures local { IfOk result (λ command. (out-Command command).has_globals ≡ false) }
 {
-    subcommand(
-        alloc,
-        "serve",
-        "Serves the mount of a manifest to clients on a Unix socket",
-    )?
-    .arg(socket(alloc))?
-    .arg(workers(alloc))?
-    .arg(sessions(alloc))?
-    .arg(history(alloc))?
-    .arg(no_history(alloc))?
-    .arg(idle(alloc))?
-    .arg(unlink(alloc))?
-    .arg(until_eof(alloc))?
-    .arg(save(alloc))?
-    .arg(verbose(alloc))
+    serve_within(alloc)?
+        .arg(idle(alloc))?
+        .arg(unlink(alloc))?
+        .arg(until_eof(alloc))?
+        .arg(save(alloc))?
+        .arg(verbose(alloc))
+}
+
+// The same subcommand with its manifest, its socket, and how many of what it has.
+fn serve_within<'a>(alloc: Global) -> Result<Command<'a>, AllocError>
+    ensures app { IfOk result (λ command. app_of command
+        ≡ with_rule (with_rule (with_rule (with_rule (with_rule (app_named (codes "serve"))
+        socket_rule) workers_rule) sessions_rule) history_rule) no_history_rule) }
+    ensures local { IfOk result (λ command. (out-Command command).has_globals ≡ false) }
+{
+    bare_serve(alloc)?
+        .arg(socket(alloc))?
+        .arg(workers(alloc))?
+        .arg(sessions(alloc))?
+        .arg(history(alloc))?
+        .arg(no_history(alloc))
+}
+
+// The same subcommand with its manifest alone.
+fn bare_serve<'a>(alloc: Global) -> Result<Command<'a>, AllocError>
+    ensures app { IfOk result (λ command. app_of command ≡ app_named (codes "serve")) }
+    ensures local { IfOk result (λ command. (out-Command command).has_globals ≡ false) }
+{
+    let about = "Serves the mount of a manifest to clients on a Unix socket";
+    subcommand(alloc, "serve", about)
 }
 
 fn socket<'a>(alloc: Global) -> Arg<'a>

@@ -1,5 +1,6 @@
 // One line of a script on a mount.
-ghost use Rattle.std.specs.Prelude.{◌≡◌, ◌+◌, ◌<◌, ◌≤◌, true, Some, None, Ok, IfErr, IfOk, OnErr, OnOk, length, map};
+ghost use Rattle.std.specs.Prelude.{◌≡◌, ◌+◌, ◌<◌, ◌≤◌, true, Some, None, Ok, length, map};
+ghost use Rattle.std.specs.Prelude.{IfErr, IfOk, IsErr, IsOk, OnErr, OnOk};
 ghost use Rattle.ov_script.specs.declared.script.Command.TheVariants as asked;
 ghost use Rattle.ov_script.specs.Commands.{call_of};
 ghost use Rattle.overlay_core.specs.Views.{CoreGoes, core_finished, core_room, has_client, next_client};
@@ -52,7 +53,7 @@ pub fn play_line<K: Sink, F: Callback + Copy, H: Rule>(
     if is_skipped(line) {
         Ok(())
     } else {
-        play_command(alloc, stage, hooks, command_of(line)?, output)
+        play_command(alloc, stage, hooks, &command_of(line)?, output)
     }
 }
 
@@ -71,42 +72,55 @@ fn play_command<K: Sink, F: Callback + Copy, H: Rule>(
     alloc: Global,
     stage: &mut Stage<F, H>,
     hooks: &[Hook<F, H>],
-    command: Command<'_>,
+    command: &Command<'_>,
     output: &mut Output<K>,
 ) -> Result<(), LineFault>
     requires { IsInOrder stage.old }
     ensures order { IsInOrder stage.new }
     ensures counted { core_finished stage.new.core ≤ core_finished stage.old.core + 1 }
-    ensures ok { OnOk result (PlaysCommand stage.old command.entry stage.new) }
-    ensures err { IfErr result (plays.IsCommandRefusal stage.old command.entry) }
+    ensures ok { OnOk result (PlaysCommand stage.old command.now stage.new) }
+    ensures err { IfErr result (plays.IsCommandRefusal stage.old command.now) }
     ensures stream { TellsLine (K.failures output.old.sink) (K.failures output.new.sink) result }
 {
     match command {
         Command::Attach => put_answer(&attached(alloc, stage, hooks), output),
-        Command::Detach { client } => put_answer(&detached(stage, client)?, output),
+        Command::Detach { client } => put_played(detached(stage, *client), output),
         Command::Call { client, call } => {
-            put_answer(&called(alloc, stage, client, &call)?, output)
+            put_played(called(alloc, stage, *client, call), output)
         }
         Command::Start { client, call } => {
-            put_answer_if_any(started(alloc, stage, client, &call)?, output)
+            put_started(started(alloc, stage, *client, call), output)
         }
-        Command::Step { client, steps } => put_answer(&stepped(stage, client, steps)?, output),
-        Command::Drop { client } => put_answer(&dropped(stage, client)?, output),
-        Command::Layer { index } => put_layer(alloc, stage, index, output),
+        Command::Step { client, steps } => put_played(stepped(stage, *client, *steps), output),
+        Command::Drop { client } => put_played(dropped(stage, *client), output),
+        Command::Layer { index } => put_layer(alloc, stage, *index, output),
         Command::Merge => put_merge(alloc, stage, output),
         Command::Work => put_answer(&temps_of(stage), output),
     }
 }
 
-// Puts an answer out, where there is one.
-fn put_answer_if_any<K: Sink>(
-    answer: Option<Answer>,
+// Puts the answer to a command out, if it could be played.
+fn put_played<K: Sink>(
+    answer: Result<Answer, BadCommand>,
     output: &mut Output<K>,
 ) -> Result<(), LineFault>
-    ensures err { IfErr result plays.IsOfDevice }
+    ensures ok { OnOk result (IsOk answer) }
+    ensures err { IfErr result (λ fault. fault ≡ plays.bad_line → IsErr answer) }
     ensures stream { TellsLine (K.failures output.old.sink) (K.failures output.new.sink) result }
 {
-    match answer {
+    put_answer(&answer?, output)
+}
+
+// Puts the answer to a start out, if it could be played and there is one.
+fn put_started<K: Sink>(
+    answer: Result<Option<Answer>, BadCommand>,
+    output: &mut Output<K>,
+) -> Result<(), LineFault>
+    ensures ok { OnOk result (IsOk answer) }
+    ensures err { IfErr result (λ fault. fault ≡ plays.bad_line → IsErr answer) }
+    ensures stream { TellsLine (K.failures output.old.sink) (K.failures output.new.sink) result }
+{
+    match answer? {
         Some(answer) => put_answer(&answer, output),
         None => Ok(()),
     }
