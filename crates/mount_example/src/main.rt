@@ -55,11 +55,24 @@ fn main(rt: HostRuntime) -> Result<()> {
 fn session<F: Callback + Copy>(rt: &HostRuntime, callback: F) -> Result<()>
     requires { (e : Bor Event) → IsEvent e.now → F.may callback e }
 {
-    let mut hooks: Vec<Hook<F, AnyAnswer>> = Vec::new(rt.alloc());
-    hooks.push(Hook::new(0, callback))?;
     let mut core = mounted(rt.alloc(), RandomState::new(rt)?)?;
+    let reply = listen(rt.alloc(), &mut core, callback);
+    drop(core);
+    report(rt, reply?)
+}
+
+fn listen<F: Callback + Copy>(
+    alloc: Global,
+    core: &mut Core<F, AnyAnswer>,
+    callback: F,
+) -> Result<Reply>
+    requires callback { (e : Bor Event) → IsEvent e.now → F.may callback e }
+    requires fresh { core_finished core.old ≡ 0 }
+{
+    let mut hooks: Vec<Hook<F, AnyAnswer>> = Vec::new(alloc);
+    hooks.push(Hook::new(0, callback))?;
     let client = core.attach(hooks).ok().context("not attached")?;
-    report(rt, edit(rt.alloc(), &mut core, client)?)
+    edit(alloc, core, client)
 }
 
 fn mounted<F: Callback, A: Rule>(alloc: Global, keys: RandomState) -> Result<Core<F, A>>

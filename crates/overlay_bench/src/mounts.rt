@@ -79,18 +79,28 @@ pub fn made<F: Callback, R: Rule>(
     pace: Pace,
 ) -> Result<Reply, AllocError> {
     if core.finished() >= DEEDS_MAX || !core.is_attached(client) {
+        drop(call);
         return Err(AllocError);
     }
     let mut job = Job::new(client, call);
     let turn = match pace {
-        Pace::AtOnce => core.complete(&mut job),
+        Pace::AtOnce => completed(core, &mut job),
         Pace::InSteps => stepped(core, &mut job),
     };
-    let _ = core.drop_job(job);
+    drop(core.drop_job(job));
     match turn {
         Turn::Done(reply) => Ok(reply),
         Turn::More | Turn::NoMemory => Err(AllocError),
     }
+}
+
+// A job's call made at once; a caller of this has fewer clauses to carry than of `Core::complete`.
+fn completed<F: Callback, R: Rule>(core: &mut Core<F, R>, job: &mut Job) -> Turn
+    requires open { job.old.standing ≡ Standing.Open }
+    requires attached { has_client core.old job.old.client ≡ true }
+    requires bound { core_finished core.old + 1 < 2 ^ 63 }
+{
+    core.complete(job)
 }
 
 // The steps of a job, one after the other.
@@ -100,13 +110,24 @@ fn stepped<F: Callback, R: Rule>(core: &mut Core<F, R>, job: &mut Job) -> Turn
     requires bound { core_finished core.old + 1 < 2 ^ 63 }
 {
     for _ in 0..STEPS_MAX {
-        match core.advance(job) {
+        match advanced(core, job) {
             Turn::More => {}
-            Turn::Done(reply) => return Turn::Done(reply),
-            Turn::NoMemory => return Turn::NoMemory,
+            over => return over,
         }
     }
     Turn::More
+}
+
+// One step of a job; a loop of this has fewer clauses to carry than of `Core::advance`.
+fn advanced<F: Callback, R: Rule>(core: &mut Core<F, R>, job: &mut Job) -> Turn
+    requires open { job.old.standing ≡ Standing.Open }
+    requires attached { has_client core.old job.old.client ≡ true }
+    requires bound { core_finished core.old + 1 < 2 ^ 63 }
+    ensures open { result ≡ Turn.More → job.new.standing ≡ Standing.Open }
+    ensures attached { result ≡ Turn.More → has_client core.new job.new.client ≡ true }
+    ensures bound { result ≡ Turn.More → core_finished core.new + 1 < 2 ^ 63 }
+{
+    core.advance(job)
 }
 
 /// The path of a text; what is no path is answered as an allocation failure is.
