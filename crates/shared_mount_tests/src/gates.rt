@@ -1,4 +1,6 @@
 // Calls that a gate holds between their steps, while other calls are made, and calls that it stops.
+ghost use Rattle.std.specs.Prelude.{◌≡◌};
+
 use crate::mounts::{Silent, path_of, reply_in};
 use crate::opened::{Trial, named};
 use locked_history::{Gate, Mount, MountName, Open, Pass, Past, Receipt, Refused, Session};
