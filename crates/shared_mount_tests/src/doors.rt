@@ -5,7 +5,7 @@ ghost use Rattle.locked_history.specs.Names.{IsNamed};
 
 use crate::devices::Once;
 use crate::gates::Stopping;
-use crate::mounts::{Shut, Silent, blank_of, ended};
+use crate::mounts::{Shut, Silent, attached, blank_of, detach, ended};
 use locked_history::{Blank, Gate, Mount, MountName, Open, Receipt, Session};
 use mount_door::{Departure, run_session};
 use ov_devices::{CountedReader, CountedWriter};
@@ -74,18 +74,6 @@ fn joined(alloc: Global, parts: &[&[u8]]) -> Result<Vec<u8>, Fail> {
         all.extend_from_slice(part)?;
     }
     Ok(all)
-}
-
-// A client with these hooks.
-fn attached<N: MountName, F: Callback + Drop, R: Rule, H: Wait>(
-    rt: &H,
-    mount: &Mount<N, F, R>,
-    hooks: Vec<Hook<F, R>>,
-) -> Result<(Session, Receipt<N>), Fail> {
-    match mount.attach(rt, hooks) {
-        Ok(attached) => Ok(attached),
-        Err(_) => Err(Fail::from("not attached")),
-    }
 }
 
 // Runs a session of an attached client over a reader and a writer.
@@ -217,7 +205,7 @@ fn is_stale<N: MountName, F: Callback + Drop, R: Rule, H: Wait + Abort>(
     )?;
     assert_eq!(rt; left.ending, Ending::Detached);
     assert!(rt; written.as_slice() == wanted.as_slice() && left.hooks.is_none());
-    assert!(rt; mount.detach(rt, session).is_ok());
+    assert!(rt; detach(rt, mount, session).is_ok());
     Ok(receipts_of(left))
 }
 
@@ -320,9 +308,9 @@ fn all_happen<F: Callback + Copy, R: Rule, H: Wait + Abort>(
         (EMPTY, Scenario::WriteFails, 3),
     ];
     for (manifest, scenario, entries) in scenarios {
-        let blank = blank_of::<F, R>(alloc, keys, manifest)?;
         let mut hooks = Vec::new(alloc);
         hooks.push(hook.copied())?;
+        let blank = blank_of::<F, R>(alloc, keys, manifest)?;
         happens_named(rt, alloc, blank, hooks, scenario, entries)?;
     }
     Ok(())

@@ -54,18 +54,71 @@ impl Trial {
     }
 }
 
-// Makes `stat /`, a session's next call.
+// What a reply says.
+#[derive(Clone, Copy, Debug, PartialEq, Eq)]
+enum Said {
+    Done,
+    Shown(Stat),
+    Other,
+}
+
+// Makes a client's next call: its place, and what it is answered. As on the other mount, tests call
+// and detach by this and the function below alone.
+fn make<N: BookName, F: Callback, R: Rule, H: Wait, G: Gate>(
+    rt: &H,
+    mount: &EndlessMount<N, F, R>,
+    client: &mut (Session, Front<N>),
+    call: Call,
+    gate: &G,
+) -> Result<(u64, Said), Refused> {
+    let (place, reply) = mount.call(rt, &mut client.0, &mut client.1, call, gate)?;
+    let said = match &reply {
+        Reply::Done => Said::Done,
+        Reply::Status(stat) => Said::Shown(*stat),
+        _ => Said::Other,
+    };
+    drop(reply);
+    Ok((place, said))
+}
+
+// Detaches a client: the place of that.
+fn detach<N: BookName, F: Callback + Drop, R: Rule, H: Wait>(
+    rt: &H,
+    mount: &EndlessMount<N, F, R>,
+    client: &mut (Session, Front<N>),
+) -> Result<u64, Refused> {
+    let (hooks, place) = mount.detach(rt, client.0, &mut client.1)?;
+    drop(hooks);
+    Ok(place)
+}
+
+// A client without hooks, and the place of its attach.
+fn attach<N: BookName, F: Callback + Drop, R: Rule, H: Wait>(
+    rt: &H,
+    alloc: Global,
+    mount: &EndlessMount<N, F, R>,
+) -> Option<((Session, Front<N>), u64)> {
+    match mount.attach(rt, Vec::new(alloc)) {
+        Ok((session, place, seen)) => Some(((session, seen), place)),
+        Err(fault) => {
+            drop(fault);
+            None
+        }
+    }
+}
+
+// Makes `stat /`, a client's next call: its place, and what it is answered.
 fn looks<N: BookName, F: Callback, R: Rule, H: Wait, G: Gate>(
     rt: &H,
     alloc: Global,
     mount: &EndlessMount<N, F, R>,
     client: &mut (Session, Front<N>),
     gate: &G,
-) -> Result<(u64, Reply), Refused> {
+) -> Result<(u64, Said), Refused> {
     let call = Call::Stat {
         path: Path::root(alloc),
     };
-    mount.call(rt, &mut client.0, &mut client.1, call, gate)
+    make(rt, mount, client, call, gate)
 }
 
 // A client without hooks, whose attach has this place.
@@ -75,10 +128,12 @@ fn attached<N: BookName, F: Callback + Drop, R: Rule, H: Wait + Abort>(
     mount: &EndlessMount<N, F, R>,
     wanted: u64,
 ) -> Result<(Session, Front<N>), Fail> {
-    let (session, place, seen) = mount.attach(rt, Vec::new(alloc)).map_err(|_| "attach")?;
+    let Some((client, place)) = attach(rt, alloc, mount) else {
+        return Err(Fail::from("not attached"));
+    };
     assert_eq!(rt; place, wanted);
-    assert_eq!(rt; seen.len(), wanted.saturating_add(1));
-    Ok((session, seen))
+    assert_eq!(rt; client.1.len(), wanted.saturating_add(1));
+    Ok(client)
 }
 
 // More calls are answered than the manifest's history has places, each at the next place.
@@ -89,14 +144,13 @@ fn goes_on<N: BookName, F: Callback + Drop, R: Rule, H: Wait + Abort>(
 ) -> Result<(), Fail> {
     let mut client = attached(rt, alloc, mount, 0)?;
     for wanted in 1..10 {
-        let (place, reply) = looks(rt, alloc, mount, &mut client, &Open).map_err(|_| "call")?;
+        let (place, said) = looks(rt, alloc, mount, &mut client, &Open).map_err(|_| "call")?;
         assert_eq!(rt; place, wanted);
-        assert!(rt; matches!(reply, Reply::Status(stat) if stat == ROOT));
+        assert_eq!(rt; said, Said::Shown(ROOT));
     }
-    let (session, mut seen) = client;
-    assert_eq!(rt; session.number, 11);
-    let (_, place) = mount.detach(rt, session, &mut seen).map_err(|_| "detach")?;
-    assert!(rt; place == 10 && seen.len() == 11);
+    assert_eq!(rt; client.0.number, 11);
+    let place = detach(rt, mount, &mut client).map_err(|_| "detach")?;
+    assert!(rt; place == 10 && client.1.len() == 11);
     Ok(())
 }
 
@@ -112,12 +166,12 @@ fn uses_a_number<N: BookName, F: Callback + Drop, R: Rule, H: Wait + Abort>(
     let again = looks(rt, alloc, mount, &mut used, &Open).err();
     assert!(rt; matches!(again, Some(Refused::Session)));
     assert!(rt; used.0.number == 2 && used.1.len() == 1);
-    let refused = mount.detach(rt, used.0, &mut used.1).err();
+    let refused = detach(rt, mount, &mut used).err();
     assert_eq!(rt; refused, Some(Refused::Session));
     let (place, _) = looks(rt, alloc, mount, &mut client, &Open).map_err(|_| "second call")?;
     assert!(rt; place == 2 && client.0.number == 4);
-    assert!(rt; mount.detach(rt, client.0, &mut client.1).is_ok());
-    let gone = mount.detach(rt, client.0, &mut client.1).err();
+    assert!(rt; detach(rt, mount, &mut client).is_ok());
+    let gone = detach(rt, mount, &mut client).err();
     assert_eq!(rt; gone, Some(Refused::Session));
     let next = attached(rt, alloc, mount, 4)?;
     assert_eq!(rt; next.0.client, 1);
@@ -146,18 +200,18 @@ fn works<N: BookName, F: Callback + Drop, R: Rule, H: Wait>(
     alloc: Global,
     mount: &EndlessMount<N, F, R>,
 ) -> Option<(Front<N>, u64)> {
-    let (mut session, _, mut seen) = mount.attach(rt, Vec::new(alloc)).ok()?;
+    let (mut client, _place) = attach(rt, alloc, mount)?;
     let mut made = 0u64;
     for _ in 0..CALLS {
         let path = path_of(alloc, "/d").ok()?;
         let call = Call::Mkdir { path, mode: 0o755 };
-        let (_, reply) = mount.call(rt, &mut session, &mut seen, call, &Open).ok()?;
-        if let Reply::Done = reply {
+        let (_, said) = make(rt, mount, &mut client, call, &Open).ok()?;
+        if said == Said::Done {
             made = made.saturating_add(1);
         }
     }
-    let _ = mount.detach(rt, session, &mut seen).ok()?;
-    Some((seen, made))
+    let _gone = detach(rt, mount, &mut client).ok()?;
+    Some((client.1, made))
 }
 
 // The longest of the workers' fronts, and how often the directory was made.
@@ -222,7 +276,9 @@ fn ended<N: BookName, F: Callback + Drop, R: Rule, H: Wait>(
     seen: Front<N>,
 ) -> (u64, u64) {
     let (core, whole) = mount.finish(rt, seen);
-    (whole.len(), core.finished())
+    let finished = core.finished();
+    drop(core);
+    (whole.len(), finished)
 }
 
 fn tries<

@@ -1,7 +1,7 @@
 // Calls that a gate holds between their steps, while other calls are made, and calls that it stops.
 ghost use Rattle.std.specs.Prelude.{◌≡◌};
 
-use crate::mounts::{Silent, path_of, reply_in};
+use crate::mounts::{Silent, attached, detach, make, path_of, reply_in};
 use crate::opened::{Trial, named};
 use locked_history::{Gate, Mount, MountName, Open, Pass, Past, Receipt, Refused, Session};
 use merged_lookup::Topmost;
@@ -89,43 +89,35 @@ fn opening(alloc: Global, text: &str, append: bool) -> Result<Call, AllocError> 
     })
 }
 
-// Makes a call that the gate holds.
+// Copies a file by a call that the gate holds.
 fn is_held<N: MountName, F: Callback, R: Rule, H: Clock + Wait>(
     rt: &H,
+    alloc: Global,
     mount: &Mount<N, F, R>,
     session: Session,
-    call: Call,
     gate: &Holding<'_, H>,
 ) -> Option<Receipt<N>> {
     let mut session = session;
-    mount.call(rt, &mut session, call, gate).ok()
+    let copies = opening(alloc, "/f", false).ok()?;
+    make(rt, mount, &mut session, copies, gate).ok()
 }
 
-// Makes a call while the gate holds another, and tells the gate.
+// Opens the other file while the gate holds that call, and tells the gate.
 fn goes_between<N: MountName, F: Callback, R: Rule, H: Clock + Wait>(
     rt: &H,
+    alloc: Global,
     mount: &Mount<N, F, R>,
     session: Session,
-    call: Call,
     gate: &Holding<'_, H>,
 ) -> Option<Receipt<N>> {
     if !comes(rt, &gate.reached) {
         return None;
     }
     let mut session = session;
-    let made = mount.call(rt, &mut session, call, &Open).ok();
+    let other = opening(alloc, "/g", true).ok()?;
+    let made = make(rt, mount, &mut session, other, &Open).ok();
     gate.answered.store(true, Ordering::SeqCst);
     made
-}
-
-// The session of a new client.
-fn attached<N: MountName, F: Callback + Drop, R: Rule, H: Wait>(
-    rt: &H,
-    alloc: Global,
-    mount: &Mount<N, F, R>,
-) -> Result<Session, Fail> {
-    let (session, _came) = mount.attach(rt, Vec::new(alloc)).map_err(|_| "attach")?;
-    Ok(session)
 }
 
 // Both calls, each in a thread of its own.
@@ -140,10 +132,8 @@ fn both<
     mount: &Mount<N, F, R>,
     step: u64,
 ) -> Result<(Option<Receipt<N>>, Option<Receipt<N>>), Fail> {
-    let first = attached(rt, alloc, mount)?;
-    let second = attached(rt, alloc, mount)?;
-    let copies = opening(alloc, "/f", false)?;
-    let other = opening(alloc, "/g", true)?;
+    let (first, _came) = attached(rt, mount, Vec::new(alloc))?;
+    let (second, _came) = attached(rt, mount, Vec::new(alloc))?;
     let gate = Holding {
         clock: rt,
         step,
@@ -153,8 +143,8 @@ fn both<
     let held = &gate;
     Ok(thread::join(
         rt,
-        move || is_held(rt, mount, first, copies, held),
-        move || goes_between(rt, mount, second, other, held),
+        move || is_held(rt, alloc, mount, first, held),
+        move || goes_between(rt, alloc, mount, second, held),
     ))
 }
 
@@ -238,10 +228,10 @@ pub fn stops_at<N: MountName, F: Callback + Drop, R: Rule, H: Wait + Abort>(
     mount: &Mount<N, F, R>,
     step: u64,
 ) -> Result<(), Fail> {
-    let mut session = attached(rt, alloc, mount)?;
+    let (mut session, _came) = attached(rt, mount, Vec::new(alloc))?;
     let copies = opening(alloc, "/f", false)?;
     let gate = Stopping { step };
-    let stopped = mount.call(rt, &mut session, copies, &gate).err();
+    let stopped = make(rt, mount, &mut session, copies, &gate).err();
     assert_eq!(rt; stopped, Some(Refused::Stopped));
     assert_eq!(rt; session.number, 2);
     Ok(())
@@ -270,14 +260,12 @@ struct Meddling<'a, N: MountName, F: Callback + Drop, R: Rule, H: Wait> {
 impl<N: MountName, F: Callback + Drop, R: Rule, H: Wait> Meddling<'_, N, F, R, H> {
     // A detach by one copy is refused, and a `stat` by another is answered.
     fn meddles(&self) -> bool {
-        let detached = self.mount.detach(self.rt, self.session).err();
+        let detached = detach(self.rt, self.mount, self.session).err();
         let Ok(path) = path_of(self.alloc, "/g") else {
             return false;
         };
         let mut copy = self.session;
-        let looked = self
-            .mount
-            .call(self.rt, &mut copy, Call::Stat { path }, &Open);
+        let looked = make(self.rt, self.mount, &mut copy, Call::Stat { path }, &Open);
         detached == Some(Refused::Session) && looked.is_ok()
     }
 }
@@ -308,7 +296,7 @@ fn meddled<'a, N: MountName, F: Callback + Drop, R: Rule, H: Wait>(
         session: *session,
         told: AtomicBool::new(false),
     };
-    let refused = mount.call(rt, session, copies, &gate).err();
+    let refused = make(rt, mount, session, copies, &gate).err();
     Ok((gate.told.load(Ordering::SeqCst), refused))
 }
 
@@ -319,13 +307,13 @@ pub fn refuses_held<N: MountName, F: Callback + Drop, R: Rule, H: Wait + Abort>(
     alloc: Global,
     mount: &Mount<N, F, R>,
 ) -> Result<(), Fail> {
-    let mut session = attached(rt, alloc, mount)?;
+    let (mut session, _came) = attached(rt, mount, Vec::new(alloc))?;
     let (told, refused) = meddled(rt, alloc, mount, &mut session)?;
     assert!(rt; told);
     assert_eq!(rt; refused, Some(Refused::Session));
     assert_eq!(rt; session.number, 2);
     session.number = 3;
-    let _gone = mount.detach(rt, session).map_err(|_| "detach")?;
+    let _gone = detach(rt, mount, session).map_err(|_| "detach")?;
     Ok(())
 }
 

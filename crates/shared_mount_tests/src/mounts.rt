@@ -6,14 +6,14 @@ use crate::doors::is_left_clean;
 use crate::gates::is_untouched;
 use crate::refusals::is_filled;
 use locked_history::{Blank, Deed, Entry, Gate, Mount, MountName, Pass, Receipt, Refused, Session};
-use ov_base::{Call, Event, Notice, Path, Reply};
+use ov_base::{Call, Errno, Event, Notice, Path, Reply};
 use ov_wire::manifest_of;
 use overlay_core::Core;
 use std::alloc::{AllocError, Global};
 use std::hash::RandomState;
 use std::sync::Wait;
 use std::test::Fail;
-use watch_table::{Callback, Rule};
+use watch_table::{Callback, Hook, Rule};
 
 /// A callback that no client has.
 #[derive(Clone, Copy)]
@@ -61,7 +61,10 @@ pub fn core_of<F: Callback + Drop, R: Rule>(
     let (upper, lowers, options) = manifest_of(alloc, keys, manifest.as_bytes())?;
     match Core::mount(alloc, keys, upper, lowers, options) {
         Ok(core) => Ok(core),
-        Err(_) => Err(Fail::from("no mount")),
+        Err(unmounted) => {
+            drop(unmounted);
+            Err(Fail::from("no mount"))
+        }
     }
 }
 
@@ -96,6 +99,58 @@ pub fn ended<N: MountName, F: Callback + Drop, R: Rule>(
     }
 }
 
+/// A client with these hooks, and the receipt of its attach. Tests attach, call and detach by this
+/// and the two functions below alone, since a proof reads all that a mount promises wherever one of
+/// its methods is called.
+pub fn attach<N: MountName, F: Callback + Drop, R: Rule, H: Wait>(
+    rt: &H,
+    mount: &Mount<N, F, R>,
+    hooks: Vec<Hook<F, R>>,
+) -> Result<(Session, Receipt<N>), Errno> {
+    match mount.attach(rt, hooks) {
+        Ok(attached) => Ok(attached),
+        Err(fault) => {
+            let errno = fault.errno;
+            drop(fault);
+            Err(errno)
+        }
+    }
+}
+
+/// Makes a session's next call.
+pub fn make<N: MountName, F: Callback, R: Rule, H: Wait, G: Gate>(
+    rt: &H,
+    mount: &Mount<N, F, R>,
+    session: &mut Session,
+    call: Call,
+    gate: &G,
+) -> Result<Receipt<N>, Refused> {
+    mount.call(rt, session, call, gate)
+}
+
+/// Detaches a session's client, whose hooks are let go.
+pub fn detach<N: MountName, F: Callback + Drop, R: Rule, H: Wait>(
+    rt: &H,
+    mount: &Mount<N, F, R>,
+    session: Session,
+) -> Result<Receipt<N>, Refused> {
+    let (hooks, gone) = mount.detach(rt, session)?;
+    drop(hooks);
+    Ok(gone)
+}
+
+/// A client with these hooks, where there has to be one.
+pub fn attached<N: MountName, F: Callback + Drop, R: Rule, H: Wait>(
+    rt: &H,
+    mount: &Mount<N, F, R>,
+    hooks: Vec<Hook<F, R>>,
+) -> Result<(Session, Receipt<N>), Fail> {
+    match attach(rt, mount, hooks) {
+        Ok(attached) => Ok(attached),
+        Err(_) => Err(Fail::from("not attached")),
+    }
+}
+
 /// Makes `stat /`, a session's next call.
 pub fn looks<N: MountName, F: Callback, R: Rule, H: Wait, G: Gate>(
     rt: &H,
@@ -107,7 +162,7 @@ pub fn looks<N: MountName, F: Callback, R: Rule, H: Wait, G: Gate>(
     let call = Call::Stat {
         path: Path::root(alloc),
     };
-    mount.call(rt, session, call, gate)
+    make(rt, mount, session, call, gate)
 }
 
 /// A path of one name.

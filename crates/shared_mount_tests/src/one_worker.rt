@@ -2,7 +2,7 @@
 // uses the number of the client of its connection, or its client says nothing.
 ghost use Rattle.locked_history.specs.Names.{IsNamed};
 
-use crate::mounts::{Silent, blank_of, ended, looks};
+use crate::mounts::{Silent, attached, blank_of, ended, looks};
 use crate::peers::{DETACH, SHOWN_FIRST, STAT_ROOT, ask, assert_closed, hear, patient};
 use locked_history::{Blank, Mount, MountName, Open, Receipt, Session};
 use socket_server::{Reports, ServeOptions, Served, serve_mount};
@@ -72,7 +72,7 @@ fn crowd<N: MountName, F: Callback + Drop, R: Rule, H: Wait>(
     mount: &Mount<N, F, R>,
 ) -> Result<(), Fail> {
     for _client in 0..CLIENTS_MOST {
-        let _came = mount.attach(rt, Vec::new(alloc)).map_err(|_| "attach")?;
+        let _came = attached(rt, mount, Vec::new(alloc))?;
     }
     Ok(())
 }

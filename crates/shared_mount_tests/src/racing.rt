@@ -1,5 +1,5 @@
 // Threads whose calls race on one mount.
-use crate::mounts::{Silent, path_of, reply_in};
+use crate::mounts::{Silent, attach, detach, make, path_of, reply_in};
 use crate::opened::{Trial, named};
 use locked_history::{Mount, MountName, Open, Receipt};
 use ov_base::{Call, Reply};
@@ -45,13 +45,13 @@ fn works<N: MountName, F: Callback + Drop, R: Rule, H: Wait>(
     mount: &Mount<N, F, R>,
 ) -> Option<Vec<Receipt<N>>> {
     let mut receipts = Vec::with_capacity(alloc, DEEDS).ok()?;
-    let (mut session, came) = mount.attach(rt, Vec::new(alloc)).ok()?;
+    let (mut session, came) = attach(rt, mount, Vec::new(alloc)).ok()?;
     receipts.push(came).ok()?;
     for call in calls(alloc).ok()? {
-        let receipt = mount.call(rt, &mut session, call, &Open).ok()?;
+        let receipt = make(rt, mount, &mut session, call, &Open).ok()?;
         receipts.push(receipt).ok()?;
     }
-    let (_, gone) = mount.detach(rt, session).ok()?;
+    let gone = detach(rt, mount, session).ok()?;
     receipts.push(gone).ok()?;
     Some(receipts)
 }

@@ -1,5 +1,5 @@
 // What is refused through a mount that threads share, and what it leaves.
-use crate::mounts::{Shut, Silent, looks, reply_in};
+use crate::mounts::{Shut, Silent, attach, attached, detach, looks, reply_in};
 use crate::opened::{Trial, named};
 use locked_history::{Mount, MountName, Open, Past, Receipt, Refused};
 use ov_base::{Errno, ObjectKind, Reply, Stat};
@@ -31,16 +31,16 @@ pub fn fill<N: MountName, F: Callback + Drop, R: Rule, H: Wait + Abort>(
     mount: &Mount<N, F, R>,
     receipts: &mut Vec<Receipt<N>>,
 ) -> Result<(), Fail> {
-    let (mut session, came) = mount.attach(rt, Vec::new(alloc)).map_err(|_| "attach")?;
+    let (mut session, came) = attached(rt, mount, Vec::new(alloc))?;
     receipts.push(came)?;
-    let second = mount.attach(rt, Vec::new(alloc)).err();
-    assert_eq!(rt; second.map(|fault| fault.errno), Some(Errno::ENOSPC));
+    let second = attach(rt, mount, Vec::new(alloc)).err();
+    assert_eq!(rt; second, Some(Errno::ENOSPC));
     let made = looks(rt, alloc, mount, &mut session, &Open).map_err(|_| "call")?;
     receipts.push(made)?;
     let full = looks(rt, alloc, mount, &mut session, &Open).err();
     assert_eq!(rt; full, Some(Refused::Full));
     assert_eq!(rt; session.number, 3);
-    let (_, gone) = mount.detach(rt, session).map_err(|_| "detach")?;
+    let gone = detach(rt, mount, session).map_err(|_| "detach")?;
     receipts.push(gone)?;
     Ok(())
 }
@@ -73,19 +73,19 @@ pub fn uses_a_number<N: MountName, F: Callback + Drop, R: Rule, H: Wait + Abort>
     alloc: Global,
     mount: &Mount<N, F, R>,
 ) -> Result<(), Fail> {
-    let (mut session, _came) = mount.attach(rt, Vec::new(alloc)).map_err(|_| "attach")?;
+    let (mut session, _came) = attached(rt, mount, Vec::new(alloc))?;
     let mut used = session;
     let _first = looks(rt, alloc, mount, &mut session, &Open).map_err(|_| "first call")?;
     let again = looks(rt, alloc, mount, &mut used, &Open).err();
     assert_eq!(rt; again, Some(Refused::Session));
     assert_eq!(rt; used.number, 2);
-    assert_eq!(rt; mount.detach(rt, used).err(), Some(Refused::Session));
+    assert_eq!(rt; detach(rt, mount, used).err(), Some(Refused::Session));
     let second = looks(rt, alloc, mount, &mut session, &Open).map_err(|_| "second call")?;
     assert_eq!(rt; second.place(), 2);
     assert_eq!(rt; session.number, 4);
-    let (_, gone) = mount.detach(rt, session).map_err(|_| "detach")?;
+    let gone = detach(rt, mount, session).map_err(|_| "detach")?;
     assert_eq!(rt; gone.place(), 3);
-    assert_eq!(rt; mount.detach(rt, session).err(), Some(Refused::Session));
+    assert_eq!(rt; detach(rt, mount, session).err(), Some(Refused::Session));
     Ok(())
 }
 
@@ -101,7 +101,7 @@ pub fn stops<N: MountName, F: Callback + Drop, R: Rule, H: Wait + Abort>(
     alloc: Global,
     mount: &Mount<N, F, R>,
 ) -> Result<(), Fail> {
-    let (mut session, _came) = mount.attach(rt, Vec::new(alloc)).map_err(|_| "attach")?;
+    let (mut session, _came) = attached(rt, mount, Vec::new(alloc))?;
     let stopped = looks(rt, alloc, mount, &mut session, &Shut).err();
     assert_eq!(rt; stopped, Some(Refused::Stopped));
     assert_eq!(rt; session.number, 2);

@@ -5,7 +5,7 @@ ghost use Rattle.layer_tree.specs.Tree.{layer_of};
 
 use crate::fixtures::read;
 use layer_tree::Layer;
-use ov_base::{Call, Options, Reply};
+use ov_base::{Call, Errno, Options, Reply, Stat};
 use overlay_core::{Core, Job, Turn, Unmounted};
 use std::alloc::Global;
 use std::hash::RandomState;
@@ -40,7 +40,10 @@ pub fn mounted_on<F: Callback + Copy, H: Rule>(
 {
     match mounting(alloc, keys, upper, lowers, options) {
         Ok(core) => Ok(core),
-        Err(_) => Err(Fail::from("no mount")),
+        Err(unmounted) => {
+            drop(unmounted);
+            Err(Fail::from("no mount"))
+        }
     }
 }
 
@@ -54,8 +57,8 @@ pub fn mounted<F: Callback + Copy, H: Rule>(
     mounted_on(alloc, keys, upper, lowers, options)
 }
 
-/// Lets a mount go. Where a test has two ends it is let go here, since each place where a core is
-/// dropped costs much of a proof.
+/// Lets a mount go. What owns one calls this, since each place where a core is let go is taken apart
+/// by the proof.
 pub fn unmount<F: Callback + Copy, H: Rule>(_core: Core<F, H>) {}
 
 // Why these layers are no mount, and the layers, handed back.
@@ -107,13 +110,52 @@ pub fn reply<F: Callback + Copy, H: Rule>(
     call: Call,
 ) -> Result<Reply, Fail> {
     if core.finished() >= DEEDS_MAX || !core.is_attached(client) {
+        drop(call);
         return Err(Fail::from("not attached"));
     }
     let mut job = Job::new(client, call);
     let turn = core.complete(&mut job);
-    let _ = job.into_call();
+    drop(job.into_call());
     match turn {
         Turn::Done(reply) => Ok(reply),
         Turn::More | Turn::NoMemory => Err(Fail::from("no reply")),
     }
+}
+
+/// What a reply says that has no bytes, names or notices.
+#[derive(Clone, Copy, PartialEq, Eq)]
+pub enum Answer {
+    Done,
+    Refused(Errno),
+    Descriptor(u32),
+    Status(Stat),
+    Written(u32),
+    Watch(i32),
+    /// Any other reply.
+    Other,
+}
+
+/// What a reply says.
+pub fn answer_of(reply: &Reply) -> Answer {
+    match reply {
+        Reply::Done => Answer::Done,
+        Reply::Refused(errno) => Answer::Refused(*errno),
+        Reply::Descriptor(descriptor) => Answer::Descriptor(*descriptor),
+        Reply::Status(status) => Answer::Status(*status),
+        Reply::Written(count) => Answer::Written(*count),
+        Reply::Watch(watch) => Answer::Watch(*watch),
+        _ => Answer::Other,
+    }
+}
+
+/// What the reply to a call of a client says. The reply is let go here, as a core is by `unmount`.
+pub fn answer_to<F: Callback + Copy, H: Rule>(
+    core: &mut Core<F, H>,
+    client: u64,
+    call: Call,
+) -> Result<Answer, Fail> {
+    let reply = reply(core, client, call)?;
+    let answer = answer_of(&reply);
+    drop(reply);
+    Ok(answer)
 }

@@ -29,14 +29,36 @@ pub fn read(
     let (upper, lowers, options) = manifest_of(alloc, keys, manifest.as_bytes())?;
     match upper {
         Some(upper) => Ok((upper, lowers, options)),
-        None => Err(Fail::from("no upper")),
+        None => {
+            drop(lowers);
+            Err(Fail::from("no upper"))
+        }
     }
 }
 
 // The layers of a manifest as a mount has them.
 pub fn mount(alloc: Global, keys: RandomState, manifest: &str) -> Result<Layers, Fail> {
     let (upper, lowers, _) = read(alloc, keys, manifest)?;
-    Layers::new(alloc, keys, upper, lowers, 1).map_err(|_| Fail::from("out of memory"))
+    layers_of(alloc, keys, upper, lowers)
+}
+
+// Layers as a mount has them.
+pub fn layers_of(
+    alloc: Global,
+    keys: RandomState,
+    upper: Layer,
+    lowers: Vec<Layer>,
+) -> Result<Layers, Fail>
+    requires some_lower { 0 < vec_len lowers }
+    requires few_lowers { vec_len lowers ≤ 16 }
+{
+    match Layers::new(alloc, keys, upper, lowers, 1) {
+        Ok(layers) => Ok(layers),
+        Err(layers) => {
+            drop(layers);
+            Err(Fail::from("out of memory"))
+        }
+    }
 }
 
 pub fn path(rt: &impl Abort, alloc: Global, text: &str) -> Path {

@@ -1,8 +1,8 @@
 // Files that lose their name while they are open leave their places in the upper to others.
-use crate::cores::{attached, detach, mounted, reply};
+use crate::cores::{Answer, answer_to, attached, detach, mounted, unmount};
 use crate::fixtures::{flags, path};
 use merged_lookup::Topmost;
-use ov_base::{Call, OpenFlags, Path, Reply};
+use ov_base::{Call, OpenFlags, Path};
 use ov_server::{ByTag, ProgramRule, hooks_by_slot};
 use overlay_core::Core;
 use std::alloc::Global;
@@ -23,17 +23,27 @@ fn open_nameless<F: Callback + Copy, H: Rule>(
     core: &mut Core<F, H>,
     client: u64,
 ) -> Result<(), Fail> {
-    let opened = reply(core, client, making(path(rt, alloc, FILE)))?;
-    assert!(rt; matches!(&opened, Reply::Descriptor(0)));
+    makes(rt, alloc, core, client)?;
     let call = Call::Unlink {
         path: path(rt, alloc, FILE),
     };
-    let removed = reply(core, client, call)?;
-    assert!(rt; matches!(&removed, Reply::Done));
+    assert!(rt; answer_to(core, client, call)? == Answer::Done);
     Ok(())
 }
 
-// The call that makes a file and opens it for writing.
+// Makes a file and opens it for writing.
+fn makes<F: Callback + Copy, H: Rule>(
+    rt: &impl Abort,
+    alloc: Global,
+    core: &mut Core<F, H>,
+    client: u64,
+) -> Result<(), Fail> {
+    let opened = answer_to(core, client, making(path(rt, alloc, FILE)))?;
+    assert!(rt; opened == Answer::Descriptor(0));
+    Ok(())
+}
+
+// The call that does so.
 fn making(path: Path) -> Call {
     Call::Open {
         path,
@@ -53,8 +63,7 @@ fn key_given<F: Callback + Copy, H: Rule>(
     core: &mut Core<F, H>,
     client: u64,
 ) -> Result<usize, Fail> {
-    let opened = reply(core, client, making(path(rt, alloc, FILE)))?;
-    assert!(rt; matches!(&opened, Reply::Descriptor(0)));
+    makes(rt, alloc, core, client)?;
     match core.layers().walk_topmost(&path(rt, alloc, FILE)) {
         Ok(Topmost::Inode(place)) if place.layer == 0 => Ok(place.key),
         _ => Err(Fail::from("no file of the upper")),
@@ -79,7 +88,9 @@ fn frees_each<F: Callback + Copy, H: Rule>(
     hooks: Vec<Hook<F, H>>,
 ) -> Result<(), Fail> {
     let mut core: Core<F, H> = mounted(alloc, keys, DIRECTORY)?;
-    frees_on(rt, alloc, &mut core, hooks)
+    let freed = frees_on(rt, alloc, &mut core, hooks);
+    unmount(core);
+    freed
 }
 
 fn frees_on<F: Callback + Copy, H: Rule>(
@@ -91,8 +102,8 @@ fn frees_on<F: Callback + Copy, H: Rule>(
     let client = attached(core, hooks)?;
     for _ in 0..100_000u32 {
         open_nameless(rt, alloc, core, client)?;
-        let closed = reply(core, client, Call::Close { descriptor: 0 })?;
-        assert!(rt; matches!(&closed, Reply::Done));
+        let closed = answer_to(core, client, Call::Close { descriptor: 0 })?;
+        assert!(rt; closed == Answer::Done);
     }
     assert!(rt; key_given(rt, alloc, core, client)? < 3);
     Ok(())
@@ -109,7 +120,9 @@ fn frees_with_clients<A: Abort, F: Callback + Copy, H: Rule>(
     keys: RandomState,
 ) -> Result<(), Fail> {
     let mut core: Core<F, H> = mounted(alloc, keys, DIRECTORY)?;
-    frees_clients_on(rt, alloc, &mut core)
+    let freed = frees_clients_on(rt, alloc, &mut core);
+    unmount(core);
+    freed
 }
 
 fn frees_clients_on<F: Callback + Copy, H: Rule>(

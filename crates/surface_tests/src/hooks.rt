@@ -3,7 +3,7 @@ ghost use Rattle.std.specs.Borrow.{Bor};
 ghost use Rattle.ov_base.specs.declared.notice.Event.{Event};
 ghost use Rattle.plain_model.specs.Watching.{IsEvent};
 
-use crate::cores::{DEEDS_MAX, attached, mounted, reply};
+use crate::cores::{Answer, DEEDS_MAX, answer_to, attached, mounted, reply, unmount};
 use crate::fixtures::{EMPTY, path};
 use ov_base::{Call, Errno, Event, Notice, Reply, cookie_of};
 use overlay_core::Core;
@@ -29,7 +29,9 @@ fn unread_by<F: Callback + Copy>(
     let mut hooks = Vec::new(alloc);
     hooks.push(Hook::new(0, callback))?;
     let mut core: Core<F, AnyAnswer> = mounted(alloc, keys, EMPTY)?;
-    unread_on(rt, alloc, &mut core, hooks)
+    let unread = unread_on(rt, alloc, &mut core, hooks);
+    unmount(core);
+    unread
 }
 
 fn unread_on<F: Callback + Copy>(
@@ -44,19 +46,18 @@ fn unread_on<F: Callback + Copy>(
         path: path(rt, alloc, "/"),
         mask: CREATE,
     };
-    let armed = reply(core, client, root)?;
-    assert!(rt; matches!(armed, Reply::Watch(1)));
+    assert!(rt; answer_to(core, client, root)? == Answer::Watch(1));
     for name in ["/d", "/e"] {
         let making = Call::Mkdir {
             path: path(rt, alloc, name),
             mode: 0o755,
         };
-        assert!(rt; matches!(reply(core, client, making)?, Reply::Done));
+        assert!(rt; answer_to(core, client, making)? == Answer::Done);
     }
     let removing = Call::Rmdir {
         path: path(rt, alloc, "/d"),
     };
-    assert!(rt; matches!(reply(core, client, removing)?, Reply::Done));
+    assert!(rt; answer_to(core, client, removing)? == Answer::Done);
     match reply(core, client, Call::TakeNotices { count: 9 })? {
         Reply::Unread(notices) => Ok(notices.as_slice().len()),
         _ => Err(Fail::from("another reply")),
@@ -128,7 +129,9 @@ fn refuses_hooks<F: Callback + Copy>(
     requires { (e : Bor Event) → IsEvent e.now → F.may callback e }
 {
     let mut core: Core<F, AnyAnswer> = mounted(alloc, keys, EMPTY)?;
-    attach_too_many(rt, alloc, &mut core, callback)
+    let refused = attach_too_many(rt, alloc, &mut core, callback);
+    unmount(core);
+    refused
 }
 
 #[test]

@@ -1,5 +1,5 @@
 // Jobs of many clients whose steps come between one another's, and jobs that are begun and dropped.
-use crate::cores::{DEEDS_MAX, attached, mounted, reply};
+use crate::cores::{Answer, DEEDS_MAX, answer_of, answer_to, attached, mounted, unmount};
 use crate::fixtures::{flags, path};
 use crate::schedules::drop_all;
 use ov_base::{Call, Path, Reply};
@@ -151,18 +151,7 @@ fn driven<F: Callback + Copy, H: Rule>(
     replies
 }
 
-// Whether two replies are the same one, of those that the jobs have.
-fn are_same(one: &Reply, other: &Reply) -> bool {
-    match (one, other) {
-        (Reply::Done, Reply::Done) => true,
-        (Reply::Refused(a), Reply::Refused(b)) => a == b,
-        (Reply::Descriptor(a), Reply::Descriptor(b)) => a == b,
-        (Reply::Status(a), Reply::Status(b)) => a == b,
-        _ => false,
-    }
-}
-
-// Makes the jobs one after the other, in this order, and answers how many have the same reply.
+// Makes the jobs one after the other, in this order, and tells how many have the same reply.
 fn repeated<F: Callback + Copy, H: Rule>(
     rt: &impl Abort,
     alloc: Global,
@@ -172,8 +161,9 @@ fn repeated<F: Callback + Copy, H: Rule>(
     attach_all(alloc, core)?;
     let mut same = 0usize;
     for (number, wanted) in replies {
-        let made = reply(core, client_of(*number), call_of(rt, alloc, *number))?;
-        if are_same(&made, wanted) {
+        let wanted = answer_of(wanted);
+        let made = answer_to(core, client_of(*number), call_of(rt, alloc, *number))?;
+        if made == wanted && made != Answer::Other {
             same = same.saturating_add(1);
         }
     }
@@ -188,7 +178,9 @@ fn driven_apart<F: Callback + Copy, H: Rule>(
     manifest: &str,
 ) -> Result<Vec<(usize, Reply)>, Fail> {
     let mut core: Core<F, H> = mounted(alloc, keys, manifest)?;
-    driven(rt, alloc, &mut core)
+    let replies = driven(rt, alloc, &mut core);
+    unmount(core);
+    replies
 }
 
 // How many replies are the same on a mount of its own, where the jobs come one after the other.
@@ -200,7 +192,9 @@ fn repeated_apart<F: Callback + Copy, H: Rule>(
     replies: &[(usize, Reply)],
 ) -> Result<usize, Fail> {
     let mut core: Core<F, H> = mounted(alloc, keys, manifest)?;
-    repeated(rt, alloc, &mut core, replies)
+    let same = repeated(rt, alloc, &mut core, replies);
+    unmount(core);
+    same
 }
 
 // What a schedule answers is what the same jobs are answered one after the other.
@@ -229,12 +223,13 @@ const TIMES: usize = 100_000;
 // Begins a job and drops it: after its first step it is open with a temp.
 fn begins<F: Callback + Copy, H: Rule>(core: &mut Core<F, H>, client: u64, call: Call) -> bool {
     if core.finished() >= DEEDS_MAX || !core.is_attached(client) {
+        drop(call);
         return false;
     }
     let mut job = Job::new(client, call);
     let turn = core.advance(&mut job);
     let kept = core.open_jobs(client) == 1 && core.temps() == 1;
-    let _ = core.drop_job(job);
+    drop(core.drop_job(job));
     kept && matches!(turn, Turn::More)
 }
 
@@ -273,7 +268,9 @@ fn keeps_nothing_of_drops<F: Callback + Copy, H: Rule>(
     keys: RandomState,
 ) -> Result<(), Fail> {
     let mut core: Core<F, H> = mounted(alloc, keys, FILE)?;
-    keeps_nothing(rt, alloc, &mut core)
+    let kept = keeps_nothing(rt, alloc, &mut core);
+    unmount(core);
+    kept
 }
 
 #[test]

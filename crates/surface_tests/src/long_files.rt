@@ -1,8 +1,8 @@
 // A layer's file of more bytes than the mount lets a file have: it is read and copied up as any other, and only grows no further.
-use crate::cores::{attached, mounted_on, reply};
+use crate::cores::{Answer, answer_to, attached, mounted_on, unmount};
 use crate::fixtures::read;
 use crate::marked_files::{has_bytes, open};
-use ov_base::{Bytes, Call, Errno, Options, Reply};
+use ov_base::{Bytes, Call, Errno, Options};
 use ov_server::{ByTag, ProgramRule};
 use overlay_core::Core;
 use std::alloc::Global;
@@ -15,6 +15,8 @@ use watch_table::{Callback, Rule};
 const LOWER: &str = "layer = [{}, {entry = [
   {path = '/f', kind = 'file', text = 'lower bytes'},
 ]}]";
+
+const TOO_BIG: Answer = Answer::Refused(Errno::EFBIG);
 
 #[test]
 fn a_file_over_the_limit_grows_no_further(rt: HostRuntime) -> Result<(), Fail> {
@@ -32,7 +34,9 @@ fn grows_no_further<A: Abort, F: Callback + Copy, H: Rule>(
         ..options
     };
     let mut core: Core<F, H> = mounted_on(alloc, keys, upper, lowers, options)?;
-    writes_and_cuts(rt, alloc, &mut core)
+    let outcome = writes_and_cuts(rt, alloc, &mut core);
+    unmount(core);
+    outcome
 }
 
 // Of a write that meets the limit what fits is written, over what is there, and a byte beyond is left.
@@ -44,23 +48,13 @@ fn writes_and_cuts<F: Callback + Copy, H: Rule>(
     let client = attached(core, Vec::new(alloc))?;
     assert!(rt; has_bytes(rt, alloc, core, client, "/f", b"lower bytes")?);
     let file = open(rt, alloc, core, client, "/f", true)?;
-    assert!(rt;
-        matches!(
-            &write(alloc, core, client, file, b"LOWER")?,
-            Reply::Written(5)
-        )
-    );
+    assert!(rt; write(alloc, core, client, file, b"LOWER")? == Answer::Written(5));
     assert!(rt; has_bytes(rt, alloc, core, client, "/f", b"LOWER bytes")?);
-    assert!(rt;
-        matches!(
-            &write(alloc, core, client, file, b"abcdefghi")?,
-            Reply::Written(5)
-        )
-    );
-    assert!(rt; is_too_big(&write(alloc, core, client, file, b"x")?));
-    assert!(rt; is_too_big(&truncate(core, client, file, 11)?));
+    assert!(rt; write(alloc, core, client, file, b"abcdefghi")? == Answer::Written(5));
+    assert!(rt; write(alloc, core, client, file, b"x")? == TOO_BIG);
+    assert!(rt; truncate(core, client, file, 11)? == TOO_BIG);
     assert!(rt; has_bytes(rt, alloc, core, client, "/f", b"LOWERabcdes")?);
-    assert!(rt; matches!(&truncate(core, client, file, 10)?, Reply::Done));
+    assert!(rt; truncate(core, client, file, 10)? == Answer::Done);
     assert!(rt; has_bytes(rt, alloc, core, client, "/f", b"LOWERabcde")?);
     Ok(())
 }
@@ -71,9 +65,9 @@ fn write<F: Callback + Copy, H: Rule>(
     client: u64,
     descriptor: u32,
     bytes: &[u8],
-) -> Result<Reply, Fail> {
+) -> Result<Answer, Fail> {
     let bytes = Bytes::from_slice(alloc, bytes)?;
-    reply(core, client, Call::Write { descriptor, bytes })
+    answer_to(core, client, Call::Write { descriptor, bytes })
 }
 
 fn truncate<F: Callback + Copy, H: Rule>(
@@ -81,10 +75,6 @@ fn truncate<F: Callback + Copy, H: Rule>(
     client: u64,
     descriptor: u32,
     size: u64,
-) -> Result<Reply, Fail> {
-    reply(core, client, Call::Truncate { descriptor, size })
-}
-
-fn is_too_big(reply: &Reply) -> bool {
-    matches!(reply, Reply::Refused(Errno::EFBIG))
+) -> Result<Answer, Fail> {
+    answer_to(core, client, Call::Truncate { descriptor, size })
 }

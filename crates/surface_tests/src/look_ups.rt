@@ -1,5 +1,5 @@
 // Chains of redirects in as many layers as there may be, and the way back from an object of the upper to its path.
-use crate::fixtures::{mount, path, read, seen};
+use crate::fixtures::{layers_of, mount, path, read, seen};
 use layer_tree::{Entry, Layer, ROOT};
 use merged_lookup::Layers;
 use ov_base::{Errno, Name};
@@ -46,6 +46,7 @@ fn chains_of_redirects_answer_at_once(rt: HostRuntime) -> Result<(), Fail> {
         let found = seen(&layers, &path(&rt, alloc, text));
         assert!(rt; found == wanted, "{text}");
     }
+    drop(layers);
     Ok(())
 }
 
@@ -60,7 +61,9 @@ const TWO_NAMES: &str = "layer = [{entry = [
 fn an_object_is_located_at_the_least_text(rt: HostRuntime) -> Result<(), Fail> {
     let alloc = rt.alloc();
     let layers = mount(alloc, RandomState::new(&rt)?, TWO_NAMES)?;
-    locates(&rt, alloc, &layers)
+    let outcome = locates(&rt, alloc, &layers);
+    drop(layers);
+    outcome
 }
 
 fn locates(rt: &impl Abort, alloc: Global, layers: &Layers) -> Result<(), Fail> {
@@ -86,9 +89,10 @@ fn an_object_without_a_name_has_no_path(rt: HostRuntime) -> Result<(), Fail> {
     let keys = RandomState::new(&rt)?;
     let (mut upper, lowers, _) = read(alloc, keys, manifest)?;
     let key = unnamed(&rt, alloc, &mut upper);
-    let layers = Layers::new(alloc, keys, upper, lowers, 1);
-    let layers = layers.map_err(|_| Fail::from("out of memory"))?;
-    has_no_path(&rt, alloc, &layers, key)
+    let layers = layers_of(alloc, keys, upper, lowers)?;
+    let outcome = has_no_path(&rt, alloc, &layers, key);
+    drop(layers);
+    outcome
 }
 
 // The key of the file, whose name is taken away.

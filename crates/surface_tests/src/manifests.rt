@@ -1,7 +1,9 @@
 // What no script shows of a manifest: its options, and that it may be long.
 use crate::fixtures::{path, read};
-use layer_tree::{Entry, Node};
+use layer_tree::{Entry, Layer, Node};
+use std::alloc::Global;
 use std::hash::RandomState;
+use std::process::Abort;
 use std::test::Fail;
 
 #[test]
@@ -24,12 +26,14 @@ fn options_of_manifests(rt: HostRuntime) -> Result<(), Fail> {
         ),
     ] {
         let manifest = format!(in rt.alloc(); "{top}layer = [{{}}, {{}}]")?;
-        let (_, lowers, options) = read(rt.alloc(), RandomState::new(&rt)?, manifest.as_str())?;
+        let (upper, lowers, options) = read(rt.alloc(), RandomState::new(&rt)?, manifest.as_str())?;
+        drop(upper);
         assert_eq!(rt; options.redirects, redirects, "{top}");
         assert_eq!(rt; options.metacopy, metacopy, "{top}");
         assert_eq!(rt; options.history, history, "{top}");
         assert_eq!(rt; options.file_limit, file_limit, "{top}");
         assert_eq!(rt; lowers.len(), 1);
+        drop(lowers);
     }
     Ok(())
 }
@@ -44,13 +48,19 @@ fn many_entries_in_one_directory(rt: HostRuntime) -> Result<(), Fail> {
         )?;
         manifest.push_str(entry.as_str())?;
     }
-    let (_, lowers, _) = read(alloc, RandomState::new(&rt)?, manifest.as_str())?;
+    let (upper, lowers, _) = read(alloc, RandomState::new(&rt)?, manifest.as_str())?;
+    drop(upper);
     assert_eq!(rt; lowers.len(), 1);
-    let last = lowers[0].find(&path(&rt, alloc, "/9999"));
-    let Some(Entry::Object(key)) = last else {
+    let outcome = has_last(&rt, alloc, &lowers[0]);
+    drop(lowers);
+    outcome
+}
+
+fn has_last(rt: &impl Abort, alloc: Global, layer: &Layer) -> Result<(), Fail> {
+    let Some(Entry::Object(key)) = layer.find(&path(rt, alloc, "/9999")) else {
         return Err(Fail::from("no object"));
     };
-    assert!(rt; matches!(lowers[0].node(key), Some(Node::Inode(_))));
-    assert!(rt; lowers[0].read(key) == Some(b"9999".as_slice()));
+    assert!(rt; matches!(layer.node(key), Some(Node::Inode(_))));
+    assert!(rt; layer.read(key) == Some(b"9999".as_slice()));
     Ok(())
 }

@@ -4,7 +4,7 @@ ghost use Rattle.std.specs.Prelude.{◌∷◌, IfOk, OnOk, map};
 ghost use Rattle.plain_model.specs.Layers.{AreLayers, IsLayer};
 ghost use Rattle.layer_tree.specs.Tree.{layer_of};
 
-use crate::cores::{attached, mounted_on, refused, reply};
+use crate::cores::{Answer, answer_to, attached, mounted_on, refused, reply, unmount};
 use crate::fixtures::{flags, path, read};
 use layer_tree::{Entry, Layer, Object, ROOT};
 use ov_base::{
@@ -56,7 +56,8 @@ const UNMARKED: Stat = Stat {
 fn layer_in(alloc: Global, keys: RandomState, manifest: &str) -> Result<(Layer, Options), Fail>
     ensures layer { IfOk result (λ r. IsLayer (layer_of r.0)) }
 {
-    let (layer, _, options) = read(alloc, keys, manifest)?;
+    let (layer, lowers, options) = read(alloc, keys, manifest)?;
+    drop(lowers);
     Ok((layer, options))
 }
 
@@ -94,8 +95,34 @@ fn over(alloc: Global, upper: Layer, lower: Layer) -> Result<(Layer, Vec<Layer>)
     ensures layers { IfOk result (λ r. AreLayers (layer_of r.0 ∷ map layer_of r.1.items)) }
 {
     let mut lowers = Vec::new(alloc);
-    lowers.push(lower)?;
-    Ok((upper, lowers))
+    match lowers.push(lower) {
+        Ok(()) => Ok((upper, lowers)),
+        Err(fault) => {
+            drop(upper);
+            drop(lowers);
+            Err(AllocError::from(fault))
+        }
+    }
+}
+
+// The first layer of a manifest, whose `/m` has this mark, and its options.
+fn layer_marked(
+    rt: &impl Abort,
+    alloc: Global,
+    keys: RandomState,
+    manifest: &str,
+    mark: &str,
+) -> Result<(Layer, Options), Fail>
+    ensures layer { IfOk result (λ r. IsLayer (layer_of r.0)) }
+{
+    let (mut layer, options) = layer_in(alloc, keys, manifest)?;
+    match put_marked(rt, alloc, &mut layer, mark) {
+        Ok(()) => Ok((layer, options)),
+        Err(fail) => {
+            drop(layer);
+            Err(fail)
+        }
+    }
 }
 
 // The lower layer under an upper whose `/m` has this mark.
@@ -107,11 +134,17 @@ fn marked_by(
 ) -> Result<(Layer, Vec<Layer>, Options), Fail>
     ensures layers { IfOk result (λ r. AreLayers (layer_of r.0 ∷ map layer_of r.1.items)) }
 {
-    let (mut upper, options) = layer_in(alloc, keys, UPPER)?;
     let (lower, _) = layer_in(alloc, keys, LOWER)?;
-    put_marked(rt, alloc, &mut upper, mark)?;
-    let (upper, lowers) = over(alloc, upper, lower)?;
-    Ok((upper, lowers, options))
+    match layer_marked(rt, alloc, keys, UPPER, mark) {
+        Ok((upper, options)) => {
+            let (upper, lowers) = over(alloc, upper, lower)?;
+            Ok((upper, lowers, options))
+        }
+        Err(fail) => {
+            drop(lower);
+            Err(fail)
+        }
+    }
 }
 
 // The key of the file at a path.
@@ -130,16 +163,36 @@ fn is_marked(rt: &impl Abort, alloc: Global, layer: &Layer, mark: &str) -> Resul
     }
 }
 
+// A lower layer whose `/m` has a mark, under an upper.
+fn over_marked(
+    rt: &impl Abort,
+    alloc: Global,
+    keys: RandomState,
+) -> Result<(Layer, Vec<Layer>, Options), Fail>
+    ensures layers { IfOk result (λ r. AreLayers (layer_of r.0 ∷ map layer_of r.1.items)) }
+{
+    let (lower, _) = layer_marked(rt, alloc, keys, LOWER, "/f")?;
+    match layer_in(alloc, keys, UPPER) {
+        Ok((upper, options)) => {
+            let (upper, lowers) = over(alloc, upper, lower)?;
+            Ok((upper, lowers, options))
+        }
+        Err(fail) => {
+            drop(lower);
+            Err(fail)
+        }
+    }
+}
+
 #[test]
 fn a_lower_layer_with_a_mark_is_no_mount(rt: HostRuntime) -> Result<(), Fail> {
     let alloc = rt.alloc();
     let keys = RandomState::new(&rt)?;
-    let (upper, options) = layer_in(alloc, keys, UPPER)?;
-    let (mut lower, _) = layer_in(alloc, keys, LOWER)?;
-    put_marked(&rt, alloc, &mut lower, "/f")?;
-    let (upper, lowers) = over(alloc, upper, lower)?;
+    let (upper, lowers, options) = over_marked(&rt, alloc, keys)?;
     let back = refused::<ByTag, ProgramRule>(alloc, keys, upper, lowers, options)?;
-    hands_back_marked(&rt, alloc, &back)
+    let outcome = hands_back_marked(&rt, alloc, &back);
+    drop(back);
+    outcome
 }
 
 // The layers are handed back, the lower one with its mark.
@@ -167,7 +220,9 @@ fn a_mark_that_leads_to_no_lower_file_is_no_mount(rt: HostRuntime) -> Result<(),
 fn refuses_mark(rt: &impl Abort, alloc: Global, keys: RandomState, mark: &str) -> Result<(), Fail> {
     let (upper, lowers, options) = marked_by(rt, alloc, keys, mark)?;
     let back = refused::<ByTag, ProgramRule>(alloc, keys, upper, lowers, options)?;
-    hands_back(rt, alloc, &back, mark)
+    let outcome = hands_back(rt, alloc, &back, mark);
+    drop(back);
+    outcome
 }
 
 // The layers are handed back, the upper with this mark.
@@ -182,13 +237,6 @@ fn hands_back(rt: &impl Abort, alloc: Global, back: &Unmounted, mark: &str) -> R
     Ok(())
 }
 
-fn is_status(reply: &Reply, wanted: Stat) -> bool {
-    match reply {
-        Reply::Status(status) => *status == wanted,
-        _ => false,
-    }
-}
-
 // Whether a path shows this.
 fn shows<F: Callback + Copy, H: Rule>(
     rt: &impl Abort,
@@ -201,7 +249,7 @@ fn shows<F: Callback + Copy, H: Rule>(
     let call = Call::Stat {
         path: path(rt, alloc, text),
     };
-    Ok(is_status(&reply(core, client, call)?, wanted))
+    Ok(answer_to(core, client, call)? == Answer::Status(wanted))
 }
 
 // Opens a file for reading, or else for writing.
@@ -218,8 +266,8 @@ pub fn open<F: Callback + Copy, H: Rule>(
         flags: flags(writes),
         mode: 0,
     };
-    match reply(core, client, call)? {
-        Reply::Descriptor(descriptor) => Ok(descriptor),
+    match answer_to(core, client, call)? {
+        Answer::Descriptor(descriptor) => Ok(descriptor),
         _ => Err(Fail::from("not opened")),
     }
 }
@@ -235,12 +283,14 @@ pub fn has_bytes<F: Callback + Copy, H: Rule>(
 ) -> Result<bool, Fail> {
     let descriptor = open(rt, alloc, core, client, text, false)?;
     let count = 4_096;
-    let same = match reply(core, client, Call::Read { descriptor, count })? {
-        Reply::Read(read) => read.as_slice() == wanted,
+    let read = reply(core, client, Call::Read { descriptor, count })?;
+    let same = match &read {
+        Reply::Read(bytes) => bytes.as_slice() == wanted,
         _ => false,
     };
-    let closed = reply(core, client, Call::Close { descriptor })?;
-    Ok(same && matches!(&closed, Reply::Done))
+    drop(read);
+    let closed = answer_to(core, client, Call::Close { descriptor })?;
+    Ok(same && closed == Answer::Done)
 }
 
 #[test]
@@ -255,7 +305,9 @@ fn shows_until_filled<A: Abort, F: Callback + Copy, H: Rule>(
 ) -> Result<(), Fail> {
     let (upper, lowers, options) = marked_by(rt, alloc, keys, "/f")?;
     let mut core: Core<F, H> = mounted_on(alloc, keys, upper, lowers, options)?;
-    shows_and_fills(rt, alloc, &mut core)
+    let shown = shows_and_fills(rt, alloc, &mut core);
+    unmount(core);
+    shown
 }
 
 fn shows_and_fills<F: Callback + Copy, H: Rule>(
@@ -278,8 +330,8 @@ fn shows_both<F: Callback + Copy, H: Rule>(
     assert!(rt; shows(rt, alloc, core, client, "/m", MARKED)?);
     assert!(rt; has_bytes(rt, alloc, core, client, "/m", BYTES)?);
     let descriptor = open(rt, alloc, core, client, "/m", false)?;
-    let status = reply(core, client, Call::Fstat { descriptor })?;
-    assert!(rt; is_status(&status, MARKED));
+    let status = answer_to(core, client, Call::Fstat { descriptor })?;
+    assert!(rt; status == Answer::Status(MARKED));
     assert!(rt; is_marked(rt, alloc, core.layers().upper(), "/f")?);
     assert!(rt; shows(rt, alloc, core, client, "/f", UNMARKED)?);
     Ok(())
@@ -299,8 +351,8 @@ fn fills<F: Callback + Copy, H: Rule>(
     assert!(rt; shows(rt, alloc, core, client, "/m", MARKED)?);
     assert!(rt; has_bytes(rt, alloc, core, client, "/m", BYTES)?);
     let bytes = Bytes::from_slice(alloc, b"LOWER")?;
-    let written = reply(core, client, Call::Write { descriptor, bytes })?;
-    assert!(rt; matches!(&written, Reply::Written(5)));
+    let written = answer_to(core, client, Call::Write { descriptor, bytes })?;
+    assert!(rt; written == Answer::Written(5));
     assert!(rt; has_bytes(rt, alloc, core, client, "/m", b"LOWER bytes")?);
     assert!(rt; shows(rt, alloc, core, client, "/m", MARKED)?);
     assert!(rt; has_bytes(rt, alloc, core, client, "/f", BYTES)?);

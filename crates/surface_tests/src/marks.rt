@@ -29,7 +29,8 @@ fn key(rt: &impl Abort, alloc: Global, layer: &Layer, text: &str) -> usize {
 #[test]
 fn a_directory_gets_marks(rt: HostRuntime) -> Result<(), Fail> {
     let alloc = rt.alloc();
-    let (mut layer, _, _) = read(alloc, RandomState::new(&rt)?, OPAQUE)?;
+    let (mut layer, lowers, _) = read(alloc, RandomState::new(&rt)?, OPAQUE)?;
+    drop(lowers);
     let e = key(&rt, alloc, &layer, "/e");
     assert!(rt; layer.is_directory(e));
     assert!(rt; e != ROOT);
@@ -50,6 +51,7 @@ fn a_directory_gets_marks(rt: HostRuntime) -> Result<(), Fail> {
         )
     );
     assert!(rt; layer.find(&path(&rt, alloc, "/e/w")).is_some());
+    drop(layer);
     Ok(())
 }
 
@@ -67,7 +69,9 @@ const REDIRECTS: &str = "layer = [{entry = [
 fn a_path_is_spelled_for_the_layer_below(rt: HostRuntime) -> Result<(), Fail> {
     let alloc = rt.alloc();
     let layers = mount(alloc, RandomState::new(&rt)?, REDIRECTS)?;
-    spells(&rt, alloc, &layers)
+    let outcome = spells(&rt, alloc, &layers);
+    drop(layers);
+    outcome
 }
 
 fn spells(rt: &impl Abort, alloc: Global, layers: &Layers) -> Result<(), Fail> {

@@ -40,5 +40,6 @@ fn places_one_parent_at_a_time(rt: HostRuntime) -> Result<(), Fail> {
         assert!(rt; seen(&layers, &path(&rt, alloc, "/a")) == Ok(first));
         assert!(rt; seen(&layers, &path(&rt, alloc, "/a/b")) == Ok(second));
     }
+    drop(layers);
     Ok(())
 }

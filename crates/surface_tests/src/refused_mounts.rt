@@ -19,6 +19,7 @@ fn refuses_a_history_of_one(rt: HostRuntime) -> Result<(), Fail> {
     let unmounted = refused::<ByTag, ProgramRule>(alloc, keys, upper, lowers, options)?;
     assert!(rt; unmounted.fault == Some(MountFault::BadHistory));
     assert_eq!(rt; unmounted.lowers.len(), 1);
+    drop(unmounted);
     Ok(())
 }
 
@@ -34,5 +35,6 @@ fn refuses_metacopy_without_redirects(rt: HostRuntime) -> Result<(), Fail> {
     let unmounted = refused::<ByTag, ProgramRule>(alloc, keys, upper, lowers, options)?;
     assert!(rt; unmounted.fault == Some(MountFault::BadMetacopy));
     assert_eq!(rt; unmounted.lowers.len(), 1);
+    drop(unmounted);
     Ok(())
 }

@@ -1,7 +1,7 @@
 // Jobs that are stepped by a schedule.
-use crate::cores::{DEEDS_MAX, attached, mounted};
+use crate::cores::{Answer, DEEDS_MAX, answer_of, attached, mounted, unmount};
 use crate::fixtures::path;
-use ov_base::{Call, Errno, Reply};
+use ov_base::{Call, Errno};
 use ov_server::hooks_by_slot;
 use overlay_core::{Core, Job, drive};
 use std::alloc::Global;
@@ -16,7 +16,7 @@ const DIRECTORY: &str = "layer = [{}, {entry = [{path = '/d', kind = 'dir'}]}]";
 pub fn drop_all<F: Callback + Copy, H: Rule>(core: &mut Core<F, H>, jobs: Vec<Job>) {
     let mut jobs = jobs;
     'jobs: while let Some(job) = jobs.pop() {
-        let _ = core.drop_job(job);
+        drop(core.drop_job(job));
     }
     jobs.destroy_empty();
 }
@@ -38,7 +38,9 @@ fn answers_in_order<F: Callback + Copy, H: Rule>(
     hooks: Vec<Hook<F, H>>,
 ) -> Result<(), Fail> {
     let mut core: Core<F, H> = mounted(alloc, keys, DIRECTORY)?;
-    answers_on(rt, alloc, &mut core, hooks)
+    let answered = answers_on(rt, alloc, &mut core, hooks);
+    unmount(core);
+    answered
 }
 
 fn answers_on<F: Callback + Copy, H: Rule>(
@@ -62,7 +64,11 @@ fn answers_on<F: Callback + Copy, H: Rule>(
     let replies = outcome?;
     let mut indexes = [9, 9];
     for (place, (index, reply)) in replies.as_slice().iter().enumerate() {
-        if place < 2 && matches!(reply, Reply::Done | Reply::Refused(Errno::ENOENT)) {
+        let is_wanted = match answer_of(reply) {
+            Answer::Done | Answer::Refused(Errno::ENOENT) => true,
+            _ => false,
+        };
+        if place < 2 && is_wanted {
             indexes[place] = *index;
         }
     }

@@ -35,7 +35,8 @@ pub fn ending<I: Read, O: Write>(
     reader: &mut I,
     writer: &mut O,
 ) -> Result<Ending, Fail> {
-    let (end, _session) = served(alloc, keys, reader, writer)?;
+    let (end, session) = served(alloc, keys, reader, writer)?;
+    drop(session);
     Ok(end)
 }
 
@@ -96,6 +97,7 @@ fn serve<F: Callback + Copy, H: Rule, I: Read, O: Write>(
     let mut output = SessionOutput::new(alloc, CountedWriter::new(writer));
     let (end, session, core) = run_session(alloc, core, client, session, &mut input, &mut output);
     if core.is_attached(client) {
+        drop(session);
         return (Err(Fail::from("still attached")), core);
     }
     (Ok((end, session)), core)

@@ -5,7 +5,7 @@ ghost use Rattle.overlay_core.specs.LegalHistories.{Legally, opening_of};
 ghost use Rattle.overlay_core.specs.Views.{core_finished};
 ghost use Rattle.overlay_core.specs.WholeRuns.{Goes, entries_of};
 
-use crate::cores::mounted;
+use crate::cores::{mounted, unmount};
 use crate::fixtures::{EMPTY, path};
 use ov_base::{Call, Reply};
 use ov_server::hooks_by_slot;
@@ -52,7 +52,9 @@ fn visits<F: Callback + Copy, H: Rule>(
     hooks: Vec<Hook<F, H>>,
 ) -> Result<(), Fail> {
     let mut core: Core<F, H> = mounted(alloc, keys, EMPTY)?;
-    visits_on(rt, alloc, &mut core, hooks)
+    let visited = visits_on(rt, alloc, &mut core, hooks);
+    unmount(core);
+    visited
 }
 
 fn visits_on<F: Callback + Copy, H: Rule>(

@@ -4,7 +4,7 @@ use super::devices::{Pieces, Taker};
 use super::rows::{later_replies_to, requests};
 use super::serve;
 use super::shaky::Once;
-use crate::cores::{attached, mounted, reply, unmount};
+use crate::cores::{Answer, answer_to, attached, mounted, reply, unmount};
 use crate::fixtures::{flags, path};
 use ov_base::{Call, Reply};
 use ov_server::hooks_by_slot;
@@ -38,14 +38,14 @@ fn watched_and_open<F: Callback + Copy, H: Rule>(
         path: path(rt, alloc, "/f"),
         mask: CLOSE_NOWRITE,
     };
-    assert!(rt; matches!(reply(core, watcher, watched)?, Reply::Watch(1)));
+    assert!(rt; answer_to(core, watcher, watched)? == Answer::Watch(1));
     let client = attached(core, Vec::new(alloc))?;
     let opened = Call::Open {
         path: path(rt, alloc, "/f"),
         flags: flags(false),
         mode: 0,
     };
-    assert!(rt; matches!(reply(core, client, opened)?, Reply::Descriptor(0)));
+    assert!(rt; answer_to(core, client, opened)? == Answer::Descriptor(0));
     Ok((watcher, client))
 }
 

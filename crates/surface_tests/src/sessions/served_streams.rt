@@ -81,6 +81,21 @@ fn ending_of(stream: &Stream) -> Ending {
     }
 }
 
+// How a session ends that gets these bytes in such pieces, and the calls that were answered.
+fn session_of(
+    alloc: Global,
+    keys: RandomState,
+    bytes: &[u8],
+    most: usize,
+) -> Result<(Ending, Vec<Asked>), Fail> {
+    let mut reader = Pieces::most(bytes, most);
+    let mut writer = Taker::new(alloc);
+    let (end, session) = served(alloc, keys, &mut reader, &mut writer)?;
+    let seen = answered(alloc, session.exchanges());
+    drop(session);
+    Ok((end, seen?))
+}
+
 #[test]
 fn random_streams_are_served_as_the_reference_reads_them(rt: HostRuntime) -> Result<(), Fail> {
     let alloc = rt.alloc();
@@ -88,12 +103,10 @@ fn random_streams_are_served_as_the_reference_reads_them(rt: HostRuntime) -> Res
     for seed in 0..STREAMS {
         let bytes = stream_of(alloc, &mut Dice::new(seed))?;
         let wanted = read_stream(alloc, bytes.as_slice())?;
-        let mut reader = Pieces::most(bytes.as_slice(), PIECES[(seed % 4) as usize]);
-        let mut writer = Taker::new(alloc);
-        let (end, session) = served(alloc, keys, &mut reader, &mut writer)?;
+        let most = PIECES[(seed % 4) as usize];
+        let (end, seen) = session_of(alloc, keys, bytes.as_slice(), most)?;
         assert_eq!(rt; end, ending_of(&wanted), "stream {seed}");
         let calls = calls_of(alloc, wanted.asked)?;
-        let seen = answered(alloc, session.exchanges())?;
         assert_eq!(rt; seen.as_slice(), calls.as_slice(), "stream {seed}");
     }
     Ok(())
