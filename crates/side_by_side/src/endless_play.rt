@@ -56,7 +56,9 @@ pub fn endless_play<N: BookName, F: Callback + Copy, R: Rule, H: Wait>(
         is_whole,
     } = played;
     let (core, whole) = mount.finish(rt, seen);
-    told.end(alloc, &core, script, stop, is_whole && whole.len() == deeds)
+    let told = told.end(alloc, &core, script, stop, is_whole && whole.len() == deeds);
+    drop(core);
+    told
 }
 
 impl<N: BookName, F: Callback, R: Rule> LoneMount<'_, N, F, R> {

@@ -115,12 +115,13 @@ fn play(
     let hooks = hooks_by_slot(alloc)?;
     let mut input = CountedReader::new(script);
     let mut output = Output::new(alloc, CountedWriter::new(text));
+    let blobs = all_blobs(alloc)?;
     play_run_keeping(
         alloc,
         keys,
         look_ups,
         table_of(alloc, manifest)?,
-        all_blobs(alloc)?,
+        blobs,
         hooks.as_slice(),
         &mut input,
         &mut output,
@@ -134,6 +135,6 @@ fn show(
     text: &mut Vec<u8>,
 ) -> Result<(), Fault> {
     let mut output = Output::new(alloc, CountedWriter::new(text));
-    let manifest = table_of(alloc, manifest)?;
-    show_run(alloc, keys, manifest, all_blobs(alloc)?, &mut output)
+    let blobs = all_blobs(alloc)?;
+    show_run(alloc, keys, table_of(alloc, manifest)?, blobs, &mut output)
 }

@@ -85,7 +85,9 @@ fn drafted<F: Callback + Copy, R: Rule>(
     let Ok(table) = table_of(alloc, manifest.text) else {
         return Ok(None);
     };
-    let Ok(core) = core_of::<F, R>(alloc, keys, &table, &[], None) else {
+    let core = core_of::<F, R>(alloc, keys, &table, &[], None);
+    drop(table);
+    let Ok(core) = core else {
         return Ok(None);
     };
     let mut draft = Draft {

@@ -33,17 +33,26 @@ pub fn mount_of(alloc: Global, manifest: &[u8]) -> Result<Option<PlainMount>, Al
     let Ok(manifest) = toml::table_from_slice(alloc, manifest) else {
         return Ok(None);
     };
-    let Some((reference, layers)) = opened(alloc, &manifest)? else {
-        return Ok(None);
-    };
-    let history = History::of(&manifest);
-    Ok(Some(PlainMount {
-        reference,
-        manifest,
-        layers,
-        history,
-        begun: BTreeMap::new(alloc),
-    }))
+    match opened(alloc, &manifest) {
+        Ok(Some((reference, layers))) => {
+            let history = History::of(&manifest);
+            Ok(Some(PlainMount {
+                reference,
+                manifest,
+                layers,
+                history,
+                begun: BTreeMap::new(alloc),
+            }))
+        }
+        Ok(None) => {
+            drop(manifest);
+            Ok(None)
+        }
+        Err(fault) => {
+            drop(manifest);
+            Err(fault)
+        }
+    }
 }
 
 // The reference of a manifest, and how many layers it has.
@@ -155,7 +164,9 @@ pub fn lines_of(alloc: Global, layers: &[PlainLayer<'_>]) -> Result<String, Allo
         file_limit: FILE_LIMIT,
     };
     if let Some(reference) = reference_of(alloc, layers, options)? {
-        push_tree(alloc, &reference, &mut lines)?;
+        let pushed = push_tree(alloc, &reference, &mut lines);
+        drop(reference);
+        pushed?;
     }
     Ok(lines)
 }

@@ -21,11 +21,26 @@ pub fn reference_of(
         return Ok(None);
     };
     let mut builder = Builder::new(alloc, root, options)?;
+    match put_shown(alloc, &mut builder, layers) {
+        Ok(()) => Ok(Some(builder.finish())),
+        Err(fault) => {
+            drop(builder);
+            Err(fault)
+        }
+    }
+}
+
+// Puts all that layers show below the root.
+fn put_shown(
+    alloc: Global,
+    builder: &mut Builder,
+    layers: &[PlainLayer<'_>],
+) -> Result<(), AllocError> {
     let objects = shown_below(alloc, layers)?;
     for shown in objects.as_slice() {
-        put(alloc, &mut builder, objects.as_slice(), shown)?;
+        put(alloc, builder, objects.as_slice(), shown)?;
     }
-    Ok(Some(builder.finish()))
+    Ok(())
 }
 
 // Puts what is shown at a path, whose parent is there. The names of one file or symbolic link of the upper are names of one node.

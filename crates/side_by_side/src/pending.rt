@@ -42,7 +42,7 @@ pub fn started(
     match text.call(alloc)? {
         Err(errno) => Ok(Some(not_taken_line(alloc, client, errno)?)),
         Ok(call) => {
-            mount.begun.insert(client, Begun { call, steps: 0 })?;
+            drop(mount.begun.insert(client, Begun { call, steps: 0 })?);
             Ok(Some(String::new(alloc)))
         }
     }
@@ -57,23 +57,28 @@ pub fn stepped(
     steps: u64,
     wanted: &[u8],
 ) -> Result<Option<String>, AllocError> {
-    let Some(
-        Begun {
-            call,
-            steps: before,
-        },
-    ) = mount.begun.remove(&client)
-    else {
+    let most = steps_most(mount);
+    let has_place = mount.history.room() > 0;
+    let Some(begun) = mount.begun.get_mut(&client) else {
         return Ok(None);
     };
-    let steps = before.saturating_add(steps);
-    let may_go_on = steps < steps_most(mount) && may_copy_up(&call) && mount.history.room() > 0;
+    begun.steps = begun.steps.saturating_add(steps);
+    let may_go_on = begun.steps < most && may_copy_up(&begun.call) && has_place;
     let more = more_line(alloc, client)?;
     if may_go_on && wanted.starts_with(more.as_bytes()) {
-        mount.begun.insert(client, Begun { call, steps })?;
         return Ok(Some(more));
     }
-    Ok(Some(mount.make(alloc, client, &call)?))
+    ended(alloc, mount, client)
+}
+
+// The line of a call that is made now. None where the client has begun none.
+fn ended(alloc: Global, mount: &mut PlainMount, client: u32) -> Result<Option<String>, AllocError> {
+    let Some(begun) = mount.begun.remove(&client) else {
+        return Ok(None);
+    };
+    let line = mount.make(alloc, client, &begun.call);
+    drop(begun);
+    Ok(Some(line?))
 }
 
 // The most steps that a call takes on a mount.
@@ -106,9 +111,13 @@ pub fn dropped(
     mount: &mut PlainMount,
     client: u32,
 ) -> Result<Option<String>, AllocError> {
-    match mount.begun.remove(&client) {
-        Some(_) => Ok(Some(dropped_line(alloc, client)?)),
-        None => Ok(None),
+    let begun = mount.begun.remove(&client);
+    let is_dropped = begun.is_some();
+    drop(begun);
+    if is_dropped {
+        Ok(Some(dropped_line(alloc, client)?))
+    } else {
+        Ok(None)
     }
 }
 

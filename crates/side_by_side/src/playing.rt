@@ -27,16 +27,25 @@ pub fn reference_difference(
     let Some(mut mount) = mount_of(alloc, manifest)? else {
         return Ok(Some(String::from_str(alloc, "the reference has no mount")?));
     };
-    match script {
+    let found = match script {
         Some(script) => played_difference(alloc, &mut mount, script, wanted),
-        None => {
-            let tree = mount.merge_lines(alloc)?;
-            if tree.as_bytes() == wanted {
-                Ok(None)
-            } else {
-                Ok(Some(differs(alloc, 0, tree.as_str())?))
-            }
-        }
+        None => tree_difference(alloc, &mount, wanted),
+    };
+    // It is let go here alone, since each place where one is is taken apart by the proof.
+    drop(mount);
+    found
+}
+
+fn tree_difference(
+    alloc: Global,
+    mount: &PlainMount,
+    wanted: &[u8],
+) -> Result<Option<String>, AllocError> {
+    let tree = mount.merge_lines(alloc)?;
+    if tree.as_bytes() == wanted {
+        Ok(None)
+    } else {
+        Ok(Some(differs(alloc, 0, tree.as_str())?))
     }
 }
 
@@ -196,7 +205,7 @@ fn detached(
     if !mount.reference.detach(client) {
         return Ok(None);
     }
-    mount.begun.remove(&client);
+    drop(mount.begun.remove(&client));
     mount.history.detach();
     Ok(Some(detached_line(alloc, client)?))
 }
@@ -213,6 +222,10 @@ fn called(
     }
     match call.call(alloc)? {
         Err(errno) => Ok(Some(not_taken_line(alloc, client, errno)?)),
-        Ok(call) => Ok(Some(mount.make(alloc, client, &call)?)),
+        Ok(call) => {
+            let line = mount.make(alloc, client, &call);
+            drop(call);
+            Ok(Some(line?))
+        }
     }
 }

@@ -113,11 +113,13 @@ fn core_of<F: Callback + Drop, R: Rule>(
 ) -> Result<Option<Core<F, R>>, AllocError>
     ensures { IfOk result (λ made. IfSome made (λ core. core_finished core ≡ 0)) }
 {
+    let blobs = all_blobs(alloc)?;
     let Ok(table) = table_of(alloc, manifest) else {
         return Ok(None);
     };
-    let blobs = all_blobs(alloc)?;
-    let Ok((upper, lowers, options)) = layers_of(alloc, keys, &table, blobs.as_slice()) else {
+    let layers = layers_of(alloc, keys, &table, blobs.as_slice());
+    drop(table);
+    let Ok((upper, lowers, options)) = layers else {
         return Ok(None);
     };
     let options = Options {

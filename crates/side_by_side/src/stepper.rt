@@ -93,12 +93,12 @@ impl<F: Callback + Copy, R: Rule> Stepper<F, R> {
         match self.jobs.insert(client, Job::new(client, call)) {
             Ok(None) => Ok(()),
             Ok(Some(job)) => {
-                let _ = self.core.drop_job(job);
+                drop(self.core.drop_job(job));
                 Ok(())
             }
             Err(fault) => {
                 let (_client, job) = fault.value;
-                let _ = self.core.drop_job(job);
+                drop(self.core.drop_job(job));
                 Err(AllocError)
             }
         }
@@ -116,7 +116,7 @@ impl<F: Callback + Copy, R: Rule> Stepper<F, R> {
 
     fn drop_call(&mut self, client: u32) {
         if let Some(job) = self.jobs.remove(&u64::from(client)) {
-            let _ = self.core.drop_job(job);
+            drop(self.core.drop_job(job));
         }
     }
 
@@ -124,9 +124,10 @@ impl<F: Callback + Copy, R: Rule> Stepper<F, R> {
     pub fn end(self) {
         let Stepper { mut core, mut jobs } = self;
         'jobs: while let Some((_client, job)) = jobs.pop_first() {
-            let _ = core.drop_job(job);
+            drop(core.drop_job(job));
         }
         jobs.destroy_empty();
+        drop(core);
     }
 }
 
