@@ -83,7 +83,7 @@ fn play_command<K: Sink, F: Callback + Copy, H: Rule>(
     ensures stream { TellsLine (K.failures output.old.sink) (K.failures output.new.sink) result }
 {
     match command {
-        Command::Attach => put_answer(&attached(alloc, stage, hooks), output),
+        Command::Attach => put_answer(attached(alloc, stage, hooks), output),
         Command::Detach { client } => put_played(detached(stage, *client), output),
         Command::Call { client, call } => {
             put_played(called(alloc, stage, *client, call), output)
@@ -95,7 +95,7 @@ fn play_command<K: Sink, F: Callback + Copy, H: Rule>(
         Command::Drop { client } => put_played(dropped(stage, *client), output),
         Command::Layer { index } => put_layer(alloc, stage, *index, output),
         Command::Merge => put_merge(alloc, stage, output),
-        Command::Work => put_answer(&temps_of(stage), output),
+        Command::Work => put_answer(temps_of(stage), output),
     }
 }
 
@@ -108,7 +108,7 @@ fn put_played<K: Sink>(
     ensures err { IfErr result (λ fault. fault ≡ plays.bad_line → IsErr answer) }
     ensures stream { TellsLine (K.failures output.old.sink) (K.failures output.new.sink) result }
 {
-    put_answer(&answer?, output)
+    put_answer(answer?, output)
 }
 
 // Puts the answer to a start out, if it could be played and there is one.
@@ -121,16 +121,19 @@ fn put_started<K: Sink>(
     ensures stream { TellsLine (K.failures output.old.sink) (K.failures output.new.sink) result }
 {
     match answer? {
-        Some(answer) => put_answer(&answer, output),
+        Some(answer) => put_answer(answer, output),
         None => Ok(()),
     }
 }
 
-fn put_answer<K: Sink>(answer: &Answer, output: &mut Output<K>) -> Result<(), LineFault>
+// Puts an answer out, which is let go here, at the one place of all.
+fn put_answer<K: Sink>(answer: Answer, output: &mut Output<K>) -> Result<(), LineFault>
     ensures err { IfErr result plays.IsOfDevice }
     ensures stream { TellsLine (K.failures output.old.sink) (K.failures output.new.sink) result }
 {
-    write_answer(answer, &mut output.text)?;
+    let written = write_answer(&answer, &mut output.text);
+    drop(answer);
+    written?;
     output.relieve()?;
     Ok(())
 }
@@ -324,6 +327,7 @@ fn answer_in_room<F: Callback, H: Rule>(core: &mut Core<F, H>, client: u32, call
     ensures full { core_room core.old ≡ 0 → core.new ≡ core.old }
 {
     if core.room() == 0 {
+        drop(call);
         return Answer::NotTaken {
             client,
             errno: Errno::ENOSPC,
@@ -345,7 +349,7 @@ fn made<F: Callback, H: Rule>(core: &mut Core<F, H>, client: u32, call: Call) ->
 {
     let mut job = Job::new(client as u64, call);
     let turn = core.complete(&mut job);
-    let _ = job.into_call();
+    drop(job.into_call());
     answer_of(client, turn)
 }
 

@@ -76,9 +76,9 @@ pub fn play_run_keeping<S: Source, K: Sink, F: Callback + Copy, H: Rule>(
     ensures well { OnOk result ((S.failures input.new ≡ S.failures input.old) × (K.failures output.new.sink ≡ K.failures output.old.sink)) }
     ensures manifest { AnswersManifest blobs.items (table_view manifest) result }
 {
-    let core = core_keeping(alloc, keys, look_ups, &manifest, blobs.as_slice(), None)?;
+    let core = core_keeping(alloc, keys, look_ups, &manifest, blobs.as_slice(), None);
     drop((manifest, blobs));
-    let outcome = play_on(alloc, core, hooks, input, output);
+    let outcome = play_on(alloc, core?, hooks, input, output);
     output.flush()?;
     outcome?;
     Ok(())
@@ -289,7 +289,7 @@ impl<F: Callback + Copy, H: Rule> Script<'_, F, H> {
             lines: _,
             alloc: _,
         } = self;
-        let _ = stage.end();
+        drop(stage.end());
     }
 }
 

@@ -32,6 +32,7 @@ pub fn show_run<K: Sink>(
     let layers = layers_in(alloc, keys, &manifest, blobs.as_slice())?;
     drop((manifest, blobs));
     let outcome = write_merge(alloc, &layers, output);
+    drop(layers);
     output.flush()?;
     outcome?;
     Ok(())
@@ -53,6 +54,9 @@ pub fn layers_in(
     let over = upper_over(alloc, keys, upper, lowers.as_slice())?;
     match Layers::new(alloc, keys, over, lowers, 1) {
         Ok(layers) => Ok(layers),
-        Err(_) => Err(Fault::Memory),
+        Err(layers) => {
+            drop(layers);
+            Err(Fault::Memory)
+        }
     }
 }

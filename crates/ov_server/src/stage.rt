@@ -58,7 +58,7 @@ impl<F: Callback, H: Rule> Stage<F, H> {
             Ok(Some(_before)) => unreachable!(),
             Err(fault) => {
                 let (_client, job) = fault.value;
-                let _ = self.core.drop_job(job);
+                drop(self.core.drop_job(job));
                 Err(AllocError)
             }
         }
@@ -82,7 +82,7 @@ impl<F: Callback, H: Rule> Stage<F, H> {
         ensures others { KeepsOtherCalls self.old self.new client }
     {
         if let Some(job) = self.calls.remove(&client) {
-            let _ = self.core.drop_job(job);
+            drop(self.core.drop_job(job));
         }
     }
 
@@ -95,7 +95,7 @@ impl<F: Callback, H: Rule> Stage<F, H> {
             mut calls,
         } = self;
         'calls: while let Some((_client, job)) = calls.pop_first() {
-            let _ = core.drop_job(job);
+            drop(core.drop_job(job));
         }
         calls.destroy_empty();
         core

@@ -108,8 +108,8 @@ fn play<R: Runtime + AllocGlobal>(
     manifest: &str,
     limit: u64,
 ) -> Result<(), Fault> {
-    let Described { table, blobs } = read_manifest(rt, manifest, limit)?;
     let hooks = hooks_by_slot(rt.alloc())?;
+    let Described { table, blobs } = read_manifest(rt, manifest, limit)?;
     let mut input = CountedReader::new(rt.reader());
     let mut output = Output::new(rt.alloc(), CountedWriter::new(io::writer(rt)));
     play_run(

@@ -33,8 +33,17 @@ pub(crate) fn mounting_of<F: Callback + Drop, H: Rule>(
     ensures endless { IfOk result (λ r. is_endless r.0 ≡ serving.now.no_history) }
 {
     let Described { table, blobs } = manifest;
-    let core: Core<F, H> = core_of(alloc, keys, &table, blobs.as_slice(), serving.history)?;
+    let core: Result<Core<F, H>, Fault> = core_of(
+        alloc,
+        keys,
+        &table,
+        blobs.as_slice(),
+        serving.history,
+    );
+    drop((table, blobs));
+    let core = core?;
     if serving.save.is_some() && !core.has_upper() {
+        drop(core);
         return Err(Fault::NoUpper);
     }
     let places = core.history();
