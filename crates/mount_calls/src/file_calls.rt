@@ -145,7 +145,8 @@ impl Mount {
 
 // What stat(2) shows of a directory that was removed, by the attributes that it had; nothing is ENOENT.
 fn removed_status(attributes: Option<&Attributes>) -> Result<Stat, Errno>
-    ensures { (a : DirectoryAttributes) → option_copied attributes.entry ≡ Some a → result ≡ Ok (stat_with ObjectKind.Directory a 0 1) }
+    ensures shown { (a : DirectoryAttributes) → option_copied attributes.entry ≡ Some a → result ≡ Ok (stat_with ObjectKind.Directory a 0 1) }
+    ensures absent { option_copied attributes.entry ≡ None → result ≡ Err Errno.ENOENT }
 {
     match attributes {
         Some(attributes) => Ok(status_with(ObjectKind::Directory, attributes, 0, 1)),

@@ -8,7 +8,7 @@ returns-in-Ok c = elim c.match-branch-2.branch [
   | in-Some w ↦ λ s st.
       named-status c.args.self.now s st c.args.client c.args.descriptor c.requires (Ok c.in-Ok.status) w.in-Some.path (sym w.in-Some.is ∙ c.in_ok-path.ensures) (sym c.in-Ok.is ∙ w.status-is ∙ w.status_at-status.ensures)
   | in-None w ↦ λ s st.
-      removed-status c.args.self.now s st c.args.client c.args.descriptor c.requires (Ok c.in-Ok.status) (sym w.in-None.is ∙ c.in_ok-path.ensures) (λ a kept. sym c.in-Ok.is ∙ w.status-is ∙ w.removed_status-status.ensures a (w.removed.ensures ∙ kept))
+      removed-status c.args.self.now s st c.args.client c.args.descriptor c.requires (Ok c.in-Ok.status) (sym w.in-None.is ∙ c.in_ok-path.ensures) (λ a kept. sym c.in-Ok.is ∙ w.status-is ∙ w.removed_status-status.ensures.shown a (w.removed.ensures ∙ kept))
 ]
 
 pub returns-in-Err : goal.returns-in-Err
@@ -16,5 +16,5 @@ returns-in-Err c = elim c.match-branch-2.branch [
   | in-Some w ↦ λ s st.
       named-status c.args.self.now s st c.args.client c.args.descriptor c.requires (Err c.in-Err.errno) w.in-Some.path (sym w.in-Some.is ∙ c.in_ok-path.ensures) (sym c.in-Err.is ∙ w.status-is ∙ w.status_at-status.ensures)
   | in-None w ↦ λ s st.
-      removed-status c.args.self.now s st c.args.client c.args.descriptor c.requires (Err c.in-Err.errno) (sym w.in-None.is ∙ c.in_ok-path.ensures) (λ a kept. sym c.in-Err.is ∙ w.status-is ∙ w.removed_status-status.ensures a (w.removed.ensures ∙ kept))
+      removed-status c.args.self.now s st c.args.client c.args.descriptor c.requires (Err c.in-Err.errno) (sym w.in-None.is ∙ c.in_ok-path.ensures) (λ a kept. sym c.in-Err.is ∙ w.status-is ∙ w.removed_status-status.ensures.shown a (w.removed.ensures ∙ kept))
 ]
