@@ -1,11 +1,12 @@
 // Two workers serve a mount that keeps no history: each frame is that of a mount which does.
 use crate::mounts::{Silent, core_of};
+use crate::peers::socket_path;
 use crate::two_workers::{EMPTY, by_two, two_clients};
 use endless_mount::Blank;
 use overlay_core::Core;
 use socket_server::{Keeper, ServeOptions, Served, serve_endless_on};
 use std::alloc::{AllocError, Global};
-use std::env::Env;
+use std::fs;
 use std::fs::Files;
 use std::hash::RandomState;
 use std::io::Eprint;
@@ -15,7 +16,6 @@ use std::process::Abort;
 use std::sync::Wait;
 use std::test::Fail;
 use std::thread::{Threads, join};
-use std::{env, fs};
 use watch_table::{AnyAnswer, Callback, Hook, Rule};
 
 /// How much was done on a core: 2 attaches, 4 answered calls and 2 detaches.
@@ -77,10 +77,7 @@ where
 
 #[test]
 fn two_workers_serve_an_endless_mount(rt: HostRuntime) -> Result<(), Fail> {
-    let alloc = rt.alloc();
-    let folder = env::temp_dir(&rt)?;
-    let number = std::process::id(rt.process());
-    let path = format!(in alloc; "{}/overlayd-endless-{number}.socket", folder.display())?;
+    let path = socket_path(&rt, "endless")?;
     let keys = RandomState::new(&rt)?;
-    served_by_two::<Silent, AnyAnswer, HostRuntime>(&rt, alloc, keys, path.as_str())
+    served_by_two::<Silent, AnyAnswer, HostRuntime>(&rt, rt.alloc(), keys, path.as_str())
 }

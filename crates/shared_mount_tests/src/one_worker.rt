@@ -3,11 +3,13 @@
 ghost use Rattle.locked_history.specs.Names.{IsNamed};
 
 use crate::mounts::{Silent, attached, blank_of, ended, looks};
-use crate::peers::{DETACH, SHOWN_FIRST, STAT_ROOT, ask, assert_closed, hear, patient};
+use crate::peers::{
+    DETACH, SHOWN_FIRST, STAT_ROOT, ask, assert_closed, hear, patient, socket_path,
+};
 use locked_history::{Blank, Mount, MountName, Open, Receipt, Session};
 use socket_server::{Reports, ServeOptions, Served, serve_mount};
 use std::alloc::Global;
-use std::env::Env;
+use std::fs;
 use std::fs::Files;
 use std::hash::RandomState;
 use std::io::Eprint;
@@ -18,7 +20,6 @@ use std::process::Abort;
 use std::sync::Wait;
 use std::test::Fail;
 use std::thread::{Threads, join};
-use std::{env, fs};
 use watch_table::{AnyAnswer, Callback, Hook, Rule};
 
 const EMPTY: &str = "layer = [{}, {}]";
@@ -238,10 +239,7 @@ where
 
 #[test]
 fn one_worker_meets_others(rt: HostRuntime) -> Result<(), Fail> {
-    let alloc = rt.alloc();
-    let folder = env::temp_dir(&rt)?;
-    let number = std::process::id(rt.process());
-    let path = format!(in alloc; "{}/overlayd-one-{number}.socket", folder.display())?;
+    let path = socket_path(&rt, "one")?;
     let keys = RandomState::new(&rt)?;
-    all_served::<Silent, AnyAnswer, HostRuntime>(&rt, alloc, keys, path.as_str())
+    all_served::<Silent, AnyAnswer, HostRuntime>(&rt, rt.alloc(), keys, path.as_str())
 }

@@ -1,4 +1,6 @@
 // The clients' end of a socket.
+use std::env;
+use std::env::Env;
 use std::io::{Read, Write};
 use std::os::unix::net::UnixStream;
 use std::process::Abort;
@@ -15,6 +17,14 @@ pub const DETACH: &[u8] = b"\x00\x00\x00\x01\x1a";
 
 /// The most bytes of a reply.
 const REPLY_MOST: usize = 64;
+
+/// Where a test's server listens: of this name, in the folder of files that don't last.
+pub fn socket_path(rt: &HostRuntime, name: &str) -> Result<String, Fail> {
+    let folder = env::temp_dir(rt)?;
+    let number = std::process::id(rt.process());
+    let path = format!(in rt.alloc(); "{}/overlayd-{name}-{number}.socket", folder.display())?;
+    Ok(path)
+}
 
 /// Gives up on a server that says nothing for so long.
 pub fn patient(stream: &UnixStream) -> Result<(), Fail> {

@@ -3,11 +3,11 @@ ghost use Rattle.std.specs.Prelude.{◌≡◌};
 ghost use Rattle.locked_history.specs.Names.{IsNamed};
 
 use crate::mounts::{Silent, blank_of, ended};
-use crate::peers::{DETACH, SHOWN_FIRST, STAT_ROOT, ask, assert_closed, patient};
+use crate::peers::{DETACH, SHOWN_FIRST, STAT_ROOT, ask, assert_closed, patient, socket_path};
 use locked_history::{Blank, Mount, MountName, Receipt};
 use socket_server::{Reports, ServeOptions, Served, serve_mount};
 use std::alloc::Global;
-use std::env::Env;
+use std::fs;
 use std::fs::Files;
 use std::hash::RandomState;
 use std::io::Eprint;
@@ -18,7 +18,6 @@ use std::process::Abort;
 use std::sync::Wait;
 use std::test::Fail;
 use std::thread::{Threads, join};
-use std::{env, fs};
 use watch_table::{AnyAnswer, Callback, Hook, Rule};
 
 /// An empty upper over an empty lower layer.
@@ -179,10 +178,7 @@ where
 
 #[test]
 fn two_workers_serve_two_clients(rt: HostRuntime) -> Result<(), Fail> {
-    let alloc = rt.alloc();
-    let folder = env::temp_dir(&rt)?;
-    let number = std::process::id(rt.process());
-    let path = format!(in alloc; "{}/overlayd-{number}.socket", folder.display())?;
+    let path = socket_path(&rt, "two")?;
     let keys = RandomState::new(&rt)?;
-    served_by_two::<Silent, AnyAnswer, HostRuntime>(&rt, alloc, keys, path.as_str())
+    served_by_two::<Silent, AnyAnswer, HostRuntime>(&rt, rt.alloc(), keys, path.as_str())
 }
