@@ -3,7 +3,6 @@ use Rattle.std.specs.Prelude.{◌≡◌, ℕ, ◌<◌, ◌^◌, List, Option, So
 use Rattle.ov_base.specs.declared.call.Call.{Call}
 use Rattle.ov_base.specs.declared.errno.Errno.{Errno}
 use Rattle.ov_base.specs.declared.errno.Errno.TheVariants.{EINVAL, ENFILE, ENOSPC}
-use Rattle.ov_base.specs.declared.reply.Reply.{Reply}
 use Rattle.overlay_core.specs.Jobs.{Advances}
 use Rattle.overlay_core.specs.Views.{client_count}
 use Rattle.overlay_core.specs.declared.job.Job.{Job}
@@ -16,6 +15,7 @@ use Rattle.locked_history.specs.declared.entry.Entry.{Entry}
 use Rattle.locked_history.specs.declared.session.Refused.{Refused as Why}
 use Rattle.locked_history.specs.declared.session.Refused.TheVariants.{Memory, Full, Session, Stopped}
 use Rattle.locked_history.specs.Steps.{GivesUp, IsDue}
+use Rattle.endless_mount.specs.declared.recorded.Answered.{Answered}
 use Rattle.endless_mount.specs.declared.recorded.Pending.{Pending}
 use Rattle.endless_mount.specs.declared.recorded.Pending.TheVariants.{More, Refused}
 
@@ -56,9 +56,9 @@ module _ {F G : Type 0} {asks : Callback F} {rule : Rule G} (old : Core F G asks
   Refuses Memory = (after : Job) × Advances old job new after turns.NoMemory
   Refuses Stopped = ⊥
 
-  -- A GUARDED STEP is one step of the job on the core, and answers the call's reply with its place, or
-  -- the job as it is then; or it is refused
-  abbrev pub Guards : Result (ℕ × Reply) Pending → Type 0
-  Guards (Ok r) = (after : Job) × Advances old job new after (turns.Done r.1)
+  -- A GUARDED STEP is one step of the job on the core, and answers the call's reply, or the job as it
+  -- is then; or it is refused
+  abbrev pub Guards : Result Answered Pending → Type 0
+  Guards (Ok r) = (after : Job) × Advances old job new after (turns.Done r.reply)
   Guards (Err (More after)) = Advances old job new after turns.More
   Guards (Err (Refused why)) = Refuses why

@@ -10,4 +10,4 @@ mod recorded;
 pub use blank::Blank;
 pub use book::{Book, BookName, Front};
 pub use mount::EndlessMount;
-pub use recorded::{ENTRIES_MAX, Pending, Recorded};
+pub use recorded::{Answered, ENTRIES_MAX, Pending, Recorded};

@@ -7,7 +7,7 @@ ghost use Rattle.locked_history.specs.Entries.{history_of};
 
 use crate::blank::Blank;
 use crate::book::{BookName, Front};
-use crate::recorded::{Pending, Recorded};
+use crate::recorded::{Answered, Pending, Recorded};
 use locked_history::{Gate, Pass, Refused, Session, tags_of};
 use ov_base::{Call, Errno, Reply};
 use overlay_core::{Core, Job};
@@ -131,9 +131,10 @@ impl<N: BookName, F: Callback, R: Rule> EndlessMount<N, F, R> {
             }
             let made = self.shared.lock(rt).step(rt, *session, job, seen);
             match made {
-                Ok(answered) => {
+                Ok(Answered { place, reply, call }) => {
+                    drop(call);
                     session.number += 1;
-                    return Ok(answered);
+                    return Ok((place, reply));
                 }
                 Err(Pending::Refused(why)) => return Err(why),
                 Err(Pending::More(same)) => job = same,

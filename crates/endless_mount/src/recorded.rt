@@ -9,13 +9,12 @@ ghost use Rattle.overlay_core.specs.Views.{core_clients, core_finished, core_wat
 ghost use Rattle.overlay_core.specs.LegalHistories.{Legally};
 ghost use Rattle.locked_history.specs.Entries.{history_of};
 ghost use Rattle.locked_history.specs.declared.entry.Deed.TheVariants.{Called};
-ghost use Rattle.ov_base.specs.declared.call.Call.{Call};
 ghost use Rattle.ov_base.specs.declared.reply.Reply.{Reply};
 ghost use Rattle.endless_mount.specs.Numbered.{NumbersIn};
 
 use crate::book::{Book, BookName, Front};
 use locked_history::{Deed, Entry, Refused, Session};
-use ov_base::{Errno, Reply};
+use ov_base::{Call, Errno, Reply};
 use overlay_core::{Core, Job, Standing, Turn};
 use std::collections::BTreeMap;
 use std::sync::Wait;
@@ -42,6 +41,14 @@ pub struct Recorded<N: BookName, F: Callback, R: Rule> {
     ghost finished: { core_finished core ≡ length front },
     ghost few: { btree_map_len next ≤ 64 },
     ghost fits: { length front + btree_map_len next ≤ 2 ^ 61 + 64 },
+}
+
+/// What a call's last step leaves: the place of its entry, the reply, and the call, which is let go
+/// where the lock is free.
+pub struct Answered {
+    pub place: u64,
+    pub reply: Reply,
+    pub call: Call,
 }
 
 /// What a step leaves that isn't a call's last: the call that goes on, or why it was refused.
@@ -86,13 +93,14 @@ fn renumber(next: &mut BTreeMap<u64, u64>, client: u64, number: u64)
     *next.get_mut(&client).unwrap() = number;
 }
 
-// The reply in the entry of a call.
-fn reply_in(entry: Entry) -> Reply
+// What the entry of a call has, at this place.
+fn answered_by(place: u64, entry: Entry) -> Answered
     requires { (call : Call) × (reply : Reply) × (entry.deed ≡ Called call reply) }
-    ensures { (call : Call) (reply : Reply) → entry.deed ≡ Called call reply → result ≡ reply }
+    ensures { (call : Call) (reply : Reply) → entry.deed ≡ Called call reply →
+        result ≡ record { place = place; reply = reply; call = call } }
 {
     match entry.deed {
-        Deed::Called(_, reply) => reply,
+        Deed::Called(call, reply) => Answered { place, reply, call },
         _ => unreachable!(),
     }
 }
@@ -153,25 +161,32 @@ impl<N: BookName, F: Callback, R: Rule> Recorded<N, F, R> {
     }
 
     /// Makes one step of a session's call. The step that finishes the call makes the history longer
-    /// by its entry, which the caller's front then has, and gives its place and the reply. It is
-    /// refused where the session isn't due, then where the history is full, then for want of memory.
+    /// by its entry, which the caller's front then has, and gives its place, the reply and the call.
+    /// It is refused where the session isn't due, then where the history is full, then for want of
+    /// memory.
     pub fn step<H: Wait>(
         &mut self,
         rt: &H,
         session: Session,
         job: Job,
         seen: &mut Front<N>,
-    ) -> Result<(u64, Reply), Pending>
+    ) -> Result<Answered, Pending>
         requires client { job.client ≡ session.client }
         requires open { job.standing ≡ Standing.Open }
         ensures due { OnOk result (
             IsDue (entries_in self.old) (core_in self.old) session.client session.number
             × HasPlace (entries_in self.old)) }
-        ensures made { IfOk result (λ r. Appends self.old
-            (record { client = session.client; number = session.number; deed = Called job.call r.1 })
-            r.0 self.new) }
-        ensures stands { IfOk result (λ r. slice_get seen.new r.0 ≡ Some
-            (record { client = session.client; number = session.number; deed = Called job.call r.1 })) }
+        ensures made { IfOk result (λ r. Appends self.old (record {
+          client = session.client;
+          number = session.number;
+          deed = Called job.call r.reply;
+        }) r.place self.new) }
+        ensures stands { IfOk result (λ r. slice_get seen.new r.place ≡ Some (record {
+          client = session.client;
+          number = session.number;
+          deed = Called job.call r.reply;
+        })) }
+        ensures call { IfOk result (λ r. r.call ≡ job.call) }
         ensures seen { IsPrefix seen.old seen.new }
         ensures unseen { OnErr result (seen.new ≡ seen.old) }
         ensures number { OnOk result (session.number ≤ 2 ^ 61) }
@@ -203,7 +218,7 @@ impl<N: BookName, F: Callback, R: Rule> Recorded<N, F, R> {
                 };
                 renumber(&mut self.next, session.client, session.number + 1);
                 let place = append(rt, &self.book, &mut self.front, seen, &entry);
-                Ok((place, reply_in(entry)))
+                Ok(answered_by(place, entry))
             }
         }
     }

@@ -6,6 +6,7 @@ use Rattle.locked_history.specs.declared.entry.Deed.TheVariants.{Called}
 use Rattle.locked_history.specs.Entries.{history_of}
 use Rattle.overlay_core.proofs.LegalHistories.{legal_stays}
 use Rattle.endless_mount.specs.Numbered.{next_number}
+use Rattle.endless_mount.specs.declared.recorded.Answered.{Answered}
 use Rattle.endless_mount.proofs.Numbering.{kept_there, numbers_call, numbers_stay}
 use Rattle.endless_mount.proofs.Growing.{history_push, legal_due}
 use Rattle.endless_mount.proofs.recorded.Recorded.step.Goals as goal
@@ -77,14 +78,14 @@ returns-in-Done-clause-made g c =
     let call = c.into_call-in-Done.result in
     let reply = c.in-Done.reply in
     let call_is : call ≡ c.args.job.call = c.into_call-in-Done.ensures ∙ e.job.1 in
-    let reply_is : c.reply_in.result ≡ reply = c.reply_in.ensures _ _ refl in
+    let answered_is : c.answered_by.result ≡ record { place = c.append-place.result; reply = reply; call = call } = c.answered_by.ensures _ _ refl in
     let made : CoreGoes s.core c.args.job.client (runs.Called call reply) new = subst (λ (k : Call). CoreGoes s.core c.args.job.client (runs.Called k reply) new) (sym call_is) e.turn.0 in
     let goes : CoreGoes s.core c.args.session.client (runs.Called call reply) new = subst (λ (n : ℕ). CoreGoes s.core n (runs.Called call reply) new) c.requires.client made in
-    rw (reply_is, ← call_is) (record { entries = c.append-place.ensures.entries; place = c.append-place.ensures.place; goes = goes })
+    rw (answered_is, ← call_is) (record { entries = c.append-place.ensures.entries; place = c.append-place.ensures.place; goes = goes })
 
 pub returns-in-Done-clause-guarded : goal.returns-in-Done-clause-guarded
 returns-in-Done-clause-guarded g c =
     let e = c.in-Done.ensures in
     let reply = c.in-Done.reply in
-    let same : c.reply_in.result ≡ reply = c.reply_in.ensures _ _ refl in
+    let same : c.answered_by.result.reply ≡ reply = ap (λ (a : Answered). a.reply) (c.answered_by.ensures _ _ refl) in
     (c.advance.new.job, rw same (record { same = e.job; turns = e.turn; steps = e.steps; step = e.step; at_once = e.at_once; read_only = e.read_only; memory = e.memory; finished = e.finished; clients = e.clients; layers = e.layers; brings = e.brings; refused = e.refused; marks = e.marks; kept = e.kept }))
