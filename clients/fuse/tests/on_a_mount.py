@@ -95,6 +95,14 @@ def appends():
         file.write(b"done")
 
 
+def one_tick():
+    """Files that are emptied and written again before the kernel's clock has gone on."""
+    for number in range(20):
+        for text in (b"first", b"again"):
+            with open(f"tick{number}", "wb") as file:
+                file.write(text)
+
+
 def lower_files():
     """A file of the lower layer, read by one and written by another."""
     with open("../many/name006", "rb") as reader, open("../many/name006", "r+b") as writer:
@@ -120,7 +128,7 @@ def holes():
         assert os.pread(file.fileno(), 9001, 0) == bytes(9000) + b"x"
 
 
-for step in (mappings, locks, many_files, removed, appends, lower_files, holes):
+for step in (mappings, locks, many_files, removed, appends, one_tick, lower_files, holes):
     step()
     print(step.__name__)
 print("done")
