@@ -105,6 +105,28 @@ fn over(alloc: Global, upper: Layer, lower: Layer) -> Result<(Layer, Vec<Layer>)
     }
 }
 
+// A lower layer under an upper and its options, if they could be made.
+fn under(
+    alloc: Global,
+    upper: Result<(Layer, Options), Fail>,
+    lower: Layer,
+) -> Result<(Layer, Vec<Layer>, Options), Fail>
+    requires upper { IfOk upper (λ r. IsLayer (layer_of r.0)) }
+    requires lower { IsLayer (layer_of lower) }
+    ensures layers { IfOk result (λ r. AreLayers (layer_of r.0 ∷ map layer_of r.1.items)) }
+{
+    match upper {
+        Ok((upper, options)) => {
+            let (upper, lowers) = over(alloc, upper, lower)?;
+            Ok((upper, lowers, options))
+        }
+        Err(fail) => {
+            drop(lower);
+            Err(fail)
+        }
+    }
+}
+
 // The first layer of a manifest, whose `/m` has this mark, and its options.
 fn layer_marked(
     rt: &impl Abort,
@@ -135,16 +157,7 @@ fn marked_by(
     ensures layers { IfOk result (λ r. AreLayers (layer_of r.0 ∷ map layer_of r.1.items)) }
 {
     let (lower, _) = layer_in(alloc, keys, LOWER)?;
-    match layer_marked(rt, alloc, keys, UPPER, mark) {
-        Ok((upper, options)) => {
-            let (upper, lowers) = over(alloc, upper, lower)?;
-            Ok((upper, lowers, options))
-        }
-        Err(fail) => {
-            drop(lower);
-            Err(fail)
-        }
-    }
+    under(alloc, layer_marked(rt, alloc, keys, UPPER, mark), lower)
 }
 
 // The key of the file at a path.
@@ -172,16 +185,7 @@ fn over_marked(
     ensures layers { IfOk result (λ r. AreLayers (layer_of r.0 ∷ map layer_of r.1.items)) }
 {
     let (lower, _) = layer_marked(rt, alloc, keys, LOWER, "/f")?;
-    match layer_in(alloc, keys, UPPER) {
-        Ok((upper, options)) => {
-            let (upper, lowers) = over(alloc, upper, lower)?;
-            Ok((upper, lowers, options))
-        }
-        Err(fail) => {
-            drop(lower);
-            Err(fail)
-        }
-    }
+    under(alloc, layer_in(alloc, keys, UPPER), lower)
 }
 
 #[test]
