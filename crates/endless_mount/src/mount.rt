@@ -4,6 +4,7 @@ ghost use mathlib.Core.List.{IsPrefix};
 ghost use Rattle.mount_calls.specs.Keeping.{takes_no_memory};
 ghost use Rattle.overlay_core.specs.LegalHistories.{Legally};
 ghost use Rattle.locked_history.specs.Entries.{history_of};
+ghost use Rattle.work_dir.specs.declared.limits.TheConstants.{STEPS_MAX};
 
 use crate::blank::Blank;
 use crate::book::{BookName, Front};
@@ -120,7 +121,8 @@ impl<N: BookName, F: Callback, R: Rule> EndlessMount<N, F, R> {
             × (session.new.number ≡ session.old.number + 1))
             (λ _. session.new ≡ session.old) }
         ensures stopped { IfErr result (λ why. why ≡ Refused.Stopped →
-            (step : ℕ) × G.may_stop gate.now session.old.client step) }
+            (step : ℕ) × (step ≤ STEPS_MAX)
+            × G.may_stop gate.now session.old.client step) }
     {
         let client = session.client;
         let mut job = Job::new(client, call);

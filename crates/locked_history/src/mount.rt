@@ -4,6 +4,7 @@ ghost use Rattle.once_cell.specs.Once.{cell_name};
 ghost use Rattle.locked_history.specs.Claims.{StandsIn, is_past_end, uncounted};
 ghost use Rattle.locked_history.specs.Entries.{history_of};
 ghost use Rattle.overlay_core.specs.LegalHistories.{Legally};
+ghost use Rattle.work_dir.specs.declared.limits.TheConstants.{STEPS_MAX};
 
 use crate::blank::Blank;
 use crate::entry::{Deed, Entry, tags_of};
@@ -121,7 +122,8 @@ impl<N: MountName, F: Callback, R: Rule> Mount<N, F, R> {
             × (session.new.number ≡ session.old.number + 1))
             (λ _. session.new ≡ session.old) }
         ensures stopped { IfErr result (λ why. why ≡ Refused.Stopped →
-            (step : ℕ) × G.may_stop gate.now session.old.client step) }
+            (step : ℕ) × (step ≤ STEPS_MAX)
+            × G.may_stop gate.now session.old.client step) }
     {
         let client = session.client;
         let mut job = Job::new(client, call);
