@@ -317,21 +317,10 @@ impl Layers {
         ensures refused { IfErr result (λ e. walk_fault (layers_of self.now) path.now ≡ Some e) }
         ensures answers { IsOk result ↔ (walk_fault (layers_of self.now) path.now ≡ None) }
     {
-        let (_, found) = self.walk_in(path)?;
-        Ok(found)
-    }
-
-    /// `walk`, with the merged directory in which the last name stands; the root's is the root.
-    pub fn walk_in(&self, path: &Path) -> Result<(Stack, Found), Errno>
-        ensures parent { IfOk result (λ w. IsStackOf self.now (parent path.now) w.0) }
-        ensures found { IfOk result (λ w. IsFound self.now path.now w.1) }
-        ensures refused { IfErr result (λ e. walk_fault (layers_of self.now) path.now ≡ Some e) }
-        ensures answers { IsOk result ↔ (walk_fault (layers_of self.now) path.now ≡ None) }
-    {
         match self.parent_of(path)? {
-            None => Ok((self.root(), Found::Directory(self.root()))),
+            None => Ok(Found::Directory(self.root())),
             Some(parent) => match self.step(&parent.stack, parent.name) {
-                Some(found) => Ok((parent.stack, found)),
+                Some(found) => Ok(found),
                 None => Err(Errno::ENOENT),
             },
         }
