@@ -24,15 +24,6 @@ is_false : (b : Bool) → b ≢ true → b ≡ false
 is_false true h = absurd (h refl)
 is_false false h = refl
 
--- what isn't 0 is more
-has_some : (n : ℕ) → (n ≡ 0 → ⊥) → 0 < n
-has_some zero h = absurd (h refl)
-has_some (suc n) h = omega arith
-
--- where `Core::room` doesn't answer 0 there is room
-pub has_room : (answered room : ℕ) → answered ≡ room → (answered ≡ 0 → ⊥) → 0 < room
-has_room answered room same h = subst (λ n. 0 < n) same (has_some answered h)
-
 module _ {F G : Type 0} {asks : Callback F} {rule : Rule G} (client : ℕ) where
   -- one exchange that is played and finds room is served
   served_one : (a b : Core F G asks rule) (exchange : Exchange) →

@@ -48,8 +48,8 @@ impl<F: Callback, R: Rule> CoreDoor<F, R> {
         ensures attached { has_client self.new.core self.old.client ≡ true }
         ensures finished { core_finished self.new.core ≤ core_finished self.old.core + 1 }
     {
-        if self.core.room() == 0 {
-            return (call, Answer::NotTaken(Errno::ENOSPC));
+        if let Some(errno) = self.core.call_refusal() {
+            return (call, Answer::NotTaken(errno));
         }
         let place = self.core.finished();
         let mut job = Job::new(self.client, call);

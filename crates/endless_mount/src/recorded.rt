@@ -18,7 +18,7 @@ use ov_base::{Call, Errno, Reply};
 use overlay_core::{Core, Job, Standing, Turn};
 use std::collections::BTreeMap;
 use std::sync::Wait;
-use watch_table::{Callback, HOOKS_MAX, Hook, NotAttached, Rule};
+use watch_table::{Callback, Hook, NotAttached, Rule};
 
 /// The most entries of a history to which a call or an attach is added.
 pub const ENTRIES_MAX: u64 = 1 << 61;
@@ -227,15 +227,13 @@ impl<N: BookName, F: Callback, R: Rule> Recorded<N, F, R> {
     fn attach_fault(&self, hooks: usize) -> Option<Errno>
         ensures { result ≡ attach_refusal (entries_in self.now) (core_in self.now) hooks }
     {
-        if hooks > HOOKS_MAX {
-            Some(Errno::EINVAL)
-        } else if !self.core.admits() {
-            Some(Errno::ENFILE)
-        } else if self.front.len() >= ENTRIES_MAX {
-            Some(Errno::ENOSPC)
-        } else {
-            None
+        if let Some(errno) = self.core.client_refusal(hooks) {
+            return Some(errno);
         }
+        if self.front.len() >= ENTRIES_MAX {
+            return Some(Errno::ENOSPC);
+        }
+        None
     }
 
     /// Attaches a client with its hooks, of which these are the tags. Over 16 hooks are EINVAL, where

@@ -19,7 +19,7 @@ use ov_base::Errno;
 use overlay_core::{Core, Job, Standing, Turn};
 use std::sync::Wait;
 use std::sync::ledger::{Book, Share};
-use watch_table::{Callback, HOOKS_MAX, Hook, NotAttached, Rule};
+use watch_table::{Callback, Hook, NotAttached, Rule};
 
 /// A core and its history. Its type keeps that the history is a legal one, which begins with what
 /// was mounted and ends in a state that agrees with the core; that it is as long as the ledger's
@@ -158,10 +158,10 @@ impl<N: MountName, F: Callback, R: Rule> Locked<N, F, R> {
         if !self.is_due(session) {
             return Err(Refused::Session);
         }
-        if self.core.room() == 0 {
-            return Err(Refused::Full);
+        match self.core.call_refusal() {
+            Some(_) => Err(Refused::Full),
+            None => room.ok_or(Refused::Memory),
         }
-        room.ok_or(Refused::Memory)
     }
 
     /// Gives up a call that is on its way, with its temp.
@@ -231,21 +231,6 @@ impl<N: MountName, F: Callback, R: Rule> Locked<N, F, R> {
         }
     }
 
-    // Why no client with so many hooks can be attached.
-    fn attach_fault(&self, hooks: usize) -> Option<Errno>
-        ensures { result ≡ attach_refusal (core_in self.now) hooks }
-    {
-        if hooks > HOOKS_MAX {
-            Some(Errno::EINVAL)
-        } else if !self.core.admits() {
-            Some(Errno::ENFILE)
-        } else if self.core.room() < 2 {
-            Some(Errno::ENOSPC)
-        } else {
-            None
-        }
-    }
-
     /// Attaches a client with its hooks, where the history has a place for it and one for its
     /// detach. Over 16 hooks are EINVAL, where 64 are attached it is ENFILE, then ENOSPC, and where
     /// memory runs out ENOMEM. The hooks are handed back then.
@@ -271,7 +256,7 @@ impl<N: MountName, F: Callback, R: Rule> Locked<N, F, R> {
             (attach_refusal (core_in self.old) (length hooks.items)) Errno.ENOMEM) }
         ensures back { IfErr result (λ fault. fault.hooks ≡ hooks) }
     {
-        if let Some(errno) = self.attach_fault(hooks.len()) {
+        if let Some(errno) = self.core.attach_refusal(hooks.len()) {
             return Err(NotAttached { errno, hooks });
         }
         let Some(arrival) = room else {

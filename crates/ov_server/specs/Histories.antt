@@ -1,8 +1,9 @@
 -- What a script answers where a history has no place, and where it has.
-use Rattle.std.specs.Prelude.{◌≡◌, ℕ, Option, Some, None, Result, Ok, Err, IsOk, cond, nat_eq, ◌⊎◌}
+use Rattle.std.specs.Prelude.{◌≡◌, ℕ, Option, Some, None, Result, Ok, Err, IsOk, ◌⊎◌}
 use Rattle.ov_base.specs.declared.call.Call.{Call}
 use Rattle.ov_base.specs.declared.errno.Errno.{Errno}
-use Rattle.ov_base.specs.declared.errno.Errno.TheVariants.{ENOMEM, ENOSPC}
+use Rattle.ov_base.specs.declared.errno.Errno.TheVariants.{ENOMEM}
+use Rattle.overlay_core.specs.Histories.{room_refusal}
 use Rattle.ov_server.specs.declared.answers.Answer.{Answer}
 use Rattle.ov_server.specs.declared.answers.Answer.TheVariants.{Attached, NotAttached, Replied, NotTaken, More}
 
@@ -11,10 +12,6 @@ abbrev pub AnswersAttach : Option Errno → ℕ → Answer → Type 0
 AnswersAttach refusal next (Attached client) = (refusal ≡ None) × (client ≡ next)
 AnswersAttach refusal next (NotAttached errno) = (refusal ≡ Some errno) ⊎ ((refusal ≡ None) × (errno ≡ ENOMEM))
 AnswersAttach refusal next _ = ⊥
-
--- why no step of a call is made where so many places are left: there is none
-abbrev pub room_refusal : ℕ → Option Errno
-room_refusal places = cond (nat_eq places 0) (Some ENOSPC) None
 
 -- why a call that is read so is not taken: its path text is refused, or there is no place
 abbrev pub call_refusal : ℕ → Result Call Errno → Option Errno

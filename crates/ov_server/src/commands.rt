@@ -26,7 +26,7 @@ use ov_devices::Sink;
 use ov_script::{BadCommand, CallText, Command, command_of};
 use overlay_core::{Core, Job};
 use std::alloc::{AllocError, Global};
-use watch_table::{Callback, HOOKS_MAX, Hook, Rule};
+use watch_table::{Callback, Hook, Rule};
 
 /// Why a line could not be played.
 #[derive(Drop)]
@@ -195,7 +195,7 @@ fn attached<F: Callback + Copy, H: Rule>(
     ensures goes { AttachGoes stage.old.core (map (λ h. h.tag) hooks.now) stage.new.core result }
     ensures calls { KeepsCalls stage.old stage.new }
 {
-    if let Some(errno) = attach_refusal(&stage.core, hooks.len()) {
+    if let Some(errno) = stage.core.attach_refusal(hooks.len()) {
         return Answer::NotAttached { errno };
     }
     let Ok(copies) = copies_of(alloc, hooks) else {
@@ -223,22 +223,6 @@ fn copies_of<F: Callback + Copy, H: Rule>(
         copies.push(hook.copied())?;
     }
     Ok(copies)
-}
-
-// Why no client with so many hooks can be attached: they are over 16, or 64 clients are attached, or the history has no place for it and
-// one for its detach.
-fn attach_refusal<F: Callback, H: Rule>(core: &Core<F, H>, hooks: usize) -> Option<Errno>
-    ensures { result ≡ histories.attach_refusal core.now hooks }
-{
-    if hooks > HOOKS_MAX {
-        Some(Errno::EINVAL)
-    } else if !core.admits() {
-        Some(Errno::ENFILE)
-    } else if core.room() < 2 {
-        Some(Errno::ENOSPC)
-    } else {
-        None
-    }
 }
 
 // Detaches a client; its call that is on its way is dropped first.
@@ -326,12 +310,9 @@ fn answer_in_room<F: Callback, H: Rule>(core: &mut Core<F, H>, client: u32, call
     ensures goes { CallGoes core.old client call core.new result }
     ensures full { core_room core.old ≡ 0 → core.new ≡ core.old }
 {
-    if core.room() == 0 {
+    if let Some(errno) = core.call_refusal() {
         drop(call);
-        return Answer::NotTaken {
-            client,
-            errno: Errno::ENOSPC,
-        };
+        return Answer::NotTaken { client, errno };
     }
     made(core, client, call)
 }

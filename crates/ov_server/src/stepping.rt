@@ -4,7 +4,8 @@ ghost use Rattle.ov_script.specs.declared.script.Command.TheVariants as asked;
 ghost use Rattle.ov_script.specs.Commands.{call_of};
 ghost use Rattle.overlay_core.specs.Views.{CoreSame, core_finished, core_room, core_work, has_client};
 ghost use Rattle.ov_server.specs.Deeds.{StartGoes, StepGoes, StepsJob, answer_of};
-ghost use Rattle.ov_server.specs.Histories.{AnswersStart, AnswersStep, room_refusal};
+ghost use Rattle.overlay_core.specs.Histories.{room_refusal};
+ghost use Rattle.ov_server.specs.Histories.{AnswersStart, AnswersStep};
 ghost use Rattle.ov_server.specs.Plays.{CannotPlay, KeepsClients, PlaysCommand};
 ghost use Rattle.ov_server.specs.Stages.{IsInOrder, KeepsOtherCalls, is_calling, open_call};
 ghost use Rattle.ov_server.specs.declared.answers.Answer.TheVariants as answers;
@@ -101,9 +102,8 @@ fn step_answer<F: Callback, H: Rule>(stage: &mut Stage<F, H>, client: u32, steps
     ensures goes { StepGoes stage.old client steps stage.new result }
     ensures others { KeepsOtherCalls stage.old stage.new client }
 {
-    if stage.core.room() == 0 {
+    if let Some(errno) = stage.core.call_refusal() {
         stage.drop_call(client as u64);
-        let errno = Errno::ENOSPC;
         return Answer::NotTaken { client, errno };
     }
     answer_in_room(stage, client, steps)

@@ -1,5 +1,6 @@
 -- That a history keeps a place for the detach of each client.
-use Rattle.std.proofs.Common.{arith, ◌≡◌, ◌∙◌, ◌≢◌, ℕ, ◌+◌, ◌<◌, ◌≤◌, ◌^◌, Bool, true, false, ◌||◌, List, [], ◌∷◌, Option, Some, None, IsSome, refl, sym, ap, cond, nat_eq, nat_lt, is_some, length, ◌⊎◌, inl, inr}
+use Rattle.std.proofs.Common.{arith, ◌≡◌, ◌∙◌, ◌≢◌, ℕ, zero, suc, ◌+◌, ◌<◌, ◌≤◌, ◌^◌, Bool, true, false, ◌||◌, List, [], ◌∷◌, Option, Some, None, IsSome, refl, sym, ap, cond, nat_eq, nat_lt, is_some, length, ◌⊎◌, inl, inr}
+use Rattle.std.specs.Prelude.{unwrap_or}
 use Rattle.std.specs.BTreeMap.{BTreeMap, btree_map_len, get}
 use Rattle.std.specs.Cmp.{unsigned_tied}
 use Rattle.std.specs.List.{AllByRecursion, IsDistinct, list_any}
@@ -20,7 +21,7 @@ use Rattle.watch_table.specs.declared.hook.Callback.{Ghosts as Callback}
 use Rattle.watch_table.specs.declared.hook.Rule.{Ghosts as Rule}
 use Rattle.overlay_core.specs.declared.turn.Turn.{Turn}
 use Rattle.overlay_core.specs.declared.turn.Turn.TheVariants.{More, Done, NoMemory}
-use Rattle.overlay_core.specs.Histories.{AreAttached, HasPlaces, attach_refusal}
+use Rattle.overlay_core.specs.Histories.{AreAttached, HasPlaces, attach_refusal, room_refusal}
 
 -- what a map has at a number
 at_number : {X : Type 0} (m : BTreeMap ℕ X) (q : ℕ) → get nat_cmp m q ≡ lookup (nat_eq q) m.entries
@@ -145,6 +146,19 @@ two_left false false few_places e = cc
 
 pub two_places : {F G : Type 0} {asks : Callback F} {rule : Rule G} (m : Core F G asks rule) (hooks : ℕ) (said : Option Errno) → said ≡ attach_refusal m hooks → ((errno : Errno) → said ≡ Some errno → ⊥) → 2 ≤ core_room m
 two_places m hooks said is not = ltb-false (core_room m) 2 (two_left (nat_lt 16 hooks) (nat_lt (client_count m) 64) (nat_lt (core_room m) 2) (sym is ∙ none_said said not))
+
+-- a call of which no refusal is told has a place
+pub some_place : (room : ℕ) (said : Option Errno) → said ≡ room_refusal room → ((errno : Errno) → said ≡ Some errno → ⊥) → 0 < room
+some_place zero said is not = absurd (not ENOSPC is)
+some_place (suc room) said is not = omega arith
+
+-- one of which a refusal is told has none
+pub no_place : (room : ℕ) (errno : Errno) (said : Option Errno) → said ≡ room_refusal room → said ≡ Some errno → (room ≡ 0) × (errno ≡ ENOSPC)
+no_place zero errno said is told = (refl, ap (λ o. unwrap_or o errno) (sym told ∙ is))
+no_place (suc room) errno said is told =
+    let some : suc room ≢ 0 = λ e. omega (arith, e) in
+    let e : Some errno ≡ None = sym told ∙ is ∙ ap (λ b. cond b (Some ENOSPC) None) (ne_eqb (suc room) 0 some) in
+    absurd cc
 
 -- a new mount has a place for each detach
 pub first_places : {F G : Type 0} {asks : Callback F} {rule : Rule G} (m : Core F G asks rule) → (core_options m).history ≤ 1000000 → core_finished m ≡ 0 → ((n : ℕ) → has_client m n ≢ true) → HasPlaces m

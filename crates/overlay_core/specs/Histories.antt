@@ -23,3 +23,7 @@ abbrev pub attach_refusal : {F G : Type 0} {asks : Callback F} {rule : Rule G} �
 attach_refusal m hooks =
     cond (nat_lt 16 hooks) (Some EINVAL)
     (cond (nat_lt (client_count m) 64) (cond (nat_lt (core_room m) 2) (Some ENOSPC) None) (Some ENFILE))
+
+-- why no call is taken where so many places are left: there is none
+abbrev pub room_refusal : ℕ → Option Errno
+room_refusal places = cond (nat_eq places 0) (Some ENOSPC) None

@@ -14,6 +14,7 @@ mod name_notices;
 mod open_notices;
 mod perform;
 mod reading;
+mod refusals;
 mod run_laws;
 mod schedule;
 mod stepping;

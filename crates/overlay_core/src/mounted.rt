@@ -1,5 +1,5 @@
 // The core of a mount: what is done to it, each deed one of the plain machine.
-ghost use Rattle.std.specs.Prelude.{◌≡◌, ◌≢◌, ◌+◌, ◌-◌, ◌<◌, ◌≤◌, ◌^◌, ℕ, true, false, not, [], ◌∷◌, map, count_by, is_none, is_some, Some, None, All, MatchOption, cond, IfOk, IfErr, IfSome, OnOk, OnErr, length, nat_lt, option_map, unwrap_or, vec_len};
+ghost use Rattle.std.specs.Prelude.{◌≡◌, ◌≢◌, ◌+◌, ◌-◌, ◌<◌, ◌≤◌, ◌^◌, ℕ, true, false, not, [], ◌∷◌, map, count_by, is_none, is_some, Some, None, All, MatchOption, cond, IfOk, IfErr, IfSome, OnOk, OnErr, length, option_map, unwrap_or, vec_len};
 ghost use Rattle.plain_model.specs.Blank.{IsBlank};
 ghost use Rattle.plain_model.specs.Layers.{AreLayers};
 ghost use Rattle.plain_model.specs.Runs.{Attached, Detached};
@@ -248,7 +248,7 @@ impl<F: Callback, R: Rule> Core<F, R> {
         ensures work { core_work self.new ≡ core_work self.old }
         ensures kept { CoreKeeps self.old self.new }
     {
-        if let Some(errno) = refusal_of(hooks.len(), self.watched.mount.clients_attached()) {
+        if let Some(errno) = self.client_refusal(hooks.len()) {
             return Err(NotAttached { errno, hooks });
         }
         self.waiting.clear();
@@ -469,23 +469,17 @@ impl<F: Callback, R: Rule> Core<F, R> {
         self.watched.mount.layers()
     }
 
-    /// Whether a further client can be attached: fewer than 64 are.
-    pub fn admits(&self) -> bool
-        ensures { result ≡ nat_lt (client_count self.now) 64 }
+    /// Why `attach` refuses a client with so many hooks, memory aside: over 16 are EINVAL, where 64
+    /// clients are attached it is ENFILE.
+    pub fn client_refusal(&self, hooks: usize) -> Option<Errno>
+        ensures { result ≡ attach_refusal hooks (client_count self.now) }
     {
-        self.watched.mount.clients_attached() < CLIENTS_MAX as u64
+        if hooks > HOOKS_MAX {
+            return Some(Errno::EINVAL);
+        }
+        if self.watched.mount.clients_attached() >= CLIENTS_MAX as u64 {
+            return Some(Errno::ENFILE);
+        }
+        None
     }
-}
-
-// Why a client with so many hooks can't be attached where so many are.
-fn refusal_of(hooks: usize, attached: u64) -> Option<Errno>
-    ensures { result ≡ attach_refusal hooks attached }
-{
-    if hooks > HOOKS_MAX {
-        return Some(Errno::EINVAL);
-    }
-    if attached >= CLIENTS_MAX as u64 {
-        return Some(Errno::ENFILE);
-    }
-    None
 }

@@ -1,5 +1,10 @@
-use Rattle.std.proofs.Common.{refl, sym, ◌∙◌}
-use Rattle.core_door.proofs.Playing.{has_room, served_call, served_full, served_no_memory}
+use Rattle.std.proofs.Common.{[], ◌∷◌, refl, subst, sym}
+use Rattle.ov_frames.specs.declared.answer.Answer.TheVariants.{NotTaken}
+use Rattle.ov_session.specs.declared.exchange.Exchange.TheVariants.{Called}
+use Rattle.overlay_core.specs.Views.{core_room}
+use Rattle.overlay_core.proofs.Histories.{no_place, some_place}
+use Rattle.core_door.specs.Rooms.{IsServed}
+use Rattle.core_door.proofs.Playing.{served_call, served_full, served_no_memory}
 use Rattle.core_door.proofs.door.CoreDoor.perform.Goals as goal
 
 pub returns-in-Done-clause-served : goal.returns-in-Done-clause-served
@@ -9,7 +14,7 @@ returns-in-Done-clause-served g c =
     served_call was.client c.finished-place.result was.core c.complete.new.self
     c.args.call c.in-Done.reply job.result job.ensures.call.0 job.ensures.call.1
     c.finished-place.ensures c.in-Done.ensures.finished c.in-Done.ensures.turn.0
-    (has_room c.room.result _ c.room.ensures c.if-room-eq0.false)
+    (some_place (core_room was.core) c.call_refusal.result c.call_refusal.ensures.refusal c.in_default.not-Some)
     c.complete.ensures.clients c.complete.ensures.kept.options
 
 pub returns-in-NoMemory-clause-served : goal.returns-in-NoMemory-clause-served
@@ -19,11 +24,12 @@ returns-in-NoMemory-clause-served g c =
     served_no_memory was.client c.finished-place.result was.core c.complete.new.self
     c.args.call job.result job.ensures.call.1 (λ h. c.in-NoMemory.ensures.memory h refl)
     c.in-NoMemory.ensures.finished c.in-NoMemory.ensures.turn.0
-    (has_room c.room.result _ c.room.ensures c.if-room-eq0.false)
+    (some_place (core_room was.core) c.call_refusal.result c.call_refusal.ensures.refusal c.in_default.not-Some)
     c.complete.ensures.clients c.complete.ensures.kept.options
 
-pub returns-then-room-eq0-clause-served : goal.returns-then-room-eq0-clause-served
-returns-then-room-eq0-clause-served g c =
+pub returns-in-Some-clause-served : goal.returns-in-Some-clause-served
+returns-in-Some-clause-served g c =
     let was = c.args.self.now in
-    served_full was.client was.core was.core c.args.call
-    (sym c.room.ensures ∙ c.if-room-eq0.true) refl
+    let full = no_place (core_room was.core) c.in-Some.errno c.call_refusal.result c.call_refusal.ensures.refusal c.in-Some.is in
+    subst (λ e. IsServed was.client was.core (Called c.args.call (NotTaken e) ∷ []) was.core) (sym full.1)
+    (served_full was.client was.core was.core c.args.call full.0 refl)

@@ -15,8 +15,8 @@ use Rattle.locked_history.proofs.locked.Locked.attach.Goals as goal
 pub attach-requires : goal.attach-requires
 attach-requires g c = few c.args.self.now.core c.args.self.now.places
 
-pub invariant_of-self : goal.invariant_of-self
-invariant_of-self g c =
+pub invariant_of-self-in-Break-1 : goal.invariant_of-self-in-Break-1
+invariant_of-self-in-Break-1 g c =
     let s = c.args.self.now in
     let e = c.in_err-client.ensures in
     let new = c.attach.new.self in
@@ -60,7 +60,7 @@ invariant_of-self-2-clause-due g c =
 pub invariant_of-self-2-clause-names : goal.invariant_of-self-2-clause-names
 invariant_of-self-2-clause-names g c =
     let s = c.args.self.now in
-    let two = two_places s.core c.len.result c.attach_fault.result c.attach_fault.ensures c.in_default.not-Some in
+    let two = two_places s.core c.len.result c.attach_refusal.result c.attach_refusal.ensures c.in_default.not-Some in
     let place : 2 ≤ (core_options s.core).history - (core_finished s.core + client_count s.core) = two in
     rw (c.append.ensures.names, c.append.ensures.long.0) (names_push _ g.N.MountName.cells (vec_len s.notes) s.names (omega (arith, place, s.history, s.finished)))
 
@@ -70,7 +70,7 @@ invariant_of-self-2-clause-known g c = known_push (λ n. is_some n.known) c.args
 pub invariant_of-self-2-clause-places : goal.invariant_of-self-2-clause-places
 invariant_of-self-2-clause-places g c =
     let s = c.args.self.now in
-    let two = two_places s.core c.len.result c.attach_fault.result c.attach_fault.ensures c.in_default.not-Some in
+    let two = two_places s.core c.len.result c.attach_refusal.result c.attach_refusal.ensures c.in_default.not-Some in
     let e = c.in_ok-client.ensures in
     attach_places s.core c.attach.new.self e.kept.options c.in_ok-client.client e.clients two e.finished s.places
 
