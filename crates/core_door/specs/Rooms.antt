@@ -3,7 +3,7 @@ use Rattle.std.specs.Prelude.{◌≡◌, ℕ, ◌<◌, List, [], ◌∷◌}
 use Rattle.ov_base.specs.declared.errno.Errno.TheVariants.{ENOSPC}
 use Rattle.mount_calls.specs.Attaching.{Detaches, KeepsAttached}
 use Rattle.mount_calls.specs.declared.clients.Clients.{Clients}
-use Rattle.ov_frames.specs.declared.answer.Answer.TheVariants.{Replied, NotTaken}
+use Rattle.ov_frames.specs.declared.answer.Answer.TheVariants.{NotTaken}
 use Rattle.ov_session.specs.declared.exchange.Exchange.{Exchange}
 use Rattle.ov_session.specs.declared.exchange.Exchange.TheVariants.{Called, HeldBack, Departed}
 use Rattle.overlay_core.specs.Views.{core_clients, core_options, core_room}

@@ -1,5 +1,5 @@
 -- The layers of a manifest are a mount.
-use Rattle.std.proofs.Common.{◌≡◌, ◌⊎◌, inl, inr, ℕ, suc, ◌<◌, ◌≤◌, ◌&&◌, ◌||◌, not, nat_le, nat_lt, cond, ℤ, pos, negsuc, codes, Bool, true, false, List, [], ◌∷◌, All, Any, map, Option, None, Some, option_map, Result, Ok, Err, is_some, length, get_or, arith, refl, sym, ap, subst, ◌∙◌}
+use Rattle.std.proofs.Common.{◌≡◌, inl, inr, ℕ, suc, ◌<◌, ◌≤◌, ◌&&◌, not, nat_le, cond, ℤ, pos, negsuc, codes, Bool, true, false, List, ◌∷◌, All, Any, map, Option, None, Some, option_map, Result, Ok, Err, is_some, arith, refl, sym, ap, subst, ◌∙◌}
 use Rattle.std.specs.Option.{option_and_then, unwrap_or}
 use Rattle.std.proofs.lemmas.Bool.{false≢true}
 use Rattle.std.proofs.lemmas.Bool.Decides.{nat_tests}

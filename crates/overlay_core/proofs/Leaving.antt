@@ -1,5 +1,5 @@
 -- Closes of a client, also while it goes, on both sides.
-use Rattle.std.proofs.Common.{◌≡◌, ◌≢◌, ℕ, zero, suc, ◌+◌, ◌<◌, ◌≤◌, true, false, cond, List, [], ◌∷◌, ◌++◌, Option, None, Some, IsSome, slice_get, slice_set, get_or, take, refl, sym, ap, ◌∙◌, subst, is_none, nat_eq, length, option_map, arith, ◌⊎◌, inl, inr}
+use Rattle.std.proofs.Common.{◌≡◌, ◌≢◌, ℕ, zero, suc, ◌+◌, ◌<◌, ◌≤◌, true, cond, List, [], ◌∷◌, ◌++◌, Option, None, Some, IsSome, slice_get, slice_set, get_or, take, refl, sym, ap, ◌∙◌, subst, is_none, nat_eq, length, option_map, arith, ◌⊎◌, inl, inr}
 use mathlib.Core.Logic.{∥∥₁_elim, ∥∥₁_map}
 use mathlib.Core.HLevel.{⊥_prop}
 use Rattle.std.specs.List.{IsDistinct, list_any}

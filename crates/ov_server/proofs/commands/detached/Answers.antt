@@ -1,4 +1,4 @@
-use Rattle.std.proofs.Common.{◌∙◌, ◌≡◌, true, sym, ap, refl}
+use Rattle.std.proofs.Common.{◌∙◌, ◌≡◌, true, sym, ap}
 use Rattle.mount_calls.specs.declared.mount.Mount.{Mount}
 use Rattle.plain_model.specs.Runs.{Detached}
 use Rattle.overlay_core.specs.Views.{has_client}

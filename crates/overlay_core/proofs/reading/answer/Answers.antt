@@ -1,4 +1,3 @@
-use Rattle.std.proofs.Common.{refl}
 use Rattle.overlay_core.proofs.ReadSteps.{reads-over}
 use Rattle.overlay_core.proofs.reading.answer.Goals as goal
 
