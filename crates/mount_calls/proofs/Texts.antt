@@ -8,12 +8,12 @@ use Rattle.ov_base.specs.declared.bytes.Content.{Content}
 use Rattle.plain_model.specs.Layers.{Path, Inode, below, held}
 use Rattle.layer_tree.specs.ContentChange.{SetsBytes}
 use Rattle.layer_tree.specs.Nameless.{KeepsObjects}
-use Rattle.layer_tree.specs.Tree.{Tree, Frees, SameTree, layer_of, inode_at, own_at, with_less}
+use Rattle.layer_tree.specs.Tree.{Tree, SameTree, layer_of, inode_at, own_at, with_less}
 use Rattle.merged_lookup.specs.declared.layers.Layers.{Layers}
 use Rattle.copy_up.specs.Leaves.{CopiesLeaf}
 use Rattle.copy_up.specs.Showing.{number_of}
 use Rattle.copy_up.specs.Texts.{GainsMark, KeepsTexts}
-use Rattle.copy_up.proofs.Texts.{mark_of, marks-but, marks-filled, marks-kept, marks-same, texts-new}
+use Rattle.copy_up.proofs.Texts.{mark_of, marks-filled, marks-kept, marks-same, texts-new}
 use Rattle.make_remove.specs.Leaves.{MakesLeaf}
 use Rattle.make_remove.specs.Removing.{Unnames}
 use Rattle.notice_laws.proofs.Numbers.{some-is}
@@ -48,11 +48,6 @@ texts-unnamed old new p released u = by (number_of (held (layer_of old.upper) p)
     by (Some n) is =
         marks-kept old.upper new.upper None n (subst (KeepsObjects old.upper new.upper) is u.objects)
         (λ q there. inl (sym (less-mark (inode_at old.upper n)) ∙ sym (ap mark_of (u.fewer n is)) ∙ there))
-
--- what is freed has none
-pub texts-freed : (old new : Layers) (key : ℕ) → Frees old.upper new.upper key → KeepsTexts old new None
-texts-freed old new key f =
-    marks-but (layer_of old.upper) (layer_of new.upper) None key f.inodes (λ q is. no-mark _ _ q (ap mark_of f.no_inode) is)
 
 -- a file that has bytes of its own, written anew, or not where memory ran out
 pub texts-written : (l : Layers) (u new : Tree) (key : ℕ) (now : List ℕ → List ℕ) → l.upper ≡ u → IsSome (own_at u key) → (r : Result (Unit {0}) AllocError) →
