@@ -5,7 +5,7 @@ use Rattle.std.proofs.Common.{refl, None}
 use Rattle.mount_calls.proofs.Frames.{none-parents, none-same, none-taken}
 use Rattle.mount_calls.proofs.Keys.{look-seen}
 use Rattle.copy_up.proofs.Keeping.{on-err, sound-then}
-use Rattle.copy_up.proofs.Texts.{texts-after, texts-gained}
+use Rattle.copy_up.proofs.Texts.{texts-after, texts-gained, texts-still}
 use Rattle.mount_calls.proofs.Texts.{texts-unnamed}
 use Rattle.mount_calls.proofs.removals.unlink_and_free.Goals as goal
 
@@ -64,3 +64,6 @@ returns-clause-texts c =
 
 pub returns-in_err-key-clause-texts : goal.returns-in_err-key-clause-texts
 returns-in_err-key-clause-texts c = texts-gained c.args.layers.now c.unlink.new.layers c.args.path.now None c.in_err-key.ensures.no_memory.beneath
+
+pub returns-in-Err-clause-texts : goal.returns-in-Err-clause-texts
+returns-in-Err-clause-texts c = texts-still c.args.layers.now c.args.layers.now None refl

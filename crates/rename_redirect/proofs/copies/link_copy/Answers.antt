@@ -1,5 +1,5 @@
 use Rattle.std.proofs.Common.{[], ◌∷◌, List, Some, is_some, reverse, sym, ap, ◌∙◌, subst}
-use Rattle.plain_model.specs.Layers.{Path, Layer, Contents, content_over, held, shows}
+use Rattle.plain_model.specs.Layers.{Path, Layer, Contents, below, content_over, held, shows}
 use Rattle.layer_tree.specs.Tree.{layer_of}
 use Rattle.merged_lookup.specs.declared.layers.Layers.{Layers}
 use Rattle.merged_lookup.specs.Merged.{layers_of, parent, IsStackOf}

@@ -15,7 +15,7 @@ use Rattle.mount_calls.proofs.Frames.{none-same, none-then}
 use Rattle.mount_calls.proofs.Lasting.{parents-live}
 use Rattle.mount_calls.specs.Making.{ServesEach}
 use Rattle.mount_calls.proofs.MakingCalls.{answers-open}
-use Rattle.copy_up.proofs.Texts.{texts-after}
+use Rattle.copy_up.proofs.Texts.{texts-after, texts-still}
 use Rattle.mount_calls.proofs.mount.Mount.open_copied.Goals as goal
 use Rattle.mount_calls.proofs.mount.Mount.open_copied.Goals.{then-flags+in_ok-resize_file, else-flags}
 
@@ -104,3 +104,6 @@ returns-clause-texts c = elim c.if-flags.branch [
       (texts-after c.args.self.now.layers c.bring_up.new.layers w.resize_file.new.layers None c.bring_up.ensures.texts w.resize_file.ensures.texts)
   | else-flags w ↦ rw w.self-is c.bring_up.ensures.texts
 ]
+
+pub returns-in_err-reserve_file-clause-texts : goal.returns-in_err-reserve_file-clause-texts
+returns-in_err-reserve_file-clause-texts c = texts-still c.args.self.now.layers c.args.self.now.layers None refl

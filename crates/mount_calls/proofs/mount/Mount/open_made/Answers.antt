@@ -10,7 +10,7 @@ use Rattle.mount_calls.proofs.Lasting.{create-live, parents-live}
 use Rattle.mount_calls.proofs.Named.{keeps-named}
 use Rattle.mount_calls.proofs.Frames.{none-named, none-parents, none-same}
 use Rattle.mount_calls.proofs.MakingCalls.{answers-open}
-use Rattle.copy_up.proofs.Texts.{texts-gained}
+use Rattle.copy_up.proofs.Texts.{texts-gained, texts-still}
 use Rattle.mount_calls.proofs.Texts.{texts-made}
 use Rattle.mount_calls.proofs.mount.Mount.open_made.Goals as goal
 
@@ -62,3 +62,6 @@ returns-in_err-key-clause-texts c = texts-gained c.args.self.now.layers c.create
 
 pub returns-clause-texts : goal.returns-clause-texts
 returns-clause-texts c = texts-made c.args.self.now.layers c.create.new.layers c.args.path.now _ _ c.in_ok-key.ensures.made.0
+
+pub returns-in_err-reserve_file-clause-texts : goal.returns-in_err-reserve_file-clause-texts
+returns-in_err-reserve_file-clause-texts c = texts-still c.args.self.now.layers c.args.self.now.layers None refl
