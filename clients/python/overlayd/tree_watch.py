@@ -28,6 +28,8 @@ _PLAIN_SLOTS = range(10)
 _FOLLOWED = Mask.CREATE | Mask.DELETE | Mask.MOVE | Mask.ONLYDIR
 _TOGETHER = 256
 _FIRST_PAUSE = 0.002
+# After so many seconds it is asked where directories are, though there are notices still.
+_SETTLED = 1.0
 
 
 class TreeNotice(NamedTuple):
@@ -106,6 +108,8 @@ class TreeWatch:
         self._moving: Dict[int, _Directory] = {}
         self._fresh: List[_Directory] = []
         self._unlisted: List[_Directory] = []
+        self._touched: Dict[int, _Directory] = {}
+        self._check_at: Optional[float] = None
         self._ended = False
         self._root = self._arm(None, self._path.rstrip("/"))
         self._follow(self._root, None)
@@ -189,6 +193,8 @@ class TreeWatch:
         for directory in unlisted:
             if not directory.gone:
                 self._follow(directory, self._ready)
+        if self._check_at is not None and (not heard or time.monotonic() > self._check_at):
+            self._check()
         again = {id(directory) for directory in self._fresh}
         for directory in fresh:
             if id(directory) not in again:
@@ -234,6 +240,9 @@ class TreeWatch:
             self._ready.append(TreeNotice(directory.below(name), mask, notice.cookie))
         if not mask & Mask.ISDIR:
             return
+        self._touched[id(directory)] = directory
+        if mask & (Mask.DELETE | Mask.MOVE):
+            self._doubt()
         if mask & (Mask.DELETE | Mask.MOVED_FROM):
             left = directory.children.pop(name, None)
             if left is not None and mask & Mask.MOVED_FROM:
@@ -270,6 +279,52 @@ class TreeWatch:
                     if error.errno != errno.EINVAL:  # it ended meanwhile
                         raise
 
+    def _doubt(self) -> None:
+        """Directories may not be where they are believed to be, as when one was made, moved and
+        made again before the first of it was heard."""
+        if self._check_at is None:
+            self._check_at = time.monotonic() + _SETTLED
+
+    def _check(self) -> None:
+        """Asks of each directory whether it is where it is believed to be: its hook can be armed
+        there anew. Those that aren't are left, and where there were changes it is looked anew."""
+        self._check_at = None
+        touched, self._touched = self._touched, {}
+        reached = [self._root]
+        for directory in reached:
+            reached += directory.children.values()
+        known = {id(directory) for directory in reached}
+        lost = [directory for ear in self._ears for directory in self._misplaced(ear, known)]
+        if self._root in lost or self._root.gone:
+            return
+        for directory in lost:
+            self._leave(directory)
+            parent = directory.parent
+            if parent is not None:
+                touched[id(parent)] = parent
+                if parent.children.get(directory.name) is directory:
+                    del parent.children[directory.name]
+        for directory in touched.values():
+            if not directory.gone and id(directory) in known:
+                for name, is_directory in self._names(directory):
+                    if is_directory and name not in directory.children:
+                        self._follow(self._arm_below(directory, name), self._ready)
+
+    def _misplaced(self, ear: _Ear, known: Set[int]) -> List[_Directory]:
+        """The directories of a client that nothing leads to, or that aren't at their paths."""
+        with ear.client.pipeline() as batch:
+            asked = [(wd, one, batch.arm(one.slot, one.path(), self._asked()))
+                     for wd, one in ear.watched.items() if not one.gone]
+        found = []
+        for wd, one, answer in asked:
+            if answer.exception() is not None or answer.result() != wd:
+                if answer.exception() is None:
+                    ear.client.disarm(answer.result())
+                found.append(one)
+            elif id(one) not in known:
+                found.append(one)
+        return found
+
     # What is watched.
 
     def _follow(self, top: Optional[_Directory], told: Optional[Deque[TreeNotice]]) -> None:
@@ -298,6 +353,7 @@ class TreeWatch:
                 self._error = self._error or error
             elif error.errno not in (errno.ENOENT, errno.ENOTDIR, errno.EBUSY, errno.ELOOP):
                 raise
+            self._doubt()
             return None
 
     def _names(self, directory: _Directory) -> Iterator[Tuple[str, bool]]:
@@ -331,10 +387,14 @@ class TreeWatch:
             self._ears.append(_Ear(self._attach()))
         ear = next(ear for ear in self._ears if ear.free)
         slot = ear.free[-1]
-        wd = ear.client.arm(slot, path, (self._mask & Mask.ALL_EVENTS) | _FOLLOWED)
+        wd = ear.client.arm(slot, path, self._asked())
         ear.free.pop()
         directory = _Directory(parent, name, ear, slot)
         ear.watched[wd] = directory
         if parent is not None:
             parent.children[name] = directory
         return directory
+
+    def _asked(self) -> Mask:
+        """What each watch is for."""
+        return (self._mask & Mask.ALL_EVENTS) | _FOLLOWED
