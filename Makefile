@@ -74,7 +74,7 @@ install:
 	done
 	for unit in examples/*.service; do \
 	  install -D -m 644 $$unit "$(DESTDIR)$(PREFIX)/lib/systemd/system/$${unit##*/}" && \
-	  sed -i 's|/usr/local/bin|$(PREFIX)/bin|' \
+	  sed -i 's|/usr/local/bin|$(PREFIX)/bin|g' \
 	    "$(DESTDIR)$(PREFIX)/lib/systemd/system/$${unit##*/}" || exit 1; \
 	done
 	install -D -m 644 examples/overlayd.sysusers "$(DESTDIR)$(PREFIX)/lib/sysusers.d/overlayd.conf"

@@ -353,6 +353,7 @@ class TreeWatch:
                 self._error = self._error or error
             elif error.errno not in (errno.ENOENT, errno.ENOTDIR, errno.EBUSY, errno.ELOOP):
                 raise
+            self._touched[id(parent)] = parent
             self._doubt()
             return None
 
