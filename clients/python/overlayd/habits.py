@@ -182,7 +182,8 @@ class Habits:
                     _tolerating(FileNotFoundError, answer.result)
             self.rmdir(directory)
 
-    def glob(self: Client, pattern: str, recursive: bool = False) -> List[str]:  # type: ignore[misc]
+    def glob(self: Client, pattern: str,  # type: ignore[misc]
+             recursive: bool = False) -> List[str]:
         """The paths that a pattern of the module `glob` matches, in the order of a tree.
 
         `*`, `?` and `[..]` match within a name, and names that begin with a dot only after one in
@@ -213,8 +214,9 @@ class Habits:
         with self.open(path, "wb") as file:
             return file.write(data)
 
-    def write_text(self: Client, path: Path, text: str, encoding: str = "utf-8",  # type: ignore[misc]
-                   errors: Optional[str] = None, newline: Optional[str] = None) -> int:
+    def write_text(self: Client, path: Path, text: str,  # type: ignore[misc]
+                   encoding: str = "utf-8", errors: Optional[str] = None,
+                   newline: Optional[str] = None) -> int:
         """Makes a file of a text, or gives it to the one that is there; how many characters."""
         with self.open(path, "w", encoding=encoding, errors=errors, newline=newline) as file:
             return file.write(text)

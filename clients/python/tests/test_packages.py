@@ -51,7 +51,8 @@ class Wheels(unittest.TestCase):
                 names = set(archive.namelist())
                 record = archive.read(next(one for one in names if one.endswith("/RECORD")))
         self.assertEqual(found[0], found[1])
-        modules = {path.relative_to(CLIENTS).as_posix() for path in CLIENTS.glob("overlayd/**/*.py")}
+        paths = CLIENTS.glob("overlayd/**/*.py")
+        modules = {path.relative_to(CLIENTS).as_posix() for path in paths}
         self.assertLessEqual(modules | {"overlayd/py.typed"}, names)
         self.assertEqual({line.split(",")[0] for line in record.decode().splitlines()}, names)
         self.assertTrue(wheel_backend.build_sdist(str(self.folder)).endswith(".tar.gz"))

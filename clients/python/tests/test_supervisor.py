@@ -1,6 +1,7 @@
 """`overlayd-serve`: on a program that the tests play, and on the program where it is built."""
 
 import contextlib
+import errno
 import io
 import json
 import os
@@ -194,12 +195,28 @@ class Commands(Case):
                 self.assertEqual(ended.exception.code, 2)
 
 
+class Held:
+    """A tree of the tests' own as what a server has."""
+
+    def __init__(self, tree):
+        self.entries = {entry.path: entry for entry in tree.entries()}
+        self.tree = tree
+
+    def attributes(self, path):
+        return list(self.entries[path].attrs)
+
+    def read(self, path):
+        if path not in self.entries:
+            raise FileNotFoundError(errno.ENOENT, os.strerror(errno.ENOENT), path)
+        return self.tree.read(self.entries[path])
+
+
 class Manifests(unittest.TestCase):
     """What a save writes, by the manifest's page."""
 
     def written(self, found, mounted):
         stream = io.BytesIO()
-        left_out = write_upper_manifest(found, mounted, stream)
+        left_out = write_upper_manifest(found, Held(mounted), stream)
         return stream.getvalue().decode(), left_out
 
     def test_changes_are_one_layer(self):
@@ -259,14 +276,15 @@ class Manifests(unittest.TestCase):
                          ['path = "/c"'])
 
     def test_a_file_that_has_gone_meanwhile_is_a_whiteout(self):
-        class Gone(MemoryTree):
-            def read(self, entry):
-                raise FileNotFoundError(entry.path)
+        class Gone(Held):
+            def attributes(self, path):
+                return []
 
-        mounted = Gone([Entry("/f", "file", 0o644)])
-        text, _ = self.written([Change("/f", Entry("/f", "file", 0o644))], mounted)
-        self.assertEqual(text.splitlines()[2:], ["[[layer.entry]]", 'path = "/f"',
-                                                 'kind = "whiteout"'])
+        stream = io.BytesIO()
+        found = [Change("/f", Entry("/f", "file", 0o644))]
+        self.assertEqual(write_upper_manifest(found, Gone(MemoryTree([])), stream), [])
+        self.assertEqual(stream.getvalue().decode().splitlines()[2:],
+                         ["[[layer.entry]]", 'path = "/f"', 'kind = "whiteout"'])
 
 
 class OnTheProgram(Case):
@@ -308,6 +326,7 @@ kind = "file"
                 client.write_text("/d/f", "new!")
                 client.unlink("/gone")
                 client.mkdir("/n", 0o700)
+                client.setxattr("/n", "user.a", b"v")
                 changed = ["d 0755 0 0 0 1 /", "d 0755 0 0 0 1 /d", "f 0644 0 0 4 1 /d/f",
                            "d 0700 0 0 0 1 /n"]
                 self.wait_for(lambda: self.saved.exists() and self.saved.stat().st_size

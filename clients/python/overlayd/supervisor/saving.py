@@ -1,6 +1,7 @@
 """Saves of an upper while its mount is served, by a client."""
 
 import contextlib
+import errno
 import os
 import stat
 import tempfile
@@ -9,7 +10,7 @@ from typing import Any, BinaryIO, Callable, List, Optional, Tuple, TypeVar
 
 from ..client import Client
 from ..errors import Disconnected
-from ..exporter import Change, LowerTree, MountTree, Tree, Unsayable, changes
+from ..exporter import Change, Entry, LowerTree, MountTree, Tree, Unsayable, changes
 from ..importer import objects
 from ..importer.telling import shown
 from ..importer.writing import ManifestWriter
@@ -66,19 +67,20 @@ class Saver(threading.Thread):
         lower = LowerTree(self._manifest)
         for left in reversed(range(_TRIES)):
             try:
-                self._replace(lower, MountTree(client))
+                self._replace(lower, client)
                 return
-            except (FileNotFoundError, NotADirectoryError):
+            except (FileNotFoundError, NotADirectoryError, Unsayable):
                 if not left or client.closed:
                     raise
 
-    def _replace(self, lower: Tree, mounted: Tree) -> None:
+    def _replace(self, lower: Tree, client: Client) -> None:
         """Writes a file beside the target, which takes its name when it is on the disk."""
+        found = _found(lower, MountTree(client))
         folder, name = os.path.split(os.path.abspath(self._target))
         descriptor, part = tempfile.mkstemp(prefix=f".{name}.", suffix=".part", dir=folder)
         try:
             with os.fdopen(descriptor, "wb", buffering=1 << 20) as stream:
-                left_out = write_upper_manifest(_found(lower, mounted), mounted, stream)
+                left_out = write_upper_manifest(found, Mounted(client), stream)
                 stream.flush()
                 os.fsync(stream.fileno())
             with self._lock:
@@ -113,9 +115,28 @@ def _sync(folder: str) -> None:
         os.close(descriptor)
 
 
-def write_upper_manifest(found: List[Change], mounted: Tree, stream: BinaryIO) -> List[str]:
+class Mounted:
+    """The attributes and bytes of what a mount shows, as the server has them."""
+
+    def __init__(self, client: Client) -> None:
+        self._client = client
+
+    def attributes(self, path: str) -> List[Tuple[str, bytes]]:
+        """The user attributes of a file or directory, in their order."""
+        names = self._client.listxattr(path)
+        with self._client.pipeline() as batch:
+            values = [batch.getxattr(path, name) for name in names]
+        return [(name, value.result()) for name, value in zip(names, values)]
+
+    def read(self, path: str) -> bytes:
+        """The bytes of a file."""
+        return self._client.read_bytes(path)
+
+
+def write_upper_manifest(found: List[Change], mounted: Mounted, stream: BinaryIO) -> List[str]:
     """Writes changes as a manifest of one layer, as `overlayd serve --save` does; the paths of
-    what no manifest can say, which is left out with what is in it."""
+    what no manifest can say, which is left out with what is in it. What has gone meanwhile is a
+    whiteout."""
     writer = ManifestWriter(stream)
     writer.layer()
     left_out: List[str] = []
@@ -129,37 +150,36 @@ def write_upper_manifest(found: List[Change], mounted: Tree, stream: BinaryIO) -
     return left_out
 
 
-def _write(writer: ManifestWriter, change: Change, mounted: Tree) -> None:
+def _write(writer: ManifestWriter, change: Change, mounted: Mounted) -> None:
     """Writes one change; `UnicodeError` before anything is written where it can't be said."""
     entry, path = change.entry, change.path
     path.encode("utf-8")
     if entry is None:
         writer.whiteout(path)
-        return
-    attrs: Tuple[Tuple[str, str], ...] = tuple(
-        (name.encode("utf-8").decode("utf-8"), value.decode("utf-8"))
-        for name, value in entry.attrs)
-    if change.link_to is not None:
-        writer.link(path, change.link_to)
+    elif entry.kind == "symlink":
+        writer.symlink(path, objects.Symlink(entry.uid, entry.gid, entry.target))
     elif entry.kind == "dir":
+        attrs = _sayable(mounted.attributes(path))
         node = objects.Directory(entry.mode, entry.uid, entry.gid, attrs)
         node.opaque = change.opaque
         writer.root(node) if path == "/" else writer.directory(path, node)
-    elif entry.kind == "symlink":
-        writer.symlink(path, objects.Symlink(entry.uid, entry.gid, entry.target))
     else:
-        _write_file(writer, change, attrs, mounted)
+        _write_file(writer, change, entry, mounted)
 
 
-def _write_file(writer: ManifestWriter, change: Change, attrs: Tuple[Tuple[str, str], ...],
-                mounted: Tree) -> None:
-    """Writes a file; a whiteout where it has gone meanwhile."""
-    entry = change.entry
-    assert entry is not None
+def _write_file(writer: ManifestWriter, change: Change, entry: Entry, mounted: Mounted) -> None:
     try:
-        data = mounted.read(entry)
-    except (FileNotFoundError, NotADirectoryError):
+        attrs, data = _sayable(mounted.attributes(change.path)), mounted.read(change.path)
+    except OSError as error:
+        if error.errno not in (errno.ENOENT, errno.ENOTDIR, errno.EISDIR, errno.ENODATA):
+            raise
         writer.whiteout(change.path)
         return
     node = objects.File(entry.mode, entry.uid, entry.gid, attrs, len(data))
     writer.file(change.path, node, data)
+
+
+def _sayable(attrs: List[Tuple[str, bytes]]) -> Tuple[Tuple[str, str], ...]:
+    """Attributes as the texts of a manifest; `UnicodeError` where they are none."""
+    return tuple((name.encode("utf-8").decode("utf-8"), value.decode("utf-8"))
+                 for name, value in attrs)
