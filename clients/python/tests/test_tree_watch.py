@@ -2,6 +2,7 @@
 
 import errno
 import random
+import socket
 import threading
 import time
 import unittest
@@ -162,8 +163,9 @@ class Trees(Case):
         self.c._timeout = 0.3
         with self.assertRaisesRegex(NoReply, "may have no free worker"):
             self.c.watch_tree("/t")
-        with self.assertRaises(ValueError):
-            Client.from_socket(self.server.connected()).watch_tree("/t")
+        with Client.from_socket(socket.socketpair()[0]) as other:
+            with self.assertRaises(ValueError):
+                other.watch_tree("/t")
 
 
 class Random(Case):
