@@ -245,6 +245,21 @@ class Replies(unittest.TestCase):
             with self.subTest(names), self.assertRaises(BadReply):
                 listed(*names)
 
+    def test_targets_attributes_and_notices_that_nothing_has(self):
+        place, watch = h("00 0000000000000007"), h("00000001 00000100 00000000")
+        forms = {Op.READLINK: (place, (b"/a", b"\xff", b"t" * 4_095),
+                               (b"", b"a\0", b"t" * 4_096)),
+                 Op.LISTXATTR: (place + h("0001"), (b"user.a", b"n" * 255),
+                                (b"", b"\0", b"n" * 256)),
+                 Op.NOTICES: (place + h("0001") + watch, (b"", b"a", b"..."),
+                              (b".", b"..", b"a/b", b"a\0", b"n" * 256))}
+        for op, (head, good, bad) in forms.items():
+            for text in good:
+                frames.reply(op, head + len(text).to_bytes(2, "big") + text)
+            for text in bad:
+                with self.subTest(op=op, text=text[:9]), self.assertRaises(BadReply):
+                    frames.reply(op, head + len(text).to_bytes(2, "big") + text)
+
     def test_names_that_are_no_utf_8(self):
         body = h("00 0000000000000005 0001 00000001 00000100 00000000 0002 41ff")
         reply = frames.reply(Op.NOTICES, body)
