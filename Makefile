@@ -1,6 +1,6 @@
 # What can be made; `make` alone lists it.
 .PHONY: help show play try-serve build serve test test-serve test-memory test-clients install \
-    deb clean build-fuse test-fuse test-fuse-mounted try-fuse
+    clean build-fuse test-fuse test-fuse-mounted try-fuse
 
 EXAMPLE := examples/change-layer
 SOCKET := out/overlay.socket
@@ -59,6 +59,10 @@ test-memory:
 test-clients:
 	python3 -m unittest discover -s clients/python/tests -t clients/python
 
+.PHONY: deb
+deb: build
+	@tools/deb
+
 # What was built is copied, not built: a proof takes an hour. The Python tools are found by a path
 # of their own, so that they need no other installation.
 install:
@@ -91,9 +95,6 @@ install:
 	  install -D -m 644 clients/fuse/overlayd-fuse.1 \
 	    "$(DESTDIR)$(PREFIX)/share/man/man1/overlayd-fuse.1"; \
 	fi
-
-deb: build
-	@tools/deb
 
 clean:
 	rm -rf out crates/*/out clients/python/build clients/python/*.egg-info
