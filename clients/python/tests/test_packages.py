@@ -1,5 +1,6 @@
 """What pip installs, with no network; and the class of fsspec, where that is installed."""
 
+import importlib.util
 import os
 import pathlib
 import subprocess
@@ -22,9 +23,7 @@ class Wheels(unittest.TestCase):
 
     def test_pip_installs_it_without_an_index(self):
         pip = [sys.executable, "-m", "pip"]
-        asked = subprocess.run([*pip, "--version"], stdout=subprocess.DEVNULL,
-                               stderr=subprocess.DEVNULL, check=False)
-        if asked.returncode:
+        if importlib.util.find_spec("pip") is None:
             tools.skip(self.id(), "there is no pip")
         done = subprocess.run(
             [*pip, "install", "-q", "--no-index", "--no-deps", "--disable-pip-version-check",
@@ -32,10 +31,11 @@ class Wheels(unittest.TestCase):
             stdout=subprocess.PIPE, stderr=subprocess.STDOUT, text=True, check=False)
         self.assertEqual(done.returncode, 0, done.stdout)
         environment = {**os.environ, "PYTHONPATH": str(self.folder / "there")}
-        for command in ("import", "export", "serve"):
-            told = subprocess.run([self.folder / "there/bin" / f"overlayd-{command}", "--version"],
-                                  stdout=subprocess.PIPE, text=True, check=True, env=environment)
-            self.assertRegex(told.stdout, rf"^overlayd-{command} [\d.]+\n$")
+        self.assertEqual(sorted(os.listdir(self.folder / "there/bin")),
+                         ["overlayd-export", "overlayd-import", "overlayd-serve"])
+        told = subprocess.run([self.folder / "there/bin/overlayd-serve", "--version"],
+                              stdout=subprocess.PIPE, text=True, check=True, env=environment)
+        self.assertRegex(told.stdout, r"^overlayd-serve [\d.]+\n$")
 
     def test_a_wheel_has_all_modules_and_one_form(self):
         sys.path.insert(0, str(CLIENTS))
