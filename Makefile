@@ -24,6 +24,7 @@ help:
 	@echo "make test-fuse-mounted  tests it as root, with real programs beside the kernel's overlayfs"
 	@echo "make install       copy that program, the Python tools, the manual and the bridge, where it is"
 	@echo "                   built, to $(PREFIX), or to where PREFIX and DESTDIR say"
+	@echo "make deb           prove the program, and make a Debian package of all of it in out/"
 	@echo "make clean         remove all that was built and proved"
 
 show:
@@ -33,14 +34,14 @@ play:
 	@tools/try play $(EXAMPLE).toml < $(EXAMPLE).script
 
 try-serve:
-	@tools/try serve $(EXAMPLE).toml $(SOCKET) --verbose --unlink
+	@tools/try serve $(EXAMPLE).toml $(SOCKET) --verbose --unlink --no-history
 
 build:
 	@tools/need-kit && tools/build
 
 # A server leaves its socket's file behind, which the next one takes.
 serve: build
-	out/overlayd serve $(EXAMPLE).toml $(SOCKET) --verbose --unlink
+	out/overlayd serve $(EXAMPLE).toml $(SOCKET) --verbose --unlink --no-history
 
 # The gate has at most four proofs side by side, with one job each: several jobs on one proof take
 # up to half as much processor time again. What it leaves of the program goes where build puts it.
@@ -58,6 +59,10 @@ test-memory:
 test-clients:
 	python3 -m unittest discover -s clients/python/tests -t clients/python
 
+.PHONY: deb
+deb: build
+	@tools/deb
+
 # What was built is copied, not built: a proof takes an hour. The Python tools are found by a path
 # of their own, so that they need no other installation.
 install:
@@ -66,13 +71,24 @@ install:
 	for page in man/*.1; do \
 	  install -D -m 644 $$page "$(DESTDIR)$(PREFIX)/share/man/man1/$${page#man/}" || exit 1; \
 	done
+	install -d "$(DESTDIR)$(PREFIX)/share/man/man5"
+	tools/formats-page > "$(DESTDIR)$(PREFIX)/share/man/man5/overlayd-formats.5"
+	for file in README.md docs/*.md clients/python/API.md examples/change-layer.*; do \
+	  install -D -m 644 $$file "$(DESTDIR)$(PREFIX)/share/doc/overlayd/$${file##*/}" || exit 1; \
+	done
+	for unit in examples/*.service; do \
+	  install -D -m 644 $$unit "$(DESTDIR)$(PREFIX)/lib/systemd/system/$${unit##*/}" && \
+	  sed -i 's|/usr/local/bin|$(PREFIX)/bin|g' \
+	    "$(DESTDIR)$(PREFIX)/lib/systemd/system/$${unit##*/}" || exit 1; \
+	done
+	install -D -m 644 examples/overlayd.sysusers "$(DESTDIR)$(PREFIX)/lib/sysusers.d/overlayd.conf"
 	for file in $$(cd clients/python && find overlayd -name '*.py' -o -name py.typed); do \
 	  install -D -m 644 clients/python/$$file "$(DESTDIR)$(PREFIX)/lib/overlayd/$$file" || exit 1; \
 	done
-	for tool in import export; do \
-	  to="$(DESTDIR)$(PREFIX)/bin/overlayd-$$tool"; \
+	for tool in importer exporter supervisor; do \
+	  to="$(DESTDIR)$(PREFIX)/bin/overlayd-$$(echo $$tool | sed 's/er$$//; s/supervisor/serve/')"; \
 	  printf '#!/bin/sh\nPYTHONPATH="%s$${PYTHONPATH:+:$$PYTHONPATH}" exec python3 -m %s "$$@"\n' \
-	    "$(PREFIX)/lib/overlayd" "overlayd.$${tool}er" > "$$to" && chmod 755 "$$to" || exit 1; \
+	    "$(PREFIX)/lib/overlayd" "overlayd.$$tool" > "$$to" && chmod 755 "$$to" || exit 1; \
 	done
 	if test -x out/overlayd-fuse; then \
 	  install -D -m 755 out/overlayd-fuse "$(DESTDIR)$(PREFIX)/bin/overlayd-fuse" && \

@@ -1,5 +1,6 @@
 # A client in a container; the server runs outside, as overlayd.service does, and the container gets
-# its socket alone. At the top of the repository:
+# its socket alone. The unit's socket is root's; with the drop-in that it names, and at the top of
+# the repository:
 #
 #     docker build -f examples/client.Containerfile -t overlayd-client .
 #     docker run --rm --group-add "$(getent group overlayd | cut -d: -f3)" \

@@ -9,12 +9,16 @@
 """
 
 from .client import Client
-from .errors import BadReply, Disconnected, NoReply, UnknownRefusal, place_of
+from .errors import BadReply, Disconnected, NoReply, place_of
 from .files import File
 from .frames import Stat
+from .habits import DirEntry
+from .mount_path import MountPath
 from .pipeline import Pending, Pipeline
+from .tree_watch import CHANGES, TreeNotice, TreeWatch
 from .watches import Mask, Notice
 
 __version__ = "0.4.0"
-__all__ = ["BadReply", "Client", "Disconnected", "File", "Mask", "NoReply", "Notice", "Pending",
-           "Pipeline", "Stat", "UnknownRefusal", "place_of"]
+__all__ = ["BadReply", "CHANGES", "Client", "DirEntry", "Disconnected", "File", "Mask", "MountPath",
+           "NoReply", "Notice", "Pending", "Pipeline", "Stat", "TreeNotice", "TreeWatch",
+           "place_of"]

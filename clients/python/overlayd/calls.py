@@ -51,6 +51,8 @@ class Call(Generic[T]):
     """The call as it is told to a reader."""
     finish: Callable[[Any], T]
     """Makes the call's result of the answer in its reply."""
+    fits: Callable[[Any], bool] = lambda answer: True
+    """Whether the answer may be one to this request; else the reply is bad."""
 
     def __str__(self) -> str:
         return self.words
@@ -58,8 +60,8 @@ class Call(Generic[T]):
     def then(self, change: Callable[[T], S]) -> Call[S]:
         """The same request, whose result is what `change` makes of this one's."""
         finish = self.finish
-        return Call(self.op, self.frame, self.paths, self.words,
-                    lambda answer: change(finish(answer)))
+        return dataclasses.replace(  # type: ignore[return-value]
+            self, finish=lambda answer: change(finish(answer)))  # type: ignore[arg-type]
 
     def about(self, path: Any) -> Call[T]:
         """The same call, whose refusals tell the path of what its descriptor has open."""
@@ -122,6 +124,11 @@ def _on_attribute(op: Op, path: Path, attribute: Path) -> Call[Any]:
 
 def _on_numbers(op: Op, *numbers: int) -> Call[Any]:
     return _call(op, numbers, numbers)
+
+
+def _at_most(count: int, call: Call[Any]) -> Call[Any]:
+    """The same call, which may not be answered by more than so many bytes, names or notices."""
+    return dataclasses.replace(call, fits=lambda answer: len(answer) <= count)
 
 
 # By path.
@@ -217,7 +224,7 @@ def rename(src: Path, dst: Path) -> Call[None]:
 
 def read(descriptor: int, count: int) -> Call[bytes]:
     """At most `count` bytes, up to READ_LIMIT, from the place, which moves after them."""
-    return _on_numbers(Op.READ, descriptor, count)
+    return _at_most(count, _on_numbers(Op.READ, descriptor, count))
 
 
 class _Length(int):
@@ -232,7 +239,8 @@ def write(descriptor: int, data: bytes) -> Call[int]:
     block = _data(data)
     shown = (descriptor, _Length(len(block)))
     sizes = [(block, READ_LIMIT, errno.EINVAL)]
-    return _call(Op.WRITE, (descriptor, block), shown, sizes=sizes)
+    call = _call(Op.WRITE, (descriptor, block), shown, sizes=sizes)
+    return dataclasses.replace(call, fits=lambda answer: min(len(block), 1) <= answer <= len(block))
 
 
 def seek(descriptor: int, offset: int, whence: int = os.SEEK_SET) -> Call[int]:
@@ -252,7 +260,7 @@ def fstat(descriptor: int) -> Call[Stat]:
 
 def names(descriptor: int, count: int = 256) -> Call[List[str]]:
     """The next names of a directory, 1 to 256; none at its end."""
-    return _on_numbers(Op.NAMES, descriptor, count).then(_strs)
+    return _at_most(count, _on_numbers(Op.NAMES, descriptor, count)).then(_strs)
 
 
 def close(descriptor: int) -> Call[None]:
@@ -277,7 +285,7 @@ def disarm(wd: int) -> Call[None]:
 
 def notices(count: int = 65) -> Call[List[Notice]]:
     """Takes out the first unread notices, at most 65."""
-    return _on_numbers(Op.NOTICES, count)
+    return _at_most(count, _on_numbers(Op.NOTICES, count))
 
 
 def detach() -> Call[None]:

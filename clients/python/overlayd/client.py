@@ -8,15 +8,18 @@ import errno
 import os
 import socket
 import threading
-from typing import Any, Deque, Iterator, List, Optional, Sequence, TypeVar
+from typing import Any, Deque, Iterator, List, Optional, Sequence, TypeVar, Union, overload
 
 from . import calls, frames
 from .calls import Call, Path
-from .errors import Disconnected
-from .files import File, wire_flags
+from .errors import BadReply, Disconnected, NoReply
+from .files import File, flags_of, over, wire_flags
 from .frames import Reply, Stat
+from .habits import Habits
+from .mount_path import MountPath
 from .pipeline import Pending, Pipeline
-from .stream import Stream, connected
+from .stream import NO_WORKER, Stream, connected
+from .tree_watch import CHANGES, TreeWatch
 from .watches import Notice
 
 __all__ = ["Client"]
@@ -27,7 +30,11 @@ T = TypeVar("T")
 _UNATTACHED = (errno.ENOMEM, errno.ENFILE, errno.EMFILE, errno.ENOSPC)
 
 
-class Client:
+def _raw(name: str) -> bytes:
+    return name.encode("utf-8", "surrogateescape")
+
+
+class Client(Habits):
     """A client that is attached to a mount, over the Unix socket of its server.
 
     Methods are named as those of `os` are, and a refused call raises `OSError` with its number
@@ -51,6 +58,7 @@ class Client:
         if timeout is not None and timeout <= 0:
             raise ValueError("a timeout is more than 0 seconds")
         self._begin(connected(path, timeout), timeout)
+        self._path = path
 
     @classmethod
     def from_socket(cls, link: socket.socket, *, timeout: Optional[float] = None) -> Client:
@@ -61,6 +69,8 @@ class Client:
 
     def _begin(self, link: socket.socket, timeout: Optional[float]) -> None:
         self._stream: Optional[Stream] = Stream(link, timeout)
+        self._path: Optional[Path] = None
+        self._timeout = timeout
         self._lock = threading.RLock()
         self._busy = False
         self._first = True
@@ -141,6 +151,8 @@ class Client:
 
     def _give_up(self, error: BaseException, unsettled: Sequence[Pending[Any]]) -> None:
         """Drops a connection that is lost or out of step, and tells each call without a reply."""
+        if self._first and isinstance(error, NoReply):
+            self._hint = f"; {NO_WORKER}"
         reason = (str(error) or type(error).__name__) + self._hint
         self._drop(reason)
         kind = type(error) if isinstance(error, Disconnected) else Disconnected
@@ -154,7 +166,10 @@ class Client:
         requests = b"".join(pending.call.frame for pending in batch)
         asked = iter(batch)
         for body in self._stream.replies(requests, len(batch)):
-            reply = frames.reply(next(asked).call.op, body)
+            call = next(asked).call
+            reply = frames.reply(call.op, body)
+            if reply.refused is None and not call.fits(reply.answer):
+                raise BadReply("a reply has more than was asked for, or less than it must have")
             if self._first and reply.place is None and reply.refused in _UNATTACHED:
                 self._hint = f" (its first reply was: {os.strerror(reply.refused)})"
             self._first = False
@@ -191,6 +206,9 @@ class Client:
             if self._stream is not None:
                 with contextlib.suppress(OSError):
                     self.detach()
+
+    names_limit = 1_048_576
+    """The most names that `listdir` gathers."""
 
     # By path.
 
@@ -259,24 +277,62 @@ class Client:
     def listdir(self, path: Path = "/") -> List[str]:
         """The names in a directory, in the order of their bytes, as they are at one moment.
 
-        It opens the directory, asks for 256 names at a time, and closes it.
+        It opens the directory, asks for 256 names at a time, and closes it. More than
+        `names_limit` names are EOVERFLOW.
         """
         found: List[str] = []
         with self.open(path, os.O_RDONLY | os.O_DIRECTORY) as directory:
             while True:
                 some = directory.names()
+                if found and some and _raw(found[-1]) >= _raw(some[0]):
+                    raise self._bad("the server sent names that are out of order")
                 found += some
                 if len(some) < 256:
                     return found
+                if len(found) > self.names_limit:
+                    raise OSError(errno.EOVERFLOW, f"more than {self.names_limit} names", path)
 
-    def open(self, path: Path, flags: int = os.O_RDONLY, mode: int = 0o644) -> File:
-        """Opens a file or directory, or makes a file, by the flags of `os.open`.
+    def _bad(self, reason: str) -> BadReply:
+        """The error of replies that contradict each other, after which nothing is asked."""
+        self._drop(reason)
+        return BadReply(reason)
+
+    @overload
+    def open(self, path: Path, flags: int = os.O_RDONLY, mode: int = 0o644) -> File: ...
+
+    @overload
+    def open(self, path: Path, flags: str, mode: int = 0o644, *, buffering: int = -1,
+             encoding: Optional[str] = None, errors: Optional[str] = None,
+             newline: Optional[str] = None) -> Any: ...
+
+    @overload
+    def open(self, path: Path, *, mode: str, buffering: int = -1, encoding: Optional[str] = None,
+             errors: Optional[str] = None, newline: Optional[str] = None) -> Any: ...
+
+    def open(self, path: Path, flags: Union[int, str] = os.O_RDONLY,
+             mode: Union[int, str] = 0o644, *, buffering: int = -1,
+             encoding: Optional[str] = None, errors: Optional[str] = None,
+             newline: Optional[str] = None) -> Any:
+        """Opens a file or directory, or makes a file, by the flags of `os.open`: a raw `File`.
 
         They are O_RDONLY, O_WRONLY or O_RDWR, with O_CREAT, O_EXCL, O_TRUNC, O_APPEND and
         O_DIRECTORY; O_CLOEXEC and O_NOFOLLOW say what is so anyway, and others are EINVAL.
+
+        In place of flags there may be a text, as "r", "wb" or "a+": then it is what the built-in
+        `open` gives, with its further arguments. A text's encoding is UTF-8 if none is said.
         """
+        if isinstance(mode, str):
+            flags, mode = mode, 0o644
+        if isinstance(flags, str):
+            words, flags = flags, flags_of(flags, buffering, encoding, errors, newline)
+            raw = self.open(path, flags, mode)
+            return over(raw, words, buffering, encoding, errors, newline)
         descriptor = self.call(calls.open(path, wire_flags(flags), mode))
         return File(self, descriptor, path, flags)
+
+    def path(self, *parts: str) -> MountPath:
+        """A path of the mount, with methods as those of `pathlib.Path`."""
+        return MountPath(self, *parts)
 
     # Watches.
 
@@ -294,3 +350,22 @@ class Client:
     def notices(self, count: int = 65) -> List[Notice]:
         """Takes out the first unread notices, at most 65; it doesn't wait for one."""
         return self.call(calls.notices(count))
+
+    def watch_tree(self, path: Path = "/", mask: int = CHANGES, *, clients: int = 7,
+                   interval: float = 0.1) -> TreeWatch:
+        """Hears of all that happens below a directory: `for notice in client.watch_tree("/src")`.
+
+        It has clients of its own, at most so many, each of which watches ten directories and
+        takes a worker of the server. It asks them for notices, after `interval` seconds at the
+        latest. API.md tells what it can't promise.
+        """
+        if self._path is None:
+            raise ValueError("a client over a socket of its own can't make further ones")
+        timeout = self._timeout or 30.0
+
+        def attached() -> Client:
+            client = Client(self._path or "", timeout=timeout)
+            client.stat("/")
+            return client
+
+        return TreeWatch(attached, os.fsdecode(os.fspath(path)), mask, clients, interval)

@@ -8,13 +8,13 @@ from typing import TYPE_CHECKING, Any, List, Optional, TypeVar
 
 from . import calls
 from .calls import READ_LIMIT, Call, Path
-from .errors import Disconnected
+from .errors import BadReply, Disconnected
 from .frames import Stat
 
 if TYPE_CHECKING:
     from .client import Client
 
-__all__ = ["File", "wire_flags"]
+__all__ = ["File", "flags_of", "over", "wire_flags"]
 
 T = TypeVar("T")
 
@@ -36,6 +36,50 @@ def wire_flags(flags: int) -> int:
             wire |= bit
             rest &= ~flag
     return wire | (_UNKNOWN if rest else 0)
+
+
+# As many bytes are read before the file's size is asked.
+_UNASKED = 1 << 20
+
+_MODES = {"r": os.O_RDONLY, "w": os.O_WRONLY | os.O_CREAT | os.O_TRUNC,
+          "a": os.O_WRONLY | os.O_CREAT | os.O_APPEND, "x": os.O_WRONLY | os.O_CREAT | os.O_EXCL}
+
+
+def flags_of(mode: str, buffering: int = -1, encoding: Optional[str] = None,
+             errors: Optional[str] = None, newline: Optional[str] = None) -> int:
+    """The flags of `os.open` for a mode of the built-in `open`; `ValueError` for no such mode."""
+    kinds = [letter for letter in mode if letter in _MODES]
+    if len(kinds) != 1 or len(set(mode)) != len(mode) or set(mode) - set("rwaxbt+"):
+        raise ValueError(f"invalid mode: {mode!r}")
+    if "b" in mode and "t" in mode:
+        raise ValueError("can't have text and binary mode at once")
+    if "b" in mode and (encoding, errors, newline) != (None, None, None):
+        raise ValueError("binary mode doesn't take an encoding, errors or newline argument")
+    if buffering == 0 and "b" not in mode:
+        raise ValueError("can't have unbuffered text I/O")
+    flags = _MODES[kinds[0]]
+    return flags & ~_ACCESS | os.O_RDWR if "+" in mode else flags
+
+
+def over(raw: File, mode: str, buffering: int, encoding: Optional[str], errors: Optional[str],
+         newline: Optional[str]) -> Any:
+    """What the built-in `open` puts over a raw file for this mode."""
+    if buffering == 0:
+        return raw
+    size = buffering if buffering > 1 else READ_LIMIT
+    if "a" in mode:
+        raw.seek(0, os.SEEK_END)
+    if "+" in mode:
+        buffered: Any = io.BufferedRandom(raw, size)
+    elif "r" in mode:
+        buffered = io.BufferedReader(raw, size)
+    else:
+        buffered = io.BufferedWriter(raw, size)
+    if "b" in mode:
+        return buffered
+    text = io.TextIOWrapper(buffered, encoding or "utf-8", errors, newline, buffering == 1)
+    text.mode = mode  # type: ignore[misc]
+    return text
 
 
 class File(io.RawIOBase):
@@ -92,12 +136,23 @@ class File(io.RawIOBase):
                 return b"".join(pieces)
 
     def readall(self) -> bytes:
-        """All bytes from the place to the end of the file."""
+        """All bytes from the place to the end of the file.
+
+        A server that goes on for longer than it says that the file is, is `BadReply`.
+        """
         pieces: List[bytes] = []
+        size, times = _UNASKED, 0
         while True:
             pieces.append(self._call(calls.read(self.descriptor, READ_LIMIT)))
             if len(pieces[-1]) < READ_LIMIT:
                 return b"".join(pieces)
+            gathered = len(pieces) * READ_LIMIT
+            if gathered > size:
+                size = self.fstat().st_size
+                # Once it may be that the file was cut between a read and this.
+                times = times + 1 if gathered > size + READ_LIMIT else 0
+                if times > 1:
+                    raise self._client._bad("the server sent more of a file than it has")
 
     def readinto(self, buffer: Any) -> int:
         """Fills a buffer from the place, as far as the file goes; how many bytes came."""

@@ -16,7 +16,7 @@ from typing import Any, Callable, Dict, List, NamedTuple, Optional, Tuple
 from .errors import BadReply
 from .watches import Mask, Notice
 
-__all__ = ["FRAME_LIMIT", "TEXT_LIMIT", "Op", "Reply", "Splitter", "Stat", "TooLong",
+__all__ = ["FRAME_LIMIT", "REFUSALS", "TEXT_LIMIT", "Op", "Reply", "Splitter", "Stat", "TooLong",
            "reply", "request"]
 
 FRAME_LIMIT = 70_000
@@ -189,6 +189,11 @@ class _Reader:
             raise BadReply("a reply has bytes behind its end")
 
 
+# The refusals that there are, all others are no reply: the table of docs/FORMATS.md.
+REFUSALS = frozenset((1, 2, 9, 12, 16, 17, 18, 20, 21, 22, 23, 24, 27, 28, 30, 36, 39, 40, 61, 75,
+                      95))
+_MODE_LIMIT, _SIZE_LIMIT, _NAME_LIMIT, _TARGET_LIMIT = 0o7777, 2**63 - 1, 255, 4_095
+
 _KINDS = {1: stat.S_IFDIR, 2: stat.S_IFREG, 3: stat.S_IFLNK}
 
 
@@ -198,6 +203,8 @@ def _stat(reader: _Reader) -> Stat:
         raise BadReply("a reply has an object of an unknown kind")
     mode, uid, gid = reader.number(4), reader.number(4), reader.number(4)
     size, links = reader.number(8), reader.number(4)
+    if mode > _MODE_LIMIT or size > _SIZE_LIMIT:
+        raise BadReply("a reply has an object whose mode or size nothing has")
     return Stat(kind | mode, links, uid, gid, size)
 
 
@@ -205,9 +212,42 @@ def _texts(reader: _Reader) -> List[bytes]:
     return [reader.text() for _ in range(reader.number(2))]
 
 
+def _is_name(name: bytes) -> bool:
+    """Whether a directory may have a name."""
+    return (1 <= len(name) <= _NAME_LIMIT and name not in (b".", b"..")
+            and not {0, 47} & set(name))
+
+
+def _target(reader: _Reader) -> bytes:
+    target = reader.text()
+    if not 1 <= len(target) <= _TARGET_LIMIT or 0 in target:
+        raise BadReply("a reply has a target that no symbolic link has")
+    return target
+
+
+def _attributes(reader: _Reader) -> List[bytes]:
+    names = _texts(reader)
+    if not all(1 <= len(name) <= _NAME_LIMIT and 0 not in name for name in names):
+        raise BadReply("a reply has a name that no attribute has")
+    return names
+
+
+def _names(reader: _Reader) -> List[bytes]:
+    """Names of a directory, which lead to nothing outside of it, in the order of their bytes."""
+    names = _texts(reader)
+    if not all(map(_is_name, names)):
+        raise BadReply("a reply has a name that no directory has")
+    if any(one >= other for one, other in zip(names, names[1:])):
+        raise BadReply("a reply has names that are out of order")
+    return names
+
+
 def _notice(reader: _Reader) -> Notice:
     wd, mask, cookie = reader.number(4, signed=True), reader.number(4), reader.number(4)
-    return Notice(wd, Mask(mask), cookie, reader.text().decode("utf-8", "surrogateescape"))
+    name = reader.text()
+    if name and not _is_name(name):
+        raise BadReply("a notice has a name that no directory has")
+    return Notice(wd, Mask(mask), cookie, name.decode("utf-8", "surrogateescape"))
 
 
 def _notices(reader: _Reader) -> List[Notice]:
@@ -217,14 +257,14 @@ def _notices(reader: _Reader) -> List[Notice]:
 _ANSWERS: Dict[Op, Callable[[_Reader], Any]] = {
     Op.STAT: _stat,
     Op.FSTAT: _stat,
-    Op.READLINK: _Reader.text,
+    Op.READLINK: _target,
     Op.GETXATTR: _Reader.text,
     Op.READ: lambda reader: reader.take(reader.number(4)),
     Op.OPEN: lambda reader: reader.number(4),
     Op.WRITE: lambda reader: reader.number(4),
     Op.SEEK: lambda reader: reader.number(8),
-    Op.NAMES: _texts,
-    Op.LISTXATTR: _texts,
+    Op.NAMES: _names,
+    Op.LISTXATTR: _attributes,
     Op.ARM: lambda reader: reader.number(4, signed=True),
     Op.NOTICES: _notices,
 }
@@ -239,6 +279,8 @@ def reply(op: Op, body: bytes) -> Reply:
         place = reader.number(8)
     if status in (1, 2):
         refused = reader.number(1)
+        if refused not in REFUSALS:
+            raise BadReply(f"a reply has the unknown error {refused}")
     elif status == 0:
         answer = _ANSWERS[op](reader) if op in _ANSWERS else None
     else:

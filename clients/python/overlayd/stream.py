@@ -13,7 +13,11 @@ from . import frames
 from .calls import Path
 from .errors import BadReply, Disconnected, NoReply
 
-__all__ = ["Stream", "connected"]
+__all__ = ["NO_WORKER", "Stream", "connected"]
+
+NO_WORKER = ("the server may have no free worker: each connection holds one until it ends "
+             "(`overlayd serve --workers N`)")
+"""What a first call without a reply may come of."""
 
 _PIECE = 1 << 17
 _GONE = (BrokenPipeError, ConnectionResetError)
@@ -33,7 +37,8 @@ def connected(path: Path, timeout: Optional[float]) -> socket.socket:
     except OSError as error:
         link.close()
         if error.errno == errno.EAGAIN:
-            raise NoReply(f"the server at {path!r} took no connection within {timeout:g} seconds")
+            raise NoReply(f"the server at {path!r} took no connection within {timeout:g} seconds; "
+                          f"{NO_WORKER}")
         if error.errno is None:
             raise
         raise OSError(error.errno, error.strerror, path) from None

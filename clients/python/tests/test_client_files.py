@@ -177,9 +177,8 @@ class Writing(FileCase):
 
     def test_the_size_limit(self):
         data = bytes(70_000)
-        with self.file(writing(data[:65_536], 5), writing(b"X", 0)) as file:
+        with self.file(writing(data[:65_536], 5)) as file:
             self.assertEqual(file.write(data), 5)
-            self.assertEqual(file.write(b"X"), 0)
         refused = "0000000a 01 0000000000000009 1b"
         with self.file(writing(data[:65_536], 65_536), (writing(data[65_536:], 0)[0], refused),
                        (writing(b"X", 0)[0], refused)) as file:

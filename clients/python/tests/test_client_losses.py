@@ -136,10 +136,20 @@ class Silent(ScriptedCase):
                 c.stat("/")
             self.assertIsInstance(lost.exception, TimeoutError)
             self.assertIsInstance(lost.exception, ConnectionError)
-            self.assertEqual(str(lost.exception), "no reply came within 0.05 seconds; it was being "
-                             "asked: stat('/')")
+            self.assertEqual(str(lost.exception), "no reply came within 0.05 seconds; the server "
+                             "may have no free worker: each connection holds one until it ends "
+                             "(`overlayd serve --workers N`); it was being asked: stat('/')")
             self.assertTrue(c.closed)
             self.assertEqual(take(far, 9), h("00000004 01 0001 2f"))
+
+    def test_a_server_that_has_answered_has_a_worker(self):
+        near, far = socket.socketpair()
+        with far, Client.from_socket(near, timeout=0.05) as c:
+            far.sendall(DONE)
+            c.unlink("/f")
+            with self.assertRaises(NoReply) as lost:
+                c.unlink("/f")
+            self.assertNotIn("worker", str(lost.exception))
 
     def test_a_server_that_stops_within_a_reply(self):
         near, far = socket.socketpair()

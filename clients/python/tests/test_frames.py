@@ -124,6 +124,10 @@ def bodies(splitter):
         found.append(body)
 
 
+# The errors of the table in docs/FORMATS.md.
+NUMBERS = {1, 2, 9, 12, 16, 17, 18, 20, 21, 22, 23, 24, 27, 28, 30, 36, 39, 40, 61, 75, 95}
+
+
 class Requests(unittest.TestCase):
     def test_each_request_has_its_bytes(self):
         for op, values, wanted in REQUESTS:
@@ -185,10 +189,15 @@ class Replies(unittest.TestCase):
 
     def test_refusals_of_each_op_and_number(self):
         for op in Op:
-            for number in range(1, 256):
-                taken = frames.reply(op, h("01 0000000000000007") + bytes((number,)))
-                self.assertEqual(taken, (7, number, None))
-                self.assertEqual(frames.reply(op, bytes((2, number))), (None, number, None))
+            for number in range(256):
+                bodies = h("01 0000000000000007") + bytes((number,)), bytes((2, number))
+                if number in NUMBERS:
+                    self.assertEqual(frames.reply(op, bodies[0]), (7, number, None))
+                    self.assertEqual(frames.reply(op, bodies[1]), (None, number, None))
+                    continue
+                for body in bodies:
+                    with self.assertRaises(BadReply):
+                        frames.reply(op, body)
 
     def test_a_cut_body_is_no_reply(self):
         whole = [(op, h(frame)[4:]) for op, frame, _, _ in ANSWERS]
@@ -213,6 +222,43 @@ class Replies(unittest.TestCase):
         for kind in [0, *range(4, 256)]:
             with self.assertRaises(BadReply):
                 frames.reply(Op.STAT, bytes(9) + bytes((kind,)) + bytes(24))
+
+    def test_modes_and_sizes_that_nothing_has(self):
+        whole = h("00 0000000000000007 02 00000fff 00000000 00000000 7fffffffffffffff 00000001")
+        self.assertEqual(frames.reply(Op.STAT, whole).answer.st_size, 2**63 - 1)
+        for at, value in [(10, 0xff), (12, 0x10), (22, 0x80)]:
+            body = bytearray(whole)
+            body[at] = value
+            with self.subTest(at), self.assertRaises(BadReply):
+                frames.reply(Op.FSTAT, bytes(body))
+
+    def test_names_that_no_directory_has(self):
+        def listed(*names):
+            body = h("00 0000000000000007") + len(names).to_bytes(2, "big")
+            body += b"".join(len(name).to_bytes(2, "big") + name for name in names)
+            return frames.reply(Op.NAMES, body).answer
+
+        for names in [(), (b"...",), (b"a", b"b"), (b"n" * 255,), (b"a\xff",), (b"a", b"a.")]:
+            self.assertEqual(listed(*names), list(names))
+        for names in [(b"",), (b".",), (b"..",), (b"a/b",), (b"/",), (b"a\0",), (b"n" * 256,),
+                      (b"a", b"a"), (b"b", b"a")]:
+            with self.subTest(names), self.assertRaises(BadReply):
+                listed(*names)
+
+    def test_targets_attributes_and_notices_that_nothing_has(self):
+        place, watch = h("00 0000000000000007"), h("00000001 00000100 00000000")
+        forms = {Op.READLINK: (place, (b"/a", b"\xff", b"t" * 4_095),
+                               (b"", b"a\0", b"t" * 4_096)),
+                 Op.LISTXATTR: (place + h("0001"), (b"user.a", b"n" * 255),
+                                (b"", b"\0", b"n" * 256)),
+                 Op.NOTICES: (place + h("0001") + watch, (b"", b"a", b"..."),
+                              (b".", b"..", b"a/b", b"a\0", b"n" * 256))}
+        for op, (head, good, bad) in forms.items():
+            for text in good:
+                frames.reply(op, head + len(text).to_bytes(2, "big") + text)
+            for text in bad:
+                with self.subTest(op=op, text=text[:9]), self.assertRaises(BadReply):
+                    frames.reply(op, head + len(text).to_bytes(2, "big") + text)
 
     def test_names_that_are_no_utf_8(self):
         body = h("00 0000000000000005 0001 00000001 00000100 00000000 0002 41ff")

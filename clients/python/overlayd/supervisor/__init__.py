@@ -1,0 +1,1 @@
+"""`overlayd-serve`: starts a server, tells systemd of it, saves its upper and ends it in order."""
