@@ -1,0 +1,3 @@
+"""x"""
+def join(saved, base, output):
+    pass

@@ -1,0 +1,3 @@
+"""x"""
+def check_script_file(path):
+    pass
