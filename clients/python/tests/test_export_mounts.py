@@ -220,19 +220,34 @@ class FolderClient:
         """As `os.lstat`."""
         return os.lstat(self._at(path))
 
-    def listdir(self, path: str) -> List[str]:
-        """As the engine: without the whiteouts that the kernel lists."""
+    def open(self, path: str, flags: int = os.O_RDONLY) -> Any:
+        """A file to read, or a directory to list."""
         there = self._at(path)
-        return [name for name in os.listdir(there) if os.path.lexists(os.path.join(there, name))]
-
-    def open(self, path: str) -> Any:
-        """A file to read."""
-        return open(self._at(path), "rb")
+        return FolderListing(there) if flags & os.O_DIRECTORY else open(there, "rb")
 
     @contextlib.contextmanager
     def pipeline(self) -> Iterator["FolderPipeline"]:
         """Calls that are made at once."""
         yield FolderPipeline(self, self._at)
+
+
+class FolderListing:
+    """An open directory, as the engine lists it: without the whiteouts that the kernel lists."""
+
+    def __init__(self, path: str) -> None:
+        self._names = [name for name in os.listdir(path)
+                       if os.path.lexists(os.path.join(path, name))]
+
+    def __enter__(self) -> "FolderListing":
+        return self
+
+    def __exit__(self, *what: Any) -> None:
+        pass
+
+    def names(self, count: int = 256) -> List[str]:
+        """The next names."""
+        found, self._names = self._names[:count], self._names[count:]
+        return found
 
 
 class FolderPipeline:

@@ -1,22 +1,17 @@
 """The command `overlayd-import`."""
 
 import argparse
-import contextlib
 import os
-import shutil
-import signal
 import sys
-import tempfile
-import threading
-from typing import BinaryIO, Iterator, List, Optional, Set, cast
+from typing import List, Optional
 
 from .. import __version__
 from . import limits
 from .checking import check
 from .joining import join
-from .descriptors import Identity
 from .images import Choice
 from .keeping import Keep
+from .output import Output, unwound_by_sigterm
 from .plan import Wish, file_limit_of, has_own_bytes, plan, write
 from .references import References
 from .scripts import check_script_file
@@ -89,7 +84,9 @@ BASE, with BASE's options.
 checking a manifest: --check FILE reads one that is there, whole, and prints a line for each of its
 faults: file, line, layer and entry, path, key, and what is allowed. What overlayd says of it, which
 is the first fault alone and in one word, stands in the last line, on standard error. The status is
-1 where there is a fault.
+1 where there is a fault. Where there is none, warnings tell what is likely a mistake: a decimal
+mode that reads as an octal one, layers without entries, a redirect that leads to nothing, an
+attribute that makes a device.
 
 checking a script: --check-script FILE reads commands of `overlayd play` and prints a line for each
 that is none: file, line, the word and what is allowed.
@@ -196,75 +193,17 @@ def check_manifest(path: str) -> int:
     name = "standard input" if path == "-" else shown(path)
     for fault in found.faults:
         print(": ".join(part for part in (f"{name}:{fault.line}", fault.place, fault.what) if part))
+    for doubt in found.doubts:
+        print(f"{name}:{doubt.line}: {doubt.place}: warning: {doubt.what}")
     sys.stdout.flush()
     count = len(found.faults)
     if found.first is None:
-        told = f"no fault; layers: {found.layers}, entries: {found.entries}"
+        warned = f", warnings: {len(found.doubts)}" if found.doubts else ""
+        told = f"no fault; layers: {found.layers}, entries: {found.entries}{warned}"
     else:
         told = f"{count} fault{'s' * (count > 1)}; overlayd says `{found.first}`"
     print(f"{PROGRAM}: {name}: {told}", file=sys.stderr)
     return 0 if found.first is None else 1
-
-
-class Output:
-    """A file that appears when it is whole; or a stream, which with `waits` gets the manifest when
-    it is whole."""
-
-    def __init__(self, path: str, waits: bool) -> None:
-        self._path = path
-        self._partial = ""
-        self._final: Optional[BinaryIO] = None
-        if path == "-":
-            self._final = cast(BinaryIO, sys.stdout.buffer)
-        elif os.path.exists(path) and not os.path.isfile(path):
-            self._final = open(path, "wb")
-        if self._final is None:
-            self.stream = self._beside()
-        elif waits:
-            self.stream = cast(BinaryIO, tempfile.TemporaryFile(prefix=f"{PROGRAM}-"))
-        else:
-            self.stream = self._final
-
-    def _beside(self) -> BinaryIO:
-        """A file with another name in the same folder."""
-        folder, name = os.path.split(self._path)
-        try:
-            descriptor, self._partial = tempfile.mkstemp(
-                prefix=f".{name}.", suffix=".part", dir=folder or ".")
-        except OSError as error:
-            raise OSError(error.errno, error.strerror, self._path) from None
-        return os.fdopen(descriptor, "wb", buffering=1 << 20)
-
-    def identities(self) -> Set[Identity]:
-        """The unfinished file, which no source should be read to have."""
-        if not self._partial:
-            return set()
-        status = os.fstat(self.stream.fileno())
-        return {(status.st_dev, status.st_ino)}
-
-    def is_beside(self) -> bool:
-        """Whether it is a file, beside which another one may be."""
-        return self._final is None
-
-    def keep(self) -> None:
-        """The manifest is whole."""
-        if self._final is None:
-            mask = os.umask(0)
-            os.umask(mask)
-            os.fchmod(self.stream.fileno(), 0o666 & ~mask)
-            self.stream.close()
-            os.replace(self._partial, self._path)
-            return
-        if self.stream is not self._final:
-            self.stream.seek(0)
-            shutil.copyfileobj(self.stream, self._final, 1 << 20)
-        self._final.flush()
-
-    def drop(self) -> None:
-        """It isn't; nothing of it stays."""
-        if self._partial:
-            self.stream.close()
-            os.unlink(self._partial)
 
 
 def run(words: argparse.Namespace, report: Report) -> None:
@@ -298,19 +237,6 @@ def run(words: argparse.Namespace, report: Report) -> None:
         raise
     report.sum_up(writer.layers, writer.objects, writer.bytes,
                   "times of symbolic links" if keep.times else "times")
-
-
-@contextlib.contextmanager
-def unwound_by_sigterm() -> Iterator[None]:
-    """Lets SIGTERM end the process so that unfinished files go."""
-    if threading.current_thread() is not threading.main_thread():
-        yield
-        return
-    before = signal.signal(signal.SIGTERM, lambda number, frame: sys.exit(128 + number))
-    try:
-        yield
-    finally:
-        signal.signal(signal.SIGTERM, before)
 
 
 def main(arguments: Optional[List[str]] = None) -> int:

@@ -22,6 +22,10 @@ class References:
             self._paths.append(path)
         return self._paths.index(path)
 
+    def add(self, path: str) -> None:
+        """Gives a file the next number, whatever its name is."""
+        self._paths.append(path)
+
     def store(self, manifest: str) -> Store:
         """A file beside a manifest for bytes that no other file has, which gets the next number."""
         folder, name = os.path.split(manifest)
