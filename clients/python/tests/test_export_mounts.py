@@ -320,10 +320,34 @@ class MountTest(unittest.TestCase):
     def test_a_refusal(self) -> None:
         """Another refusal ends the reading."""
         client = FolderClient(str(self.root))
-        client.listdir = lambda path: ["x" * 300]  # type: ignore[method-assign]
+        client.open = mock.Mock(  # type: ignore[method-assign]
+            side_effect=OSError(errno.EIO, "no"))
         with self.assertRaises(OSError) as caught:
             list(MountTree(client).entries())  # type: ignore[arg-type]
-        self.assertEqual(caught.exception.errno, errno.ENAMETOOLONG)
+        self.assertEqual(caught.exception.errno, errno.EIO)
+
+    def test_names_that_are_none(self) -> None:
+        """A name that no directory has, one that is there twice, and a file that is longer than
+        was said, end the reading; nothing is written for them."""
+        for names in (["s", "s/pwned"], ["q/../../x"], [""], ["."], [".."], ["a\0b"], ["x" * 256],
+                      ["a", "a"]):
+            client = FolderClient(str(self.root))
+            listing = mock.MagicMock()
+            listing.__enter__.return_value.names.side_effect = [names, []]
+            client.open = mock.Mock(return_value=listing)  # type: ignore[method-assign]
+            with self.subTest(names), self.assertRaises(Unsayable):
+                list(MountTree(client).entries())  # type: ignore[arg-type]
+
+    def test_bytes_without_an_end(self) -> None:
+        """More bytes than the size that was told, and a size over the manifest's limit."""
+        (self.root / "f").write_bytes(b"x")
+        tree = MountTree(FolderClient(str(self.root)))  # type: ignore[arg-type]
+        entry = next(entry for entry in tree.entries() if entry.path == "/f")
+        (self.root / "f").write_bytes(b"x" * 5000)
+        with self.assertRaises(Unsayable):
+            tree.read(entry)
+        with self.assertRaises(Unsayable):
+            list(MountTree(FolderClient(str(self.root)), 4999).entries())  # type: ignore[arg-type]
 
     def test_command(self) -> None:
         """A layer of what was changed, and lines that say how much it is."""

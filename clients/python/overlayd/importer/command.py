@@ -60,8 +60,8 @@ Refused in any case: files whose bytes are in a lower layer (metacopy) where the
 none for them; tars that aren't whole; blobs of an OCI layout whose digest is another; what changes
 while it is read.
 
-bounds: without --file-limit no file has more than 1 GiB, nor a sparse one in a tar more than 1 MiB
-and 1,000 times what the tar has of it. Of what is compressed at most 1,000 times its size, or 32
+bounds: without --file-limit a file of more than 1 GiB is left out, and a sparse one in a tar of more
+than 1 MiB and 1,000 times what the tar has of it ends the import. Of what is compressed at most 1,000 times its size, or 32
 MiB, and never more than 16 GiB is unpacked, and no more is read from a stream; --unpack-limit N
 says N bytes instead. An image has at most 128 layers, and its descriptions 4 MiB each.
 

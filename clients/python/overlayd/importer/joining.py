@@ -19,7 +19,11 @@ _HEAD_BYTES = 1 << 24
 def join(saved: str, base: str, output: str) -> None:
     """Writes a manifest: the options of `base`, the one layer of `saved`, the lower layers of
     `base`, whose blobs are named from where the manifest will be."""
-    upper, whole = _Layers(saved), _Layers(base)
+    with open(saved, "rb") as first, open(base, "rb") as second:
+        _join(_Layers(saved, first), _Layers(base, second), saved, base, output)
+
+
+def _join(upper: "_Layers", whole: "_Layers", saved: str, base: str, output: str) -> None:
     if whole.options.get("upper") is False:
         raise Refused(f"{shown(base)}: upper = false: nothing of it could be changed, or saved")
     if len(upper.places) != 1 or set(upper.options) - {"file_limit"}:
@@ -56,9 +60,9 @@ class _Layers:
     """The options and layers of one manifest. Of one of lines, as overlayd writes them, `places`
     says where in the file each layer begins and ends; another one is read whole."""
 
-    def __init__(self, path: str) -> None:
+    def __init__(self, path: str, stream: BinaryIO) -> None:
         self._path = path
-        self._stream: BinaryIO = open(path, "rb")
+        self._stream = stream
         self._tables: Optional[List[Found]] = None
         self.places, head = self._looked_through()
         top = self._read(head)

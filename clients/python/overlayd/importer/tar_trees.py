@@ -235,16 +235,17 @@ class _Reading:
         return file
 
     def _size_fault(self, member: Member) -> Optional[str]:
-        """Why a file is too large; None where it isn't. A sparse one that nobody asked for is no
-        more than so many times what the tar has of it."""
+        """Why a file is too large; None where it isn't. Refused where nobody said how large one
+        may be, and it is so many times what the tar has of it."""
         if member.size > self._keep.most:
             return limits.size_fault(member.size, self._keep.most)
         if self._keep.asked or member.sparse is None or member.size <= limits.FILE_LIMIT:
             return None
         if member.size <= limits.GROWTH * member.stored:
             return None
-        return (f"a file of {member.size:,} bytes, of which the tar has {member.stored:,} "
-                "(--file-limit)")
+        raise Refused(f"{shown(self._layer.name)}: {shown(member.name)}: a file of "
+                      f"{member.size:,} bytes, of which the tar has {member.stored:,}: "
+                      "--file-limit says whether it is taken")
 
     def _symlink(self, member: Member) -> Optional[Object]:
         fault = limits.target_fault(raw_of(member.linkname))

@@ -68,12 +68,12 @@ class TarLayer(Content, Layer):
         here, last, data = 0, -1, cast(Data, b"")
         with reading(self.name), self._blob.plain() as stream:
             for file in sorted(files, key=_offset):
-                offset, stretches = _place(file)
-                if self._number is not None and file.size and stretches is None:
-                    yield file, self._part(offset, file.size)
-                    continue
                 if not file.size:
                     yield file, b""
+                    continue
+                offset, stretches = _place(file)
+                if self._number is not None and stretches is None:
+                    yield file, self._part(offset, file.size)
                     continue
                 if offset != last and file.size > PIECE and is_plain:
                     data = self._long(self._blob.raw, offset, file.size, stretches)
