@@ -109,7 +109,7 @@ class _Script:
 
     def _of_client(self, words: List[bytes]) -> Optional[str]:
         client = words[0]
-        number = int(client) if len(client) <= 10 else _U32 + 1
+        number = _number(client)
         if number >= self._attached:
             return f"{_word(client)}: that many clients aren't attached before: {self._attached}"
         if number in self._detached:
@@ -156,6 +156,13 @@ def _escapes(kind: str) -> str:
     return r", of which a byte that isn't from ! to ~, and \, is \x and two digits; none is \-"
 
 
+def _number(digits: bytes) -> int:
+    """A number, which may begin with zeros; a larger one than any word can say, where it is long.
+    """
+    significant = digits.lstrip(b"0")
+    return int(significant or b"0") if len(significant) <= 20 else 1 << 70
+
+
 def _is(kind: str, word: bytes) -> bool:
     """Whether a word is of a kind."""
     if kind in _AS_BYTES:
@@ -169,9 +176,9 @@ def _is(kind: str, word: bytes) -> bool:
     if kind == "WHENCE":
         return word in (b"set", b"cur", b"end")
     digits = word[1:] if kind == "OFFSET" and word.startswith(b"-") else word
-    if not digits.isdigit() or len(digits) > 40:
+    if not digits.isdigit():
         return False
-    number = int(word)
+    number = -_number(digits) if digits is not word else _number(digits)
     if kind == "OFFSET":
         return -(1 << 63) <= number < 1 << 63
     return (1 if kind == "STEPS" else 0) <= number <= _MOST.get(kind, _U32)
