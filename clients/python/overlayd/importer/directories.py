@@ -19,6 +19,7 @@ from .objects import PIECE, WHITEOUT, Content, Data, Directory, File, Inode, Lon
 from .telling import ATTRIBUTE, OTHER_KIND, OVER_LIMIT, UNSAYABLE, Refused, Report, shown
 from .writing import Files, LayerWriter, write_tree
 
+_HAS_ATTRIBUTES = hasattr(os, "listxattr")
 _LETTERS = {stat.S_IFIFO: "p", stat.S_IFSOCK: "s", stat.S_IFCHR: "c", stat.S_IFBLK: "b"}
 
 
@@ -368,12 +369,12 @@ def _by_name(directory: int, name: str) -> bytes:
 
 def _attributes(where: Union[int, bytes]) -> List[Tuple[bytes, bytes]]:
     """The extended attributes; none where the system or the file system has none."""
-    if not hasattr(os, "listxattr"):
+    if not _HAS_ATTRIBUTES:
         return []
     follows = isinstance(where, int)
     try:
         names = os.listxattr(where, follow_symlinks=follows)
-        return [(os.fsencode(name), os.getxattr(where, name, follow_symlinks=follows))
+        return [] if not names else [(os.fsencode(name), os.getxattr(where, name, follow_symlinks=follows))
                 for name in names]
     except OSError as error:
         if error.errno in limits.NO_ATTRIBUTES or not follows and not os.path.exists("/proc/self"):

@@ -7,15 +7,15 @@ from typing import BinaryIO, Dict, Iterator, List, Optional, Sequence, Tuple
 
 from .limits import ATTRIBUTES_MOST, text_of
 from .meta import META, Meta, changed_at, meta_text
-from .objects import (ZEROS, Attributes, Content, Data, Directory, File, Inode, Long, Object,
+from .objects import (ZEROS, Content, Data, Directory, File, Inode, Long, Object,
                       Part, Symlink, Whiteout, walk)
 from .stores import Store
 from .telling import ATTRIBUTE, Refused, Report, shown
 
 _CONTROLS = bytes(set(range(0x20)) - set(b"\n\t")) + b"\x7f"
 _SHORT = b"\\\"\n\t"
-_ESCAPES = [(b"\\", b"\\\\"), (b'"', b'\\"'), (b"\n", b"\\n"), (b"\t", b"\\t")]
-_ESCAPES += [(bytes([code]), b"\\u%04x" % code) for code in _CONTROLS]
+_SHORT_ESCAPES = [(b"\\", b"\\\\"), (b'"', b'\\"'), (b"\n", b"\\n"), (b"\t", b"\\t")]
+_ESCAPES = [(bytes([code]), b"\\u%04x" % code) for code in _CONTROLS]
 _PLAIN = re.compile(r'[ !#-\[\]-~]*')
 _UTF8 = codecs.getincrementaldecoder("utf-8")
 _ZERO_DIGITS = hexlify(ZEROS)
@@ -24,12 +24,18 @@ _ZERO_DIGITS = hexlify(ZEROS)
 def _added(raw: bytes) -> int:
     """How many bytes escapes add to these."""
     short = len(raw) - len(raw.translate(None, _SHORT))
-    return short + 5 * (len(raw) - len(raw.translate(None, _CONTROLS)))
+    return short + 5 * _controls(raw)
+
+
+def _controls(raw: bytes) -> int:
+    return len(raw) - len(raw.translate(None, _CONTROLS))
 
 
 def _escaped(raw: bytes) -> bytes:
     """The inside of a TOML text, of bytes that are UTF-8."""
-    if _added(raw):
+    for plain, escape in _SHORT_ESCAPES:
+        raw = raw.replace(plain, escape)
+    if _controls(raw):
         for plain, escape in _ESCAPES:
             raw = raw.replace(plain, escape)
     return raw
@@ -46,9 +52,9 @@ def bytes_line(data: bytes) -> bytes:
     """The line of an entry that says a file's bytes, in the shortest of the three forms."""
     if not data:
         return b""
-    if not data.strip(b"\0"):
+    if not data[0] and not data.strip(b"\0"):
         return b"zeros = %d\n" % len(data)
-    if text_of(data) is not None and _added(data) <= len(data):
+    if _added(data) <= len(data) and text_of(data) is not None:
         return b'text = "%b"\n' % _escaped(data)
     return b'hex = "%b"\n' % hexlify(data)
 
@@ -195,8 +201,9 @@ class ManifestWriter:
         self._began = True
 
     def _entry(self, path: str, kind: str, lines: List[str]) -> None:
-        head = f'\n[[layer.entry]]\npath = {quoted(path)}\nkind = "{kind}"\n'
-        self._out.write((head + "".join(f"{line}\n" for line in lines)).encode("utf-8"))
+        text = "\n".join(["\n[[layer.entry]]", f"path = {quoted(path)}", f'kind = "{kind}"', *lines,
+                          ""])
+        self._out.write(text.encode("utf-8"))
         self.objects += 1
 
     @staticmethod
@@ -211,23 +218,25 @@ class ManifestWriter:
     def _inode_lines(self, node: Inode, mode: int) -> List[str]:
         lines = [f"mode = 0o{node.mode:o}"] if node.mode != mode else []
         lines += self._owner_lines(node)
-        attrs = attributes_of(node)
-        if attrs:
-            pairs = (f"[{quoted(name)}, {quoted(value)}]" for name, value in attrs)
-            lines.append(f"attrs = [{', '.join(pairs)}]")
+        if node.attrs or node.mtime is not None or isinstance(node, File) and node.special:
+            lines.append(f"attrs = [{', '.join(_pairs(node))}]")
         return lines
 
 
-def attributes_of(node: Inode) -> Attributes:
+def _pairs(node: Inode) -> List[str]:
     """The user attributes of an object, with the one that has its kind and times, if it fits."""
     special = node.special if isinstance(node, File) else None
-    if node.mtime is None and special is None or len(node.attrs) >= ATTRIBUTES_MOST:
-        return node.attrs
+    attrs = node.attrs
+    if special is not None:
+        attrs = tuple(pair for pair in attrs if pair[0] != META)
+    found = [f"[{quoted(name)}, {quoted(value)}]" for name, value in attrs]
     time = node.mtime or 0
-    if special is None:
-        return (*node.attrs, (META, changed_at(time)))
-    kept = tuple(pair for pair in node.attrs if pair[0] != META)
-    return (*kept, (META, meta_text(Meta(*special, time, time, time))))
+    if len(found) < ATTRIBUTES_MOST:
+        if special is not None:
+            found.append(f'["{META}", "{meta_text(Meta(*special, time, time, time))}"]')
+        elif node.mtime is not None:
+            found.append(f'["{META}", "{changed_at(time)}"]')
+    return found
 
 
 class LayerWriter:
@@ -260,7 +269,8 @@ class LayerWriter:
     def plain(self, path: str, node: Object) -> None:
         """Writes what has no bytes: a directory, a symbolic link or a whiteout."""
         self._report.progress(self._what, self._writer.objects, self._writer.bytes)
-        self._untimed(path, node)
+        if isinstance(node, Inode) and len(node.attrs) >= ATTRIBUTES_MOST:
+            self._untimed(path, node)
         if isinstance(node, Directory):
             if path == "/":
                 self._writer.root(node)
@@ -272,17 +282,17 @@ class LayerWriter:
         elif isinstance(node, Whiteout):
             self._writer.whiteout(path)
 
-    def _untimed(self, path: str, node: Object) -> None:
+    def _untimed(self, path: str, node: Inode) -> None:
         """Tells of what has as many user attributes as fit, so that its own isn't written."""
-        if isinstance(node, Inode) and len(node.attrs) >= ATTRIBUTES_MOST:
-            if node.mtime is not None or isinstance(node, File) and node.special is not None:
-                self._report.leave_out(self._what, path, ATTRIBUTE,
-                                       "its kind and times: it has 64 user attributes")
+        if node.mtime is not None or isinstance(node, File) and node.special is not None:
+            self._report.leave_out(self._what, path, ATTRIBUTE,
+                                   "its kind and times: it has 64 user attributes")
 
     def file(self, path: str, node: File, data: Data) -> None:
         """Writes a file under its first name."""
         self._report.progress(self._what, self._writer.objects, self._writer.bytes)
-        self._untimed(path, node)
+        if len(node.attrs) >= ATTRIBUTES_MOST:
+            self._untimed(path, node)
         self._writer.file(path, node, data)
         self.first(path, node)
 
