@@ -155,8 +155,9 @@ def _broken(data: bytearray, chance: random.Random) -> None:
         begin, end = chance.choice([(0, 100), (100, 108), (108, 116), (124, 136), (136, 148),
                                     (156, 157), (157, 257), (329, 345), (345, 500)])
         value = chance.choice([
-            bytes(chance.randrange(256) for _ in range(end - begin)), base256(chance.getrandbits(80)),
-            base256(-chance.getrandbits(60)), octal(chance.getrandbits(33)), b"\xff" * 12,
+            bytes(chance.randrange(256) for _ in range(end - begin)), b"\xff" * 12,
+            base256(chance.getrandbits(80)), base256(-chance.getrandbits(60)),
+            octal(chance.getrandbits(33)),
             chance.choice([b"S", b"x", b"g", b"L", b"K", b"1", b"2", b"3", b"5", b"7", b"V"])])
         data[at + begin:at + end] = value[:end - begin].ljust(end - begin, b"\0")
         data[at:at + BLOCK] = summed(bytearray(data[at:at + BLOCK]))

@@ -7,6 +7,7 @@ import os
 import shutil
 import stat
 import subprocess
+import sys
 import tarfile
 import tempfile
 import unittest
@@ -24,6 +25,7 @@ from .import_tools import file, tar_of
 
 TIME = 1_600_000_000_123_456_789
 META = "1 {} {} 5.000000000 1600000001.000000007 6.000000000"
+HIDDEN = '["user.overlayd.xattr.security.x", "00ff"]'
 # What a server saves: a further name of a file, a device, a fifo, a capability and times.
 SAVED = f"""[[layer]]
 
@@ -32,7 +34,7 @@ path = "/a"
 kind = "file"
 mode = 0o4755
 uid = 7
-attrs = [["user.overlayd.meta", "{META.format('-', 0)}"], ["user.overlayd.xattr.security.x", "00ff"]]
+attrs = [["user.overlayd.meta", "{META.format('-', 0)}"], {HIDDEN}]
 text = "new"
 
 [[layer.entry]]
@@ -134,7 +136,7 @@ class LayerTest(SavedCase):
         self.layer(self.base, "--manifest", self.saved())
         again = tools.run_import("--times", "--devices", "--xattrs",
                                  str(self.folder / "layer.tar"), str(self.folder / "root"))
-        self.assertIn('["user.overlayd.xattr.security.x", "00ff"]', again.manifest)
+        self.assertIn(HIDDEN, again.manifest)
         self.assertIn("1600000001.000000007", again.manifest)
         self.assertIn(f"1 c {os.makedev(1, 3)} ", again.manifest)
         self.assertIn('kind = "link"', again.manifest)
@@ -258,7 +260,30 @@ class LayoutTest(SavedCase):
 
 
 class SourceTest(SavedCase):
-    """Tars that end without an end."""
+    """Tars by zstd, and tars that end without an end."""
+
+    def put(self, name: str, data: bytes) -> str:
+        """A file of the folder."""
+        path = self.folder / name
+        path.write_bytes(data)
+        return str(path)
+
+    def test_zstd(self) -> None:
+        """It is read by Python or by the program; where there is neither, that is told."""
+        program = shutil.which("zstd")
+        plain = self.put("layer.tar", tar_of([file("f", b"x" * 5000)]))
+        if program is not None:
+            packed = plain + ".zst"
+            subprocess.run([program, "-q", plain, "-o", packed], check=True)
+            self.assertEqual(tools.run_import(packed).manifest, tools.run_import(plain).manifest)
+        broken = self.put("broken.zst", b"\x28\xb5\x2f\xfd" + b"x" * 1000)
+        self.assertEqual((tools.run_import(broken).status, len(tools.run_import(broken).errors)),
+                         (1, 1))
+        if sys.version_info < (3, 14):
+            with mock.patch("shutil.which", return_value=None):
+                self.assertEqual(tools.run_import(broken), tools.Run(1, "", [
+                    f"overlayd-import: {broken}: compressed by zstd, which this Python can't read, "
+                    "and there is no program zstd"]))
 
     def test_no_end(self) -> None:
         """It is read and told; where bytes of a file are missing it is refused."""

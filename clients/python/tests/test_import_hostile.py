@@ -23,7 +23,7 @@ from overlayd.importer.telling import Refused, Report
 
 from . import hostile_tars
 from . import import_tools as tools
-from .import_tools import Member, file, tar_of, write_layout
+from .import_tools import file, tar_of, write_layout
 
 PYTHON = str(Path(__file__).resolve().parents[1])
 SECONDS, MEBIBYTES = 1.0, 64

@@ -4,15 +4,11 @@ import bz2
 import gzip
 import io
 import lzma
-import shutil
-import subprocess
-import sys
 import tarfile
 import tempfile
 import unittest
 from pathlib import Path
 from typing import List, Sequence
-from unittest import mock
 
 from . import import_tools as tools
 from .import_tools import Member, directory, file, saved_image, tar_of, write_layout
@@ -378,23 +374,6 @@ text = "zzz"
         self.assertEqual(run.manifest.split("[[layer]]\n"), ["upper = false\n\n", *wanted])
         run = tools.run_import(self.put("one.tar", saved_image([high])), "--read-only")
         self.assertEqual(run.manifest.split("[[layer]]\n"), ["upper = false\n\n", wanted[0], ""])
-
-    def test_zstd(self) -> None:
-        """It is read by Python or by the program; where there is neither, that is told."""
-        program = shutil.which("zstd")
-        plain = self.put("layer.tar", tar_of([file("f", b"x" * 5000)]))
-        if program is not None:
-            packed = plain + ".zst"
-            subprocess.run([program, "-q", plain, "-o", packed], check=True)
-            self.assertEqual(tools.run_import(packed).manifest, tools.run_import(plain).manifest)
-        broken = self.put("broken.zst", b"\x28\xb5\x2f\xfd" + b"x" * 1000)
-        self.assertEqual((tools.run_import(broken).status, len(tools.run_import(broken).errors)),
-                         (1, 1))
-        if sys.version_info < (3, 14):
-            with mock.patch("shutil.which", return_value=None):
-                self.assertEqual(tools.run_import(broken), tools.Run(1, "", [
-                    f"overlayd-import: {broken}: compressed by zstd, which this Python can't read, "
-                    "and there is no program zstd"]))
 
     def test_sparse(self) -> None:
         """The stretches of a sparse file stand at their places."""

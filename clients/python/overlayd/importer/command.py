@@ -60,10 +60,11 @@ Refused in any case: files whose bytes are in a lower layer (metacopy) where the
 none for them; tars that aren't whole; blobs of an OCI layout whose digest is another; what changes
 while it is read.
 
-bounds: without --file-limit a file of more than 1 GiB is left out, and a sparse one in a tar of more
-than 1 MiB and 1,000 times what the tar has of it ends the import. Of what is compressed at most 1,000 times its size, or 32
-MiB, and never more than 16 GiB is unpacked, and no more is read from a stream; --unpack-limit N
-says N bytes instead. An image has at most 128 layers, and its descriptions 4 MiB each.
+bounds: without --file-limit a file of more than 1 GiB is left out, and a sparse one in a tar of
+more than 1 MiB and 1,000 times what the tar has of it ends the import. Of what is compressed at
+most 1,000 times its size, or 32 MiB, and never more than 16 GiB is unpacked, and no more is read
+from a stream; --unpack-limit N says N bytes instead. An image has at most 128 layers, and its
+descriptions 4 MiB each.
 
 the most bytes of a file: a mount lets files grow to 1,048,576 bytes (1 MiB) where its manifest says
 no other file_limit. With --file-limit N the manifest says N. Without it, it says nothing where each
@@ -91,9 +92,9 @@ attribute that makes a device.
 checking a script: --check-script FILE reads commands of `overlayd play` and prints a line for each
 that is none: file, line, the word and what is allowed.
 
-memory: a MiB of one file at a time; besides, for tars, for directories that are made one and for those below
-a file whose bytes are in a lower layer, some 500 bytes for each object. A tar is read twice, in its
-order.
+memory: a MiB of one file at a time; besides, for tars, for directories that are made one and for
+those below a file whose bytes are in a lower layer, some 500 bytes for each object. A tar is read
+twice, in its order.
 
 exit status: 0 done; 1 refused or failed, with one line on standard error; 2 wrong usage.
 """
@@ -125,6 +126,13 @@ def parser() -> argparse.ArgumentParser:
     upper.add_argument("--read-only", action="store_true",
                        help="no upper layer: each source is a lower one, and nothing can be "
                             "changed")
+    _add_manifest_options(words)
+    _add_keeping(words)
+    return words
+
+
+def _add_manifest_options(words: argparse.ArgumentParser) -> None:
+    """The options that say which image is meant, and what the manifest says at its top."""
     words.add_argument("--image", metavar="NAME", help="the image of an archive that has several")
     words.add_argument("--platform", metavar="OS/ARCH",
                        help="the platform of an OCI image that has several")
@@ -143,8 +151,6 @@ def parser() -> argparse.ArgumentParser:
     words.add_argument("--blobs", action="store_true",
                        help="name the tars that aren't compressed, and where in them the bytes of "
                             "files are, in place of these bytes; all others go into FILE.bytes")
-    _add_keeping(words)
-    return words
 
 
 def _add_keeping(words: argparse.ArgumentParser) -> None:

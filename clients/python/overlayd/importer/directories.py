@@ -374,8 +374,8 @@ def _attributes(where: Union[int, bytes]) -> List[Tuple[bytes, bytes]]:
     follows = isinstance(where, int)
     try:
         names = os.listxattr(where, follow_symlinks=follows)
-        return [] if not names else [(os.fsencode(name), os.getxattr(where, name, follow_symlinks=follows))
-                for name in names]
+        return [(os.fsencode(name), os.getxattr(where, name, follow_symlinks=follows))
+                for name in names] if names else []
     except OSError as error:
         if error.errno in limits.NO_ATTRIBUTES or not follows and not os.path.exists("/proc/self"):
             return []
