@@ -12,7 +12,7 @@ import tempfile
 import time
 import unittest
 from pathlib import Path
-from typing import Any, List, Tuple
+from typing import Any, Dict, List, Tuple
 
 from overlayd.importer.command import main
 from overlayd.importer.directories import DirectoryLayer
@@ -28,37 +28,40 @@ from .import_tools import file, tar_of, write_layout
 PYTHON = str(Path(__file__).resolve().parents[1])
 SECONDS, MEBIBYTES = 1.0, 64
 # How many random ones are tried; this file as a program tries as many as it is told.
-RANDOM = 300
+RANDOM = 200
 
 
-# A run of the command that tells its own memory, in KiB, and seconds of the processor. Where others
-# share the processor's units a second does less: it is measured by a loop that takes a fiftieth of
-# one alone.
+# Runs of the command, one after the other in one process: of each the status, the lines and the
+# seconds of the processor; in the end the most memory, in KiB. Where others share the processor's
+# units a second does less: it is measured by a loop that takes a fiftieth of one alone.
 CHILD = """
-import re, sys, time
+import contextlib, io, json, re, sys, time
+from overlayd.importer.command import main
 def loop():
     begin = time.process_time()
     for _ in range(600_000):
         pass
     return time.process_time() - begin
-before = loop()
-from overlayd.importer.command import main
-begin = time.process_time()
-status = main(sys.argv[1:])
-seconds = time.process_time() - begin
-slower = max(before, loop(), 0.02) / 0.02
-print(re.search(r"VmHWM:\\s*(\\d+)", open("/proc/self/status").read())[1], seconds / slower)
-sys.exit(status)
+found = []
+for words in json.load(sys.stdin):
+    before, begin = loop(), time.process_time()
+    with contextlib.redirect_stderr(io.StringIO()) as told:
+        status = main(words)
+    seconds = time.process_time() - begin
+    slower = max(before, loop(), 0.02) / 0.02
+    found.append((status, told.getvalue().splitlines(), seconds / slower))
+print(json.dumps((found, int(re.search(r"VmHWM:\\s*(\\d+)", open("/proc/self/status").read())[1]))))
 """
 
 
-def measured(*words: str) -> Tuple[int, List[str], float, float]:
-    """Runs the command on its own: status, lines of errors, seconds of the processor, MiB."""
-    done = subprocess.run([sys.executable, "-c", CHILD, *words], capture_output=True, check=False,
+def measured(runs: List[List[str]]) -> Tuple[List[Tuple[int, List[str], float]], float]:
+    """Runs of the command in a process of their own, and its memory in MiB."""
+    done = subprocess.run([sys.executable, "-c", CHILD], capture_output=True, check=False,
+                          input=json.dumps(runs).encode(),
                           env={**os.environ, "PYTHONPATH": PYTHON})
-    memory, _, seconds = done.stdout.decode().partition(" ")
-    return (done.returncode, done.stderr.decode().splitlines(), float(seconds or "inf"),
-            int(memory or "0") / 1024)
+    assert done.returncode == 0, done.stderr.decode()
+    found, memory = json.loads(done.stdout)
+    return found, memory / 1024
 
 
 class HostileCase(unittest.TestCase):
@@ -71,15 +74,21 @@ class HostileCase(unittest.TestCase):
 
     def assert_refused(self, *words: str) -> str:
         """One line, status 1, nothing left, and within the bounds; the line."""
+        return self.assert_all_refused({words[0]: [*words]})[0]
+
+    def assert_all_refused(self, runs: Dict[str, List[str]]) -> List[str]:
+        """The same of several, which have names."""
         output = str(self.folder / "out" / "m.toml")
         os.makedirs(os.path.dirname(output), exist_ok=True)
-        status, lines, seconds, mebibytes = measured(*words, "-o", output)
-        self.assertEqual((status, len(lines)), (1, 1), lines[-3:])
-        self.assertTrue(lines[0].startswith("overlayd-import: "), lines)
+        found, mebibytes = measured([[*words, "-o", output] for words in runs.values()])
+        for name, (status, lines, seconds) in zip(runs, found):
+            with self.subTest(name):
+                self.assertEqual((status, len(lines)), (1, 1), lines[-3:])
+                self.assertTrue(lines[0].startswith("overlayd-import: "), lines)
+                self.assertLess(seconds, SECONDS)
         self.assertEqual(os.listdir(os.path.dirname(output)), [])
-        self.assertLess(seconds, SECONDS)
         self.assertLess(mebibytes, MEBIBYTES)
-        return lines[0]
+        return [lines[0] for _, lines, _ in found]
 
 
 class TarTest(HostileCase):
@@ -87,11 +96,12 @@ class TarTest(HostileCase):
 
     def test_each_is_refused(self) -> None:
         """Each named one."""
-        path = self.folder / "t"
-        for name, make in hostile_tars.REFUSED.items():
+        runs = {}
+        for number, (name, make) in enumerate(hostile_tars.REFUSED.items()):
+            path = self.folder / f"t{number}"
             path.write_bytes(make())
-            with self.subTest(name):
-                self.assert_refused(str(path))
+            runs[name] = [str(path)]
+        self.assert_all_refused(runs)
 
     def test_random(self) -> None:
         """Random ones end by a manifest or by a line, and soon."""

@@ -11,7 +11,7 @@ from .checking import check
 from .joining import join
 from .images import Choice
 from .keeping import Keep
-from .output import Output, unwound_by_sigterm
+from .output import Output, unwound_by_sigterm, without_collection
 from .plan import Wish, file_limit_of, has_own_bytes, plan, write
 from .references import References
 from .scripts import check_script_file
@@ -262,7 +262,7 @@ def main(arguments: Optional[List[str]] = None) -> int:
             return check_manifest(words.check)
         if words.check_script is not None:
             return check_script_file(words.check_script)
-        with unwound_by_sigterm():
+        with unwound_by_sigterm(), without_collection():
             if words.upper is not None:
                 join(words.upper, words.sources[0], words.output)
             else:

@@ -1,6 +1,7 @@
 """Where a command writes: files that appear when they are whole."""
 
 import contextlib
+import gc
 import os
 import shutil
 import signal
@@ -85,3 +86,15 @@ def unwound_by_sigterm() -> Iterator[None]:
         yield
     finally:
         signal.signal(signal.SIGTERM, before)
+
+
+@contextlib.contextmanager
+def without_collection() -> Iterator[None]:
+    """No looking for cycles among objects of which nearly all are kept to the end."""
+    was_enabled = gc.isenabled()
+    gc.disable()
+    try:
+        yield
+    finally:
+        if was_enabled:
+            gc.enable()
