@@ -49,7 +49,7 @@ def largest(root):
 
 def imported(output, *sources):
     with contextlib.redirect_stderr(io.StringIO()) as told:
-        status = import_command(["-q", "--redirect-dir", "on", "--history", "1000000",
+        status = import_command(["-q", "--no-times", "--redirect-dir", "on", "--history", "1000000",
                                  "--file-limit", str(max(FILES_GROW_TO, largest(DEBIAN))),
                                  *sources, "-o", output])
     if status != 0:

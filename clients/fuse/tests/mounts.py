@@ -71,7 +71,7 @@ class Mounted:
     def serve(self, base):
         imported = self.path("imported.toml")
         with contextlib.redirect_stderr(io.StringIO()) as told:
-            if import_command(["-q", str(base), "-o", imported]) != 0:
+            if import_command(["-q", "--no-times", str(base), "-o", imported]) != 0:
                 raise AssertionError(told.getvalue())
         manifest = pathlib.Path(imported).read_text("utf-8")
         server = real_server.Server('history = 1000000\nredirect_dir = "on"\n' + manifest)

@@ -220,19 +220,34 @@ class FolderClient:
         """As `os.lstat`."""
         return os.lstat(self._at(path))
 
-    def listdir(self, path: str) -> List[str]:
-        """As the engine: without the whiteouts that the kernel lists."""
+    def open(self, path: str, flags: int = os.O_RDONLY) -> Any:
+        """A file to read, or a directory to list."""
         there = self._at(path)
-        return [name for name in os.listdir(there) if os.path.lexists(os.path.join(there, name))]
-
-    def open(self, path: str) -> Any:
-        """A file to read."""
-        return open(self._at(path), "rb")
+        return FolderListing(there) if flags & os.O_DIRECTORY else open(there, "rb")
 
     @contextlib.contextmanager
     def pipeline(self) -> Iterator["FolderPipeline"]:
         """Calls that are made at once."""
         yield FolderPipeline(self, self._at)
+
+
+class FolderListing:
+    """An open directory, as the engine lists it: without the whiteouts that the kernel lists."""
+
+    def __init__(self, path: str) -> None:
+        self._names = [name for name in os.listdir(path)
+                       if os.path.lexists(os.path.join(path, name))]
+
+    def __enter__(self) -> "FolderListing":
+        return self
+
+    def __exit__(self, *what: Any) -> None:
+        pass
+
+    def names(self, count: int = 256) -> List[str]:
+        """The next names."""
+        found, self._names = self._names[:count], self._names[count:]
+        return found
 
 
 class FolderPipeline:
@@ -305,10 +320,34 @@ class MountTest(unittest.TestCase):
     def test_a_refusal(self) -> None:
         """Another refusal ends the reading."""
         client = FolderClient(str(self.root))
-        client.listdir = lambda path: ["x" * 300]  # type: ignore[method-assign]
+        client.open = mock.Mock(  # type: ignore[method-assign]
+            side_effect=OSError(errno.EIO, "no"))
         with self.assertRaises(OSError) as caught:
             list(MountTree(client).entries())  # type: ignore[arg-type]
-        self.assertEqual(caught.exception.errno, errno.ENAMETOOLONG)
+        self.assertEqual(caught.exception.errno, errno.EIO)
+
+    def test_names_that_are_none(self) -> None:
+        """A name that no directory has, one that is there twice, and a file that is longer than
+        was said, end the reading; nothing is written for them."""
+        for names in (["s", "s/pwned"], ["q/../../x"], [""], ["."], [".."], ["a\0b"], ["x" * 256],
+                      ["a", "a"]):
+            client = FolderClient(str(self.root))
+            listing = mock.MagicMock()
+            listing.__enter__.return_value.names.side_effect = [names, []]
+            client.open = mock.Mock(return_value=listing)  # type: ignore[method-assign]
+            with self.subTest(names), self.assertRaises(Unsayable):
+                list(MountTree(client).entries())  # type: ignore[arg-type]
+
+    def test_bytes_without_an_end(self) -> None:
+        """More bytes than the size that was told, and a size over the manifest's limit."""
+        (self.root / "f").write_bytes(b"x")
+        tree = MountTree(FolderClient(str(self.root)))  # type: ignore[arg-type]
+        entry = next(entry for entry in tree.entries() if entry.path == "/f")
+        (self.root / "f").write_bytes(b"x" * 5000)
+        with self.assertRaises(Unsayable):
+            tree.read(entry)
+        with self.assertRaises(Unsayable):
+            list(MountTree(FolderClient(str(self.root)), 4999).entries())  # type: ignore[arg-type]
 
     def test_command(self) -> None:
         """A layer of what was changed, and lines that say how much it is."""

@@ -99,14 +99,25 @@ class ImportTest(BlobTest):
             self.assertEqual(head(out.read())[0], f'blobs = ["{tar}"]')
 
     def test_other_sources(self) -> None:
-        """What is no tar that stands in a file as it is read is written as without the flag."""
+        """The bytes of what is no tar that stands in a file as it is read go beside the manifest;
+        where there are none there is no such file."""
         (self.folder / "dir").mkdir()
         self.write("dir/f", b"x")
+        self.write("dir/g", b"yz")
+        self.write("dir/z", bytes(3))
         compressed = self.write("l.tar.gz", gzip.compress(tar_of(MEMBERS)))
         nothing = self.write("none.tar", tar_of([directory("d"), file("empty")]))
-        for source in (str(self.folder / "dir"), compressed, nothing):
-            with self.subTest(source):
-                self.assertEqual(self.manifest("--blobs", source), self.manifest(source))
+        self.assertEqual(self.manifest("--blobs", nothing), self.manifest(nothing))
+        self.assertFalse((self.folder / "m.toml.bytes").exists())
+        found = self.manifest("--blobs", str(self.folder / "dir"))
+        self.assertEqual(head(found)[0], 'blobs = ["m.toml.bytes"]')
+        self.assertIn("blob = 0\nat = 1\nsize = 2\n", found)
+        self.assertIn("zeros = 3", found)
+        self.assertEqual((self.folder / "m.toml.bytes").read_bytes(), b"xyz")
+        self.manifest("--blobs", compressed)
+        kept = (self.folder / "m.toml.bytes").read_bytes()
+        self.assertEqual(kept, b"".join(member.data for member in MEMBERS
+                                         if member.data.strip(b"\0")))
 
     def test_several(self) -> None:
         """Numbers are those of the files, each of which is named once; others lie between."""
@@ -115,10 +126,9 @@ class ImportTest(BlobTest):
         (self.folder / "dir").mkdir()
         self.write("dir/f", b"x")
         manifest = self.manifest("--blobs", high, str(self.folder / "dir"), low, high)
-        self.assertEqual(head(manifest)[0], 'blobs = ["high.tar", "low.tar"]')
+        self.assertEqual(head(manifest)[0], 'blobs = ["high.tar", "low.tar", "m.toml.bytes"]')
         self.assertEqual([found[0] for found in re.findall(r"blob = (\d+)", manifest)],
-                         ["0", "1", "0"])
-        self.assertIn('text = "x"', manifest)
+                         ["0", "2", "1", "0"])
 
     def test_an_image(self) -> None:
         """Of an archive the archive is named; a layer in it begins somewhere in it."""

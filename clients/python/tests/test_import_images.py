@@ -4,7 +4,6 @@ import bz2
 import gzip
 import io
 import lzma
-import sys
 import tarfile
 import tempfile
 import unittest
@@ -375,14 +374,6 @@ text = "zzz"
         self.assertEqual(run.manifest.split("[[layer]]\n"), ["upper = false\n\n", *wanted])
         run = tools.run_import(self.put("one.tar", saved_image([high])), "--read-only")
         self.assertEqual(run.manifest.split("[[layer]]\n"), ["upper = false\n\n", wanted[0], ""])
-
-    def test_zstd(self) -> None:
-        """A form that Python can't read is refused by its name."""
-        if sys.version_info >= (3, 14):
-            tools.skip(self.id(), "this Python reads zstd")
-        path = self.put("layer.tar.zst", b"\x28\xb5\x2f\xfd" + b"x" * 1000)
-        self.assertEqual(tools.run_import(path), tools.Run(1, "", [
-            f"overlayd-import: {path}: compressed by zstd, which this Python can't read"]))
 
     def test_sparse(self) -> None:
         """The stretches of a sparse file stand at their places."""

@@ -15,11 +15,11 @@ Trees of other kinds can be compared too: see `Tree`.
 
 from .comparing import Change, changes
 from .layers import write_layer
-from .manifests import LowerTree
+from .manifests import LowerTree, Manifest, SavedTree
 from .mounts import MountTree
 from .trees import DirectoryTree, Entry, MemoryTree, Tree
 from .unsayable import Unsayable
 from .uppers import write_upper
 
-__all__ = ["Change", "DirectoryTree", "Entry", "LowerTree", "MemoryTree", "MountTree", "Tree",
-           "Unsayable", "changes", "write_layer", "write_upper"]
+__all__ = ["Change", "DirectoryTree", "Entry", "LowerTree", "Manifest", "MemoryTree", "MountTree",
+           "SavedTree", "Tree", "Unsayable", "changes", "write_layer", "write_upper"]

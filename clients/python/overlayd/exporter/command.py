@@ -8,13 +8,14 @@ from typing import List, Optional
 
 from .. import __version__
 from ..client import Client
-from ..importer.command import Output
+from ..importer.output import Output, unwound_by_sigterm
 from ..importer.telling import shown
 from .comparing import Change, changes
 from .layers import write_layer
-from .manifests import LowerTree
+from .layouts import add_layer
+from .manifests import LowerTree, Manifest, SavedTree
 from .mounts import MountTree
-from .trees import Tree
+from .trees import SOCKET, Tree
 from .unsayable import Unsayable
 from .uppers import write_upper
 
@@ -24,22 +25,35 @@ _MORE = """\
 The mount is read over the socket of `overlayd serve`, name by name, and compared with the lower
 layers of the manifest. What differs is written: what the manifest's upper had, and what was
 changed since. Nobody should change the mount meanwhile. Each name takes two or more calls, each of
-which takes a place of the mount's history.
+which takes a place of the mount's history. With --manifest SAVED no server is asked: SAVED is what
+`overlayd serve --save SAVED` wrote, over the lower layers of MANIFEST, or a whole manifest of its
+own, as overlayd-import --upper writes it.
 
   --upper DIR    an upper directory of the kernel's overlayfs, a new one. Whiteouts are 0/0
                  character devices, so root has to write it; opaque directories are marked by
                  trusted.overlay.opaque, with --userxattr by user.overlay.opaque
   --layer FILE   the layer of an OCI image, a tar: .wh.NAME, .wh..wh..opq. The same changes are the
-                 same bytes: all times are 0
+                 same bytes
+  --image-out DIR:TAG
+                 the layer, put above the image TAG of the OCI layout DIR, which gets the tag; with
+                 --as TAG another one. Without the layout a new one is made, of this layer alone
+
+Times, devices, fifos, sockets and attributes outside of user. are those that the attributes
+user.overlayd. say, as overlayd-import and the bridge to FUSE write them; these are never written
+themselves. A layer has 0 where no time is known; with the environment variable SOURCE_DATE_EPOCH
+that many seconds, which then is the latest time too. A file with other bytes and with the time of
+the file below, word for word, was changed by a client that keeps no times: its time isn't known.
 
 A mount without an upper layer (upper = false) can't be changed: there is nothing to export of it,
 which is refused.
 
 A directory that was moved is written whole, and so is a file that was copied up without its bytes
-(metacopy). Several names of one file are written as files of their own, because the server doesn't
-tell which they are; that is told. Refused are attributes that begin with user.overlay., as they
-would be marks of overlayfs; in a layer names that begin with .wh.; and in an upper the owner and
-the group 4294967295, which no file system has.
+(metacopy). Names of one file are written as one with --manifest; a server doesn't tell which they
+are, so that of it they are written as files of their own, which is told. A socket isn't in a layer,
+which is told. Refused are attributes that begin with user.overlay. or trusted.overlay., as they
+would be marks of overlayfs, and a character device 0/0; in a layer names that begin with .wh.; and
+in an upper the owner and the group 4294967295, which no file system has. What a server says is
+judged: a name that is none, or a file over the manifest's file_limit, ends the export.
 
 The manifest is read as a stream where it has one `key = value` on each line, as overlayd-import
 writes it. Others are read whole, from Python 3.11 on.
@@ -54,44 +68,75 @@ def parser() -> argparse.ArgumentParser:
         prog=PROGRAM, description=_ABOUT, epilog=_MORE,
         formatter_class=argparse.RawDescriptionHelpFormatter)
     words.add_argument("--version", action="version", version=f"{PROGRAM} {__version__}")
-    words.add_argument("manifest", metavar="MANIFEST", help="the manifest that is served")
-    words.add_argument("socket", metavar="SOCKET", help="the socket of the server")
+    words.add_argument("manifest", metavar="MANIFEST", nargs="?",
+                       help="the manifest that is served, or was")
+    words.add_argument("socket", metavar="SOCKET", nargs="?", help="the socket of the server")
+    words.add_argument("--manifest", metavar="SAVED", dest="saved",
+                       help="a saved upper, or a whole manifest, in place of a server")
     form = words.add_mutually_exclusive_group(required=True)
     form.add_argument("--upper", metavar="DIR", help="write an upper directory")
     form.add_argument("--layer", metavar="FILE", help="write a layer; - is standard output")
+    form.add_argument("--image-out", metavar="DIR:TAG", help="put a layer above an image")
+    words.add_argument("--as", metavar="TAG", dest="tag",
+                       help="the tag of the new image; that of --image-out where it isn't said")
     words.add_argument("--userxattr", action="store_true",
                        help="mark opaque directories as the mount option userxattr reads them")
     return words
 
 
+def _fault(words: argparse.Namespace) -> Optional[str]:
+    """What is wrong with the words of the command."""
+    if words.saved is None and words.socket is None:
+        return "MANIFEST and SOCKET, or --manifest SAVED"
+    if words.saved is not None and words.socket is not None:
+        return "with --manifest there is no SOCKET"
+    if words.tag is not None and words.image_out is None:
+        return "--as is for --image-out"
+    if words.image_out is not None and not all(words.image_out.rpartition(":")):
+        return "--image-out takes DIR:TAG"
+    return None
+
+
 def main(arguments: Optional[List[str]] = None) -> int:
     """Runs the command; the exit status."""
-    words = parser().parse_args(arguments)
+    command = parser()
+    words = command.parse_args(arguments)
+    fault = _fault(words)
+    if fault is not None:
+        command.error(fault)
     try:
-        _ask_target(words)
-        lower = LowerTree(words.manifest)
-        if not lower.has_upper:
-            raise Unsayable(f"{shown(words.manifest)}: nothing to export: upper = false, so "
-                            "nothing can be changed")
-        with Client(words.socket) as client:
-            mounted = MountTree(client)
-            found = changes(lower, mounted)
-            _write(words, found, mounted)
-        _sum_up(found)
+        with unwound_by_sigterm():
+            _ask_target(words)
+            _export(words, _epoch())
         return 0
-    except Unsayable as fault:
-        return _end(str(fault))
+    except Unsayable as unsayable:
+        return _end(str(unsayable))
     except OSError as error:
         name = f"{shown(error.filename)}: " if error.filename else ""
         return _end(f"{name}{error.strerror or error}")
     except MemoryError:
         return _end("out of memory")
+    except KeyboardInterrupt:
+        _end("interrupted")
+        return 130
+
+
+def _epoch() -> Optional[int]:
+    """The seconds of SOURCE_DATE_EPOCH; None without it."""
+    text = os.environ.get("SOURCE_DATE_EPOCH")
+    if text is None or text == "":
+        return None
+    if not (text.isascii() and text.isdigit() and len(text) <= 12):
+        raise Unsayable("SOURCE_DATE_EPOCH: not a number of seconds since 1970")
+    return int(text)
 
 
 def _ask_target(words: argparse.Namespace) -> None:
     """Whether the export can appear where it is asked for: before the mount is read, whose history
     each call makes longer."""
     path = words.upper if words.upper is not None else words.layer
+    if path is None:
+        path = words.image_out.rpartition(":")[0]
     if words.upper is not None and os.path.lexists(path):
         raise FileExistsError(errno.EEXIST, os.strerror(errno.EEXIST), path)
     folder = os.path.dirname(os.path.abspath(path))
@@ -99,24 +144,56 @@ def _ask_target(words: argparse.Namespace) -> None:
         raise FileNotFoundError(errno.ENOENT, os.strerror(errno.ENOENT), folder)
 
 
-def _write(words: argparse.Namespace, found: List[Change], mounted: Tree) -> None:
+def _export(words: argparse.Namespace, epoch: Optional[int]) -> None:
+    """Reads, compares and writes."""
+    saved = None if words.saved is None else Manifest(words.saved)
+    if saved is not None and words.manifest is None:
+        saved.lowers()
+    lower = LowerTree(words.manifest if words.manifest is not None else words.saved)
+    if not lower.has_upper or saved is not None and not saved.has_upper:
+        raise Unsayable(f"{shown(lower.manifest.path)}: nothing to export: upper = false, so "
+                        "nothing can be changed")
+    if saved is not None:
+        if not saved.layers:
+            raise Unsayable(f"{shown(saved.path)}: it has no layer")
+        _write(words, lower, SavedTree(saved, lower), epoch)
+        return
+    with Client(words.socket) as client:
+        _write(words, lower, MountTree(client, lower.manifest.file_limit), epoch)
+
+
+def _write(words: argparse.Namespace, lower: LowerTree, mounted: Tree,
+           epoch: Optional[int]) -> None:
+    found = changes(lower, mounted)
     if words.upper is not None:
         write_upper(found, mounted, words.upper, words.userxattr)
-        return
-    output = Output(words.layer, waits=True)
+    elif words.image_out is not None:
+        folder, _, tag = words.image_out.rpartition(":")
+        add_layer(found, mounted, folder, tag, words.tag or tag, epoch)
+    else:
+        _write_layer(words.layer, found, mounted, epoch)
+    _sum_up(found, words.upper is None)
+
+
+def _write_layer(path: str, found: List[Change], mounted: Tree, epoch: Optional[int]) -> None:
+    output = Output(path, waits=True)
     try:
-        write_layer(found, mounted, output.stream)
+        write_layer(found, mounted, output.stream, epoch)
         output.keep()
     except BaseException:
         output.drop()
         raise
 
 
-def _sum_up(found: List[Change]) -> None:
+def _sum_up(found: List[Change], is_layer: bool) -> None:
     """Says what was written, and which names were one object."""
-    linked = sum(change.entry is not None and change.entry.links > 1 for change in found)
+    linked = sum(change.entry is not None and change.entry.links > 1 and change.entry.same is None
+                 for change in found)
     if linked:
         _say(f"{linked} names of files that have several are written as files of their own")
+    for change in found:
+        if is_layer and change.entry is not None and change.entry.kind == SOCKET:
+            _say(f"left out: {shown(change.path)}: a socket")
     gone = sum(change.entry is None for change in found)
     same = sum(change.is_same for change in found)
     _say(f"{len(found) - gone - same} objects, {gone} whiteouts")

@@ -1,49 +1,80 @@
 """Changes as a layer of an OCI image."""
 
 import io
+import os
 import tarfile
-from typing import BinaryIO, Iterable
+from typing import BinaryIO, Iterable, Iterator, Optional
 
+from ..importer.meta import SECOND
 from ..importer.telling import shown
 from .comparing import Change
-from .trees import DIRECTORY, FILE, SYMLINK, Entry, Tree
-from .unsayable import Unsayable, check_attributes
+from .trees import (BLOCK, CHARACTER, DIRECTORY, FIFO, FILE, SOCKET, SYMLINK, Entry, Tree)
+from .unsayable import Unsayable, check_attributes, check_device
 
 _MARK = ".wh."
 _OPAQUE = ".wh..wh..opq"
-_TYPES = {DIRECTORY: tarfile.DIRTYPE, FILE: tarfile.REGTYPE, SYMLINK: tarfile.SYMTYPE}
+_TYPES = {DIRECTORY: tarfile.DIRTYPE, FILE: tarfile.REGTYPE, SYMLINK: tarfile.SYMTYPE,
+          FIFO: tarfile.FIFOTYPE, CHARACTER: tarfile.CHRTYPE, BLOCK: tarfile.BLKTYPE}
+# What a header of 11 octal digits can say.
+_SECONDS_MOST = 8 ** 11
 
 
-def write_layer(found: Iterable[Change], mounted: Tree, stream: BinaryIO) -> None:
-    """Writes the tar of a layer, with all times 0: the same changes are the same bytes. Raises
-    `Unsayable` for a name or an attribute that an image would read as a mark."""
+def write_layer(found: Iterable[Change], mounted: Tree, stream: BinaryIO,
+                epoch: Optional[int] = None) -> None:
+    """Writes the tar of a layer: the same changes are the same bytes. Times that aren't known are
+    `epoch`, in seconds since 1970, or else 0, and none is later than `epoch`. A socket, which no
+    tar has, is left out. Raises `Unsayable` for a name, a device or an attribute that an image
+    would read as a mark."""
     with tarfile.open(fileobj=stream, mode="w|", format=tarfile.PAX_FORMAT, encoding="utf-8",
                       errors="surrogateescape") as tar:
         for change in found:
-            _write(tar, change, mounted)
+            _write(tar, change, mounted, epoch)
 
 
-def _write(tar: tarfile.TarFile, change: Change, mounted: Tree) -> None:
+def _write(tar: tarfile.TarFile, change: Change, mounted: Tree, epoch: Optional[int]) -> None:
     above, _, name = change.path[1:].rpartition("/")
     inside = f"{above}/" if above else ""
     if name.startswith(_MARK):
         raise Unsayable(f"{shown(change.path)}: a layer of an image can't have a name that begins "
                         "with .wh.")
-    if change.entry is None:
-        tar.addfile(tarfile.TarInfo(f"{inside}{_MARK}{name}"))
+    if change.entry is None or change.entry.kind == SOCKET and change.covers:
+        tar.addfile(_timed(tarfile.TarInfo(f"{inside}{_MARK}{name}"), None, epoch))
         return
-    if change.path == "/" and change.is_same:
+    if change.path == "/" and change.is_same or change.entry.kind == SOCKET:
         return
     check_attributes(change.entry)
-    data = b""
+    check_device(change.entry)
+    info = _timed(_member(change, change.entry), change.entry.mtime, epoch)
     if change.entry.kind == FILE and change.link_to is None:
-        data = mounted.read(change.entry)
-    tar.addfile(_member(change, change.entry, len(data)), io.BytesIO(data))
+        tar.addfile(info, _Pieces(mounted.pieces(change.entry)))
+    else:
+        tar.addfile(info)
     if change.opaque:
-        tar.addfile(tarfile.TarInfo(f"{change.path[1:]}/{_OPAQUE}"))
+        tar.addfile(_timed(tarfile.TarInfo(f"{change.path[1:]}/{_OPAQUE}"), None, epoch))
 
 
-def _member(change: Change, entry: Entry, size: int) -> tarfile.TarInfo:
+def _timed(info: tarfile.TarInfo, mtime: Optional[int], epoch: Optional[int]) -> tarfile.TarInfo:
+    """Gives a member its time, to the nanosecond where a pax header is needed for that."""
+    latest = None if epoch is None else epoch * SECOND
+    if mtime is None:
+        mtime = latest or 0
+    elif latest is not None:
+        mtime = min(mtime, latest)
+    seconds, below = divmod(mtime, SECOND)
+    info.mtime = seconds
+    if below or not 0 <= seconds < _SECONDS_MOST:
+        info.pax_headers = {**info.pax_headers, "mtime": _pax_time(mtime)}
+    return info
+
+
+def _pax_time(mtime: int) -> str:
+    """A time as a pax header has it: a number with up to nine digits behind the point."""
+    seconds, below = divmod(abs(mtime), SECOND)
+    digits = f".{below:09d}".rstrip("0") if below else ""
+    return f"{'-' if mtime < 0 else ''}{seconds}{digits}"
+
+
+def _member(change: Change, entry: Entry) -> tarfile.TarInfo:
     info = tarfile.TarInfo(change.path[1:] or "./")
     info.uid, info.gid, info.mode = entry.uid, entry.gid, entry.mode
     if change.link_to is not None:
@@ -51,8 +82,30 @@ def _member(change: Change, entry: Entry, size: int) -> tarfile.TarInfo:
         info.linkname = change.link_to[1:]
         return info
     info.type = _TYPES[entry.kind]
-    info.size = size
+    info.size = entry.size if entry.kind == FILE else 0
     info.linkname = entry.target
+    if entry.kind in (CHARACTER, BLOCK):
+        info.devmajor, info.devminor = os.major(entry.device), os.minor(entry.device)
     info.pax_headers = {f"SCHILY.xattr.{name}": value.decode("utf-8", "surrogateescape")
                         for name, value in entry.attrs}
     return info
+
+
+class _Pieces(io.RawIOBase):
+    """A stream of pieces, as `tarfile` wants one."""
+
+    def __init__(self, pieces: Iterator[bytes]) -> None:
+        self._pieces = pieces
+        self._rest = b""
+
+    def read(self, size: int = -1) -> bytes:
+        """So many bytes, or fewer at the end."""
+        parts = []
+        while size > 0:
+            self._rest = self._rest or next(self._pieces, b"")
+            if not self._rest:
+                break
+            parts.append(self._rest[:size])
+            self._rest = self._rest[size:]
+            size -= len(parts[-1])
+        return b"".join(parts)

@@ -1,12 +1,16 @@
-"""The lower layers that a manifest describes, as one tree."""
+"""The layers that manifests describe, as trees."""
 
 import json
 from collections import Counter
-from typing import Any, BinaryIO, Counter as Counts, Dict, Iterable, Iterator, List, Optional, Tuple
+from typing import (Any, BinaryIO, Counter as Counts, Dict, Hashable, Iterable, Iterator, List,
+                    Optional, Tuple)
 
 from ..importer import objects
+from ..importer.limits import FILE_LIMIT
 from ..importer.merging import TreeLayer, flatten
 from ..importer.objects import Part
+from ..importer.telling import shown
+from .described import described
 from .stretches import Blobs
 from .trees import DIRECTORY, FILE, SYMLINK, Entry, Tree
 from .unsayable import Unsayable
@@ -20,28 +24,69 @@ class OtherForm(Exception):
     """The manifest isn't one of lines."""
 
 
-class LowerTree(Tree):
-    """What the lower layers of a manifest show together; `has_upper` says whether it has an upper
-    layer, without which nothing can be changed.
+class Manifest:
+    """The layers that a manifest describes; `has_upper` says whether the first one is an upper,
+    without which nothing can be changed, and `file_limit` how many bytes a file has at most.
 
     A manifest of lines, as `overlayd-import` writes it, is read as a stream, and the bytes of a
     file when they are asked for; any other one is read whole, from Python 3.11 on.
     """
 
     def __init__(self, path: str) -> None:
-        self._links: Counts[int] = Counter()
+        self.path = path
+        self.links: Counts[int] = Counter()
         try:
             self._source: _Source = _Lines(path)
-            layers = self._layers(self._source)
+            self.layers = self._read(self._source)
         except OtherForm as fault:
             self._source = _Whole(path, str(fault))
-            self._links.clear()
-            layers = self._layers(self._source)
+            self.links.clear()
+            self.layers = self._read(self._source)
         self.has_upper = self._source.has_upper
+        self.file_limit = self._source.file_limit
+
+    def lowers(self) -> List[objects.Directory]:
+        """The lower layers, of a manifest of a mount."""
+        if len(self.layers) < 2:
+            raise Unsayable(f"{shown(self.path)}: a manifest has two layers or more")
+        return self.layers[1:] if self.has_upper else self.layers
+
+    def _read(self, source: "_Source") -> List[objects.Directory]:
+        layers: List[objects.Directory] = []
+        for entry in source.entries():
+            if entry is None:
+                layers.append(objects.Directory(0o755, 0, 0))
+            elif layers:
+                self._place(layers[-1], entry, source)
+            else:
+                raise OtherForm("an entry before the first layer")
+        return layers
+
+    def _place(self, root: objects.Directory, entry: Dict[str, Any], source: "_Source") -> None:
+        """Puts what an entry describes into its layer."""
+        names = _names(entry["path"])
+        if not names:
+            _describe(root, entry)
+            return
+        parent = objects.at(root, names[:-1])
+        node = objects.at(root, _names(entry["to"])) if entry["kind"] == "link" else _node(entry)
+        if node is None or not isinstance(parent, objects.Directory):
+            raise Unsayable(f"a manifest that overlayd doesn't take: {shown(entry['path'])}")
+        if isinstance(node, _LINKED):
+            self.links[id(node)] += 1
+        if isinstance(node, objects.File) and entry["kind"] != "link":
+            node.place = source, node.place
+        parent.children[names[-1]] = node
+
+
+class LayeredTree(Tree):
+    """What layers of manifests show together, the highest first."""
+
+    def __init__(self, layers: List[objects.Directory], links: Counts[int]) -> None:
         # kept, because links are counted by the identity of what stands in them
-        self._layered = layers
-        lowers = layers[1:] if self.has_upper else layers
-        self._root = flatten([TreeLayer(layer) for layer in lowers])
+        self._layers = layers
+        self._links = links
+        self._root = flatten([TreeLayer(layer) for layer in layers])
 
     def entries(self) -> Iterator[Entry]:
         for path, node in objects.walk(self._root):
@@ -55,40 +100,37 @@ class LowerTree(Tree):
                 entry = entry._replace(kind=FILE, size=node.size)
             elif isinstance(node, objects.Symlink):
                 entry = entry._replace(kind=SYMLINK, target=node.target)
-            yield entry
+            yield described(entry)
 
     def read(self, entry: Entry) -> bytes:
-        names = tuple(name for name in entry.path.split("/") if name)
-        node = objects.at(self._root, names)
-        assert isinstance(node, objects.File)
-        return self._source.data(node)
+        return b"".join(self.pieces(entry))
 
-    def _layers(self, source: "_Source") -> List[objects.Directory]:
-        layers: List[objects.Directory] = []
-        for entry in source.entries():
-            if entry is None:
-                layers.append(objects.Directory(0o755, 0, 0))
-            elif layers:
-                self._place(layers[-1], entry)
-            else:
-                raise OtherForm("an entry before the first layer")
-        if len(layers) < 2:
-            raise Unsayable(f"{source.path}: a manifest has two layers or more")
-        return layers
+    def pieces(self, entry: Entry) -> Iterator[bytes]:
+        node = objects.at(self._root, _names(entry.path))
+        assert isinstance(node, objects.File) and isinstance(node.place, tuple)
+        source, place = node.place
+        if entry.kind == FILE:
+            yield from source.pieces(place)
 
-    def _place(self, root: objects.Directory, entry: Dict[str, Any]) -> None:
-        """Puts what an entry describes into its layer."""
-        names = _names(entry["path"])
-        if not names:
-            _describe(root, entry)
-            return
-        parent = objects.at(root, names[:-1])
-        node = objects.at(root, _names(entry["to"])) if entry["kind"] == "link" else _node(entry)
-        if node is None or not isinstance(parent, objects.Directory):
-            raise Unsayable(f"a manifest that overlayd doesn't take: {entry['path']}")
-        if isinstance(node, _LINKED):
-            self._links[id(node)] += 1
-        parent.children[names[-1]] = node
+    def place(self, entry: Entry) -> Optional[Hashable]:
+        return id(objects.at(self._root, _names(entry.path)))
+
+
+class LowerTree(LayeredTree):
+    """What the lower layers of a manifest show together."""
+
+    def __init__(self, path: str) -> None:
+        self.manifest = Manifest(path)
+        self.has_upper = self.manifest.has_upper
+        super().__init__(self.manifest.lowers(), self.manifest.links)
+
+
+class SavedTree(LayeredTree):
+    """What a saved upper shows over lower layers. Its hard links are known."""
+
+    def __init__(self, saved: Manifest, lower: LowerTree) -> None:
+        super().__init__([saved.layers[0], *lower.manifest.lowers()],
+                         saved.links + lower.manifest.links)
 
 
 def _names(path: str) -> objects.Names:
@@ -125,17 +167,18 @@ def _node(entry: Dict[str, Any]) -> Optional[objects.Object]:
 
 class _Source:
     """Where entries come from: None begins a layer. A file's entry has `bytes`: how many, and their
-    place. `has_upper` is right when the first of them came."""
+    place. The options are right when the first of them came."""
 
     path = ""
     has_upper = True
+    file_limit = FILE_LIMIT
 
     def entries(self) -> Iterable[Optional[Dict[str, Any]]]:
         """Layers and entries in their order."""
         raise NotImplementedError
 
-    def data(self, file: objects.File) -> bytes:
-        """The bytes of a file."""
+    def pieces(self, place: Any) -> Iterator[bytes]:
+        """The bytes at a place."""
         raise NotImplementedError
 
 
@@ -191,19 +234,19 @@ class _Lines(_Source):
             self.has_upper = value == b"true"
         elif key == "blobs":
             self._blobs = Blobs(self.path, _value(value))
-        elif key not in ("redirect_dir", "metacopy", "history", "file_limit"):
+        elif key == "file_limit":
+            self.file_limit = _value(value)
+        elif key not in ("redirect_dir", "metacopy", "history"):
             raise OtherForm(f"the key {key} before the first entry")
 
-    def data(self, file: objects.File) -> bytes:
-        if file.place is None:
-            return b""
-        if isinstance(file.place, Part):
-            return self._blobs.read(file.place)
-        assert isinstance(file.place, tuple)
-        begin, length = file.place
-        self._stream.seek(begin)
-        key, value = _key_and_value(self._stream.read(length).strip())
-        return _bytes_of(key, _value(value))
+    def pieces(self, place: Any) -> Iterator[bytes]:
+        if isinstance(place, Part):
+            yield from self._blobs.pieces(place)
+        elif place is not None:
+            begin, length = place
+            self._stream.seek(begin)
+            key, value = _key_and_value(self._stream.read(length).strip())
+            yield from _bytes_of(key, _value(value))
 
 
 def _key_and_value(words: bytes) -> Tuple[str, bytes]:
@@ -235,10 +278,11 @@ def _size(key: str, value: bytes) -> int:
     return found if key == "zeros" else len(found.encode("utf-8"))
 
 
-def _bytes_of(key: str, value: Any) -> bytes:
+def _bytes_of(key: str, value: Any) -> Iterator[bytes]:
     if key == "zeros":
-        return bytes(value)
-    return bytes.fromhex(value) if key == "hex" else value.encode("utf-8")
+        yield from objects.zeros(value)
+    else:
+        yield bytes.fromhex(value) if key == "hex" else value.encode("utf-8")
 
 
 class _Whole(_Source):
@@ -257,6 +301,7 @@ class _Whole(_Source):
             except tomllib.TOMLDecodeError as fault:
                 raise Unsayable(f"{path}: no TOML: {fault}") from None
         self.has_upper = self._manifest.get("upper") is not False
+        self.file_limit = self._manifest.get("file_limit", FILE_LIMIT)
         self._blobs = Blobs(path, self._manifest.get("blobs", []))
 
     def entries(self) -> Iterator[Optional[Dict[str, Any]]]:
@@ -265,11 +310,21 @@ class _Whole(_Source):
             for entry in layer.get("entry", []):
                 part = self._blobs.part(entry)
                 key = next((key for key in _BYTES if key in entry), None)
-                data = _bytes_of(key, entry[key]) if key else b""
-                yield {**entry, "bytes": (part.size, part) if part else (len(data), data)}
+                if part is not None:
+                    yield {**entry, "bytes": (part.size, part)}
+                else:
+                    value = entry[key] if key else ""
+                    yield {**entry, "bytes": (_count(key, value), (key or "text", value))}
 
-    def data(self, file: objects.File) -> bytes:
-        if isinstance(file.place, Part):
-            return self._blobs.read(file.place)
-        assert isinstance(file.place, bytes)
-        return file.place
+    def pieces(self, place: Any) -> Iterator[bytes]:
+        if isinstance(place, Part):
+            yield from self._blobs.pieces(place)
+        else:
+            yield from _bytes_of(*place)
+
+
+def _count(key: Optional[str], value: Any) -> int:
+    """How many bytes a value says."""
+    if key == "zeros":
+        return int(value)
+    return len(value) // 2 if key == "hex" else len(value.encode("utf-8"))

@@ -7,30 +7,44 @@ from typing import Iterator, List, Tuple
 
 from ..client import Client
 from ..frames import Stat
+from ..importer.limits import FILE_LIMIT_MOST, NAME_BYTES, PATH_BYTES
+from ..importer.objects import PIECE
+from ..importer.telling import shown
 from ..pipeline import Pending
-from .trees import DIRECTORY, FILE, SYMLINK, Entry, Tree
+from .described import described
+from .trees import DIRECTORY, FILE, SYMLINK, Entry, Tree, raw_of
+from .unsayable import Unsayable
 
-# How many names are asked about in one write.
+# How many names are asked about in one write, are listed at once, and are read in all.
 _TOGETHER = 128
+_LISTED_MOST = 1 << 20
+_READ_MOST = 1 << 23
 
 
 class MountTree(Tree):
     """What a mount shows. Each name takes some calls, and each call a place of the history.
 
     The server doesn't tell which names lead to one object. Nobody should change the mount
-    meanwhile; what goes away between two calls is passed over.
+    meanwhile; what goes away between two calls is passed over. What the server says is judged: a
+    name that is none, a name twice, a file of more than `most` bytes or one that doesn't end are
+    refused.
     """
 
-    def __init__(self, client: Client) -> None:
+    def __init__(self, client: Client, most: int = FILE_LIMIT_MOST) -> None:
         self._client = client
+        self._most = most
+        self._count = 0
 
     def entries(self) -> Iterator[Entry]:
-        yield from self._described([("/", self._client.stat("/"))])
+        for entry in self._described([("/", self._client.stat("/"))]):
+            if entry.kind != DIRECTORY:
+                raise Unsayable("/: the server says that the root is no directory")
+            yield entry
         todo = ["/"]
         while todo:
             directory = todo.pop()
             try:
-                names = self._client.listdir(directory)
+                names = self._listed(directory)
             except FileNotFoundError:
                 continue
             for first in range(0, len(names), _TOGETHER):
@@ -41,9 +55,44 @@ class MountTree(Tree):
                     if entry.kind == DIRECTORY:
                         todo.append(entry.path)
 
+    def _listed(self, directory: str) -> List[str]:
+        """The names of a directory, judged."""
+        names: List[str] = []
+        with self._client.open(directory, os.O_RDONLY | os.O_DIRECTORY) as listing:
+            while True:
+                more = listing.names()
+                if not more:
+                    break
+                names += more
+                if len(names) > _LISTED_MOST:
+                    raise Unsayable(f"{shown(directory)}: more than {_LISTED_MOST:,} names")
+        self._count += len(names)
+        if self._count > _READ_MOST:
+            raise Unsayable(f"more than {_READ_MOST:,} names in the mount")
+        for name in names:
+            _judge(directory, name)
+        if len(set(names)) < len(names):
+            raise Unsayable(f"{shown(directory)}: the server lists a name twice")
+        return names
+
     def read(self, entry: Entry) -> bytes:
+        return b"".join(self.pieces(entry))
+
+    def pieces(self, entry: Entry) -> Iterator[bytes]:
+        if entry.kind != FILE:
+            return
+        count = 0
         with self._client.open(entry.path) as file:
-            return file.read()
+            while True:
+                data = file.read(PIECE)
+                count += len(data)
+                if count > entry.size:
+                    raise Unsayable(f"{shown(entry.path)}: it has more bytes than the server said")
+                yield data
+                if len(data) < PIECE:
+                    break
+        if count != entry.size:
+            raise Unsayable(f"{shown(entry.path)}: it has fewer bytes than the server said")
 
     def _found(self, paths: List[str]) -> List[Tuple[str, Stat]]:
         with self._client.pipeline() as batch:
@@ -70,9 +119,22 @@ class MountTree(Tree):
                 attrs = tuple((name, value.result()) for name, value in values[path]
                               if not _is_gone(value))
                 if stat.S_ISDIR(status.st_mode):
-                    yield plain._replace(attrs=attrs)
+                    yield described(plain._replace(attrs=attrs))
+                elif not 0 <= status.st_size <= self._most:
+                    raise Unsayable(f"{shown(path)}: a file of {status.st_size:,} bytes, where the "
+                                    f"manifest has {self._most:,} at most")
                 else:
-                    yield plain._replace(kind=FILE, attrs=attrs, links=links, size=status.st_size)
+                    yield described(plain._replace(kind=FILE, attrs=attrs, links=links,
+                                                   size=status.st_size))
+
+
+def _judge(directory: str, name: str) -> None:
+    """Refuses a name that no directory has, or that makes a path too long."""
+    raw = raw_of(name)
+    if not 0 < len(raw) <= NAME_BYTES or "/" in name or "\0" in name or name in (".", ".."):
+        raise Unsayable(f"{shown(directory)}: the server lists a name that is none: {shown(name)}")
+    if len(raw_of(directory)) + 1 + len(raw) > PATH_BYTES + 1:
+        raise Unsayable(f"{shown(directory)}: a path of more than {PATH_BYTES:,} bytes")
 
 
 def _is_gone(answer: "Pending[object]") -> bool:

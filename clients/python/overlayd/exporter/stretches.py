@@ -1,9 +1,10 @@
 """The bytes that entries of a manifest take from its blobs."""
 
 import os
-from typing import Any, Dict, List, Optional
+from typing import Any, Dict, Iterator, List, Optional
 
-from ..importer.objects import Part
+from ..importer.objects import PIECE, Part
+from ..importer.telling import shown
 from .unsayable import Unsayable
 
 
@@ -28,11 +29,17 @@ class Blobs:
             raise self._fault(entry)
         return Part(number, start, size)
 
-    def read(self, part: Part) -> bytes:
-        """The bytes."""
+    def pieces(self, part: Part) -> Iterator[bytes]:
+        """The bytes, piece by piece."""
+        left = part.size
         with open(self._paths[part.blob], "rb") as stream:
             stream.seek(part.at)
-            return stream.read(part.size)
+            while left:
+                data = stream.read(min(left, PIECE))
+                if not data:
+                    raise Unsayable(f"{shown(self._paths[part.blob])}: it ends too early")
+                yield data
+                left -= len(data)
 
     @staticmethod
     def _fault(entry: Dict[str, Any]) -> Unsayable:

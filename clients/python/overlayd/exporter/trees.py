@@ -7,6 +7,8 @@ from typing import Dict, Hashable, Iterable, Iterator, List, NamedTuple, Optiona
 DIRECTORY = "dir"
 FILE = "file"
 SYMLINK = "symlink"
+FIFO, SOCKET, CHARACTER, BLOCK = "fifo", "socket", "character device", "block device"
+SPECIAL = {"p": FIFO, "s": SOCKET, "c": CHARACTER, "b": BLOCK}
 
 Key = Tuple[bytes, ...]
 
@@ -16,7 +18,8 @@ class Entry(NamedTuple):
 
     Paths begin with `/`; bytes of names and targets that aren't UTF-8 are written as
     `os.fsdecode` does. `links` is the count of names that is shown of a file or symbolic link.
-    Entries with the same `same` are names of one object; None says nothing.
+    Entries with the same `same` are names of one object; None says nothing. `mtime` is the time of
+    the last change in nanoseconds, where it is known, and `told` the attribute that said it.
     """
 
     path: str
@@ -29,6 +32,9 @@ class Entry(NamedTuple):
     target: str = ""
     links: int = 1
     same: Optional[Hashable] = None
+    device: int = 0
+    mtime: Optional[int] = None
+    told: Optional[bytes] = None
 
     def key(self) -> Key:
         """Its place in the order of a tree."""
@@ -61,6 +67,15 @@ class Tree:
     def read(self, entry: Entry) -> bytes:
         """The bytes of a file of this tree."""
         raise NotImplementedError
+
+    def pieces(self, entry: Entry) -> Iterator[bytes]:
+        """The bytes of a file, piece by piece; of any other object none."""
+        if entry.kind == FILE:
+            yield self.read(entry)
+
+    def place(self, entry: Entry) -> Optional[Hashable]:
+        """Where the bytes of a file are: the same place has the same ones. None says nothing."""
+        return None
 
 
 class MemoryTree(Tree):

@@ -1,9 +1,9 @@
 """What an export can't say."""
 
 from ..importer.telling import shown
-from .trees import Entry
+from .trees import CHARACTER, Entry
 
-_MARKS = "user.overlay."
+_MARKS = ("user.overlay.", "trusted.overlay.")
 # As an owner it stands for "as it is" in the system's calls, so nothing can have it.
 _NOBODY = 4_294_967_295
 
@@ -25,3 +25,9 @@ def check_owner(entry: Entry) -> None:
     if _NOBODY in (entry.uid, entry.gid):
         raise Unsayable(f"{shown(entry.path)}: a directory can't have what has owner or group "
                         f"{_NOBODY}")
+
+
+def check_device(entry: Entry) -> None:
+    """Raises `Unsayable` for the device that in a layer is a whiteout."""
+    if entry.kind == CHARACTER and entry.device == 0:
+        raise Unsayable(f"{shown(entry.path)}: a character device 0/0 would be a whiteout")

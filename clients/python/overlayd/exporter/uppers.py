@@ -1,14 +1,23 @@
 """Changes as an upper directory of the kernel's overlayfs."""
 
+import contextlib
 import os
 import shutil
 import stat
 import tempfile
-from typing import Iterable, List, Tuple
+from typing import Iterable, Iterator, List, Optional, Set, Tuple, Union
 
+from ..importer.telling import shown
 from .comparing import Change
-from .trees import DIRECTORY, SYMLINK, Entry, Tree, raw_of
-from .unsayable import check_attributes, check_owner
+from .trees import (BLOCK, CHARACTER, DIRECTORY, FIFO, FILE, SOCKET, SYMLINK, Entry, Tree,
+                    raw_of)
+from .unsayable import Unsayable, check_attributes, check_device, check_owner
+
+_UPPER = b"upper"
+_DIRECTORY = os.O_RDONLY | os.O_DIRECTORY | os.O_NOFOLLOW | os.O_CLOEXEC
+_NEW = os.O_WRONLY | os.O_CREAT | os.O_EXCL | os.O_NOFOLLOW | os.O_CLOEXEC
+_SPECIAL = {FIFO: stat.S_IFIFO, SOCKET: stat.S_IFSOCK, CHARACTER: stat.S_IFCHR,
+            BLOCK: stat.S_IFBLK}
 
 
 def write_upper(found: Iterable[Change], mounted: Tree, path: str, user: bool = False) -> None:
@@ -24,61 +33,126 @@ def write_upper(found: Iterable[Change], mounted: Tree, path: str, user: bool = 
         raise FileExistsError(17, os.strerror(17), path)
     partial = tempfile.mkdtemp(prefix=f".{name}.", suffix=".part", dir=above)
     try:
-        root = os.path.join(partial, "upper")
-        _Writing(os.fsencode(root), mounted, "user." if user else "trusted.").write(found)
-        os.rename(root, path)
+        with _opened(partial) as folder:
+            _Writing(folder, mounted, "user." if user else "trusted.").write(found)
+        os.rename(os.path.join(partial, "upper"), path)
     finally:
         shutil.rmtree(partial)
 
 
-class _Writing:
-    """Writes below one directory."""
+@contextlib.contextmanager
+def _opened(path: Union[str, bytes], above: Optional[int] = None) -> Iterator[int]:
+    """A descriptor of a directory that was made here, and is no link."""
+    descriptor = os.open(path, _DIRECTORY, dir_fd=above)
+    try:
+        yield descriptor
+    finally:
+        os.close(descriptor)
 
-    def __init__(self, root: bytes, mounted: Tree, prefix: str) -> None:
-        self._root = root
+
+class _Writing:
+    """Writes below one directory, of which a descriptor is given. The way to each name is opened
+    below descriptors, and leads through directories that were made here."""
+
+    def __init__(self, folder: int, mounted: Tree, prefix: str) -> None:
+        self._folder = folder
         self._mounted = mounted
         self._prefix = prefix
+        self._made: Set[bytes] = {b""}
+        self._way: Tuple[bytes, int] = b"", os.dup(folder)
 
     def write(self, found: Iterable[Change]) -> None:
         """Writes each name; directories get their modes when what is in them is there."""
-        directories: List[Tuple[bytes, Entry]] = []
+        try:
+            self._write_all(found)
+        finally:
+            os.close(self._way[1])
+
+    def _write_all(self, found: Iterable[Change]) -> None:
+        directories: List[Entry] = []
         for change in found:
-            raw = self._raw(change.path)
+            raw = _raw(change.path)
             if change.entry is not None:
                 check_attributes(change.entry)
                 check_owner(change.entry)
             if change.entry is not None and change.entry.kind == DIRECTORY:
-                os.mkdir(raw, 0o700)
-                directories.append((raw, change.entry))
+                os.mkdir(_name(raw), 0o700, dir_fd=self._above(raw))
+                self._made.add(raw)
+                directories.append(change.entry)
                 if change.opaque:
-                    os.setxattr(raw, f"{self._prefix}overlay.opaque", b"y")
+                    with _opened(_name(raw), self._above(raw)) as made:
+                        os.setxattr(made, f"{self._prefix}overlay.opaque", b"y")
             else:
                 self._write_other(raw, change)
         if not directories:
-            os.mkdir(self._root)
-        for raw, entry in reversed(directories):
-            self._describe(raw, entry)
+            os.mkdir(_UPPER, dir_fd=self._folder)
+        for entry in reversed(directories):
+            raw = _raw(entry.path)
+            with _opened(_name(raw), self._above(raw)) as made:
+                self._describe(made, entry)
 
-    def _raw(self, path: str) -> bytes:
-        return self._root if path == "/" else self._root + raw_of(path)
+    def _above(self, raw: bytes) -> int:
+        """The directory above a path, which has to be one that was made here."""
+        above = raw.rpartition(b"/")[0]
+        if above not in self._made:
+            raise Unsayable(f"{shown(raw[len(_UPPER):])}: what is above it is no directory")
+        if self._way[0] == above:
+            return self._way[1]
+        found = os.dup(self._folder)
+        for name in above.split(b"/") if above else ():
+            before = found
+            try:
+                found = os.open(name, _DIRECTORY, dir_fd=before)
+            finally:
+                os.close(before)
+        os.close(self._way[1])
+        self._way = above, found
+        return found
 
     def _write_other(self, raw: bytes, change: Change) -> None:
-        entry = change.entry
+        entry, above, name = change.entry, self._above(raw), _name(raw)
         if entry is None:
-            os.mknod(raw, stat.S_IFCHR, os.makedev(0, 0))
+            os.mknod(name, stat.S_IFCHR, os.makedev(0, 0), dir_fd=above)
         elif change.link_to is not None:
-            os.link(self._raw(change.link_to), raw, follow_symlinks=False)
+            self._link(_raw(change.link_to), raw)
         elif entry.kind == SYMLINK:
-            os.symlink(raw_of(entry.target), raw)
-            os.chown(raw, entry.uid, entry.gid, follow_symlinks=False)
+            os.symlink(raw_of(entry.target), name, dir_fd=above)
+            os.chown(name, entry.uid, entry.gid, dir_fd=above, follow_symlinks=False)
+        elif entry.kind == FILE:
+            descriptor = os.open(name, _NEW, 0o600, dir_fd=above)
+            with open(descriptor, "wb") as stream:
+                for piece in self._mounted.pieces(entry):
+                    stream.write(piece)
+                stream.flush()
+                self._describe(descriptor, entry)
         else:
-            with open(raw, "xb") as stream:
-                stream.write(self._mounted.read(entry))
-            self._describe(raw, entry)
+            check_device(entry)
+            os.mknod(name, _SPECIAL[entry.kind] | 0o600, entry.device, dir_fd=above)
+            self._describe(b"/proc/self/fd/%d/%b" % (above, name), entry)
+
+    def _link(self, first: bytes, raw: bytes) -> None:
+        above, name = os.dup(self._above(first)), _name(first)
+        try:
+            os.link(name, _name(raw), src_dir_fd=above, dst_dir_fd=self._above(raw),
+                    follow_symlinks=False)
+        finally:
+            os.close(above)
 
     @staticmethod
-    def _describe(raw: bytes, entry: Entry) -> None:
-        os.chown(raw, entry.uid, entry.gid)
+    def _describe(made: Union[int, bytes], entry: Entry) -> None:
+        """Gives what was made its owner, attributes, mode and time, in this order."""
+        os.chown(made, entry.uid, entry.gid)
         for name, value in entry.attrs:
-            os.setxattr(raw, raw_of(name), value)
-        os.chmod(raw, entry.mode)
+            os.setxattr(made, raw_of(name), value)
+        os.chmod(made, entry.mode)
+        if entry.mtime is not None:
+            os.utime(made, ns=(entry.mtime, entry.mtime))
+
+
+def _raw(path: str) -> bytes:
+    """The path below the folder in which the directory is made."""
+    return _UPPER if path == "/" else _UPPER + raw_of(path)
+
+
+def _name(raw: bytes) -> bytes:
+    return raw.rpartition(b"/")[2]

@@ -1,34 +1,24 @@
 """Bytes that can be read from their start again and again, plain or compressed."""
 
-import bz2
-import gzip
-import importlib
 import io
 import lzma
 import os
-import shutil
 import stat
-import tarfile
 import tempfile
 import weakref
 import zlib
 from contextlib import contextmanager
-from typing import BinaryIO, Callable, Dict, Iterator, Optional, Tuple, cast
+from typing import BinaryIO, Iterator, Optional, Tuple, cast
 
+from . import limits
 from .telling import Refused, shown
+from .unpacking import form_of, unpacking
 
 _CHUNK = 1 << 20
-_MAGIC = {b"\x1f\x8b": "gzip", b"BZh": "bzip2", b"\xfd7zXZ\0": "xz", b"\x28\xb5\x2f\xfd": "zstd"}
-_READERS: Dict[str, Callable[[BinaryIO], BinaryIO]] = {
-    "gzip": lambda stream: cast(BinaryIO, gzip.GzipFile(fileobj=stream, mode="rb")),
-    "bzip2": lambda stream: cast(BinaryIO, bz2.BZ2File(stream, "rb")),
-    "xz": lambda stream: cast(BinaryIO, lzma.LZMAFile(stream, "rb")),
-}
-try:
-    _zstd = importlib.import_module("compression.zstd")
-    _READERS["zstd"] = lambda stream: cast(BinaryIO, _zstd.ZstdFile(stream, "rb"))
-except ImportError:
-    pass
+
+
+class Broken(Exception):
+    """What is read isn't of the form that it should be."""
 
 
 class _Kept:
@@ -44,7 +34,8 @@ def reading(name: str) -> Iterator[None]:
     """Turns what is wrong with the form of a file into one line."""
     try:
         yield
-    except (tarfile.TarError, EOFError, zlib.error, lzma.LZMAError) as error:
+    except (Broken, EOFError, zlib.error, lzma.LZMAError, ValueError, OverflowError, IndexError,
+            RecursionError) as error:
         raise Refused(f"{shown(name)}: no tar, or not a whole one: {error}") from None
     except OSError as error:
         if error.errno is not None:
@@ -53,37 +44,59 @@ def reading(name: str) -> Iterator[None]:
 
 
 class Blob:
-    """A stretch of an open file; `path` is that of the file, if it has one that stays."""
+    """A stretch of an open file; `path` is that of the file, if it has one that stays. At most
+    `most` bytes are unpacked from it, where that is said. `has_end` is false of a tar that was
+    read and has no end."""
 
     def __init__(self, name: str, kept: _Kept, offset: int, size: int,
-                 path: Optional[str] = None) -> None:
+                 path: Optional[str] = None, most: Optional[int] = None) -> None:
         self.name = name
         self._kept = kept
         self._offset = offset
         self.size = size
         self._path = path
+        self._most = most
+        self._form: Optional[str] = None
+        self._asked = False
+        self.has_end = True
 
     @classmethod
-    def of_path(cls, path: str) -> "Blob":
+    def of_path(cls, path: str, most: Optional[int] = None) -> "Blob":
         """A whole file; what can't be read twice is kept in a temporary file."""
         with open(path, "rb", buffering=0) as file:
-            status = os.fstat(file.fileno())
-            if not stat.S_ISREG(status.st_mode):
-                return cls.of_stream(path, cast(BinaryIO, file))
-            return cls(path, _Kept(os.dup(file.fileno())), 0, status.st_size,
-                       os.path.abspath(path))
+            return cls.of_descriptor(path, file.fileno(), os.path.realpath(path), most)
 
     @classmethod
-    def of_stream(cls, name: str, stream: BinaryIO) -> "Blob":
+    def of_descriptor(cls, name: str, descriptor: int, path: Optional[str],
+                      most: Optional[int] = None) -> "Blob":
+        """What a descriptor has, which the caller closes."""
+        status = os.fstat(descriptor)
+        if not stat.S_ISREG(status.st_mode):
+            with open(descriptor, "rb", buffering=0, closefd=False) as file:
+                return cls.of_stream(name, cast(BinaryIO, file), most)
+        return cls(name, _Kept(os.dup(descriptor)), 0, status.st_size, path, most)
+
+    @classmethod
+    def of_stream(cls, name: str, stream: BinaryIO, most: Optional[int] = None) -> "Blob":
         """What a stream has, kept in a temporary file without a name."""
+        bound = limits.UNPACKED_MOST if most is None else most
         with tempfile.TemporaryFile(prefix="overlayd-import-", buffering=0) as file:
-            shutil.copyfileobj(stream, file, _CHUNK)
-            size = os.fstat(file.fileno()).st_size
-            return cls(name, _Kept(os.dup(file.fileno())), 0, size)
+            size = 0
+            while True:
+                data = stream.read(_CHUNK)
+                if not data:
+                    return cls(name, _Kept(os.dup(file.fileno())), 0, size, None, most)
+                size += len(data)
+                if size > bound:
+                    raise Refused(f"{shown(name)}: more than {bound:,} bytes (--unpack-limit)")
+                view = memoryview(data)
+                while view:
+                    view = view[file.write(view):]
 
     def part(self, name: str, offset: int, size: int) -> "Blob":
         """A stretch of this one."""
-        return Blob(f"{self.name}: {name}", self._kept, self._offset + offset, size, self._path)
+        return Blob(f"{self.name}: {name}", self._kept, self._offset + offset, size, self._path,
+                    self._most)
 
     def in_file(self) -> Optional[Tuple[str, int]]:
         """The path of the file that has these bytes as they are read, and where they begin there;
@@ -99,24 +112,35 @@ class Blob:
 
     def is_compressed(self) -> bool:
         """Whether the bytes begin as one of the compressed forms does."""
-        with self.raw() as stream:
-            return _form(stream.read(6)) is not None
+        return self._in_form() is not None
+
+    def _in_form(self) -> Optional[str]:
+        if not self._asked:
+            with self.raw() as stream:
+                self._form = form_of(stream.read(6))
+            self._asked = True
+        return self._form
 
     def plain(self) -> BinaryIO:
         """A stream of the bytes, decompressed where they are compressed."""
-        stream = self.raw()
-        form = _form(stream.read(6))
-        stream.seek(0)
+        form = self._in_form()
         if form is None:
-            return stream
-        if form not in _READERS:
-            raise Refused(f"{shown(self.name)}: compressed by {form}, which this Python can't read")
-        return _READERS[form](stream)
+            return self.raw()
+        unpacked = _Bounded(unpacking(form, self.raw(), shown(self.name)), self._bound(),
+                            shown(self.name))
+        return cast(BinaryIO, io.BufferedReader(unpacked, 1 << 16))
+
+    def _bound(self) -> int:
+        """How many bytes may be unpacked."""
+        if self._most is not None:
+            return self._most
+        return min(limits.UNPACKED_MOST, max(limits.UNPACKED_LEAST, limits.GROWTH * self.size))
 
     def unpacked(self) -> "Blob":
         """A blob of the decompressed bytes, in a temporary file without a name."""
         with reading(self.name), self.plain() as stream:
-            return Blob.of_stream(self.name, stream)
+            return Blob.of_stream(self.name, stream, self._most)
+
 
 
 class _Stretch(io.RawIOBase):
@@ -150,12 +174,29 @@ class _Stretch(io.RawIOBase):
         return self._place
 
 
-def _form(head: bytes) -> Optional[str]:
-    """The compressed form that begins so."""
-    for magic, form in _MAGIC.items():
-        if head.startswith(magic):
-            return form
-    return None
+class _Bounded(io.RawIOBase):
+    """What is unpacked, up to a bound, behind which it is refused."""
+
+    def __init__(self, stream: io.RawIOBase, most: int, name: str) -> None:
+        self._stream = stream
+        self._most = most
+        self._name = name
+        self._count = 0
+
+    def readable(self) -> bool:
+        return True
+
+    def readinto(self, buffer: "bytearray") -> int:  # type: ignore[override]
+        count = self._stream.readinto(buffer) or 0
+        self._count += count
+        if self._count > self._most:
+            raise Refused(f"{self._name}: more than {self._most:,} bytes are in it when it is "
+                          "unpacked (--unpack-limit)")
+        return count
+
+    def close(self) -> None:
+        self._stream.close()
+        super().close()
 
 
 def skip(stream: BinaryIO, count: int) -> None:

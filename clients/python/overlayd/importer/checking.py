@@ -2,9 +2,10 @@
 
 import os
 import stat
-from typing import Any, Callable, Dict, Iterator, List, NamedTuple, Optional, Tuple
+from typing import Any, Callable, Dict, Iterator, List, NamedTuple, Optional, Sequence, Tuple
 
 from . import limits
+from .doubts import Doubt, doubts_of
 from .toml import Found, NotToml, Other, Table, read
 
 KINDS = ("dir", "file", "symlink", "whiteout", "link")
@@ -38,12 +39,14 @@ class Fault(NamedTuple):
 
 
 class Checked(NamedTuple):
-    """What a check came to: the faults by their lines, and what overlayd says, if anything."""
+    """What a check came to: the faults by their lines, what overlayd says, if anything, and what
+    is no fault and likely a mistake."""
 
     faults: List[Fault]
     first: Optional[str]
     layers: int = 0
     entries: int = 0
+    doubts: Sequence[Doubt] = ()
 
 
 def check(data: bytes, folder: str = "") -> Checked:
@@ -52,7 +55,8 @@ def check(data: bytes, folder: str = "") -> Checked:
         top = read(data)
     except NotToml as fault:
         return Checked([Fault(fault.line, "", "not TOML", str(fault))], "manifest: not TOML")
-    return _Check(folder).manifest(top)
+    found = _Check(folder).manifest(top)
+    return found if found.faults else found._replace(doubts=doubts_of(top, data))
 
 
 def _is(value: Any, kind: type) -> bool:

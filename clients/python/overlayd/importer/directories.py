@@ -1,53 +1,59 @@
-"""Layers that are directories: plain ones, and uppers and lowers of the kernel's overlayfs."""
+"""Layers that are directories: plain ones, and uppers and lowers of the kernel's overlayfs.
+
+Nothing outside of the directory is read, whoever changes it meanwhile: names are opened below
+descriptors, links aren't followed, and what is read is the object that was seen.
+"""
 
 import os
 import stat
 from typing import Dict, Iterable, Iterator, List, NamedTuple, Optional, Set, Tuple, Union
 
 from . import limits, marks
+from .descriptors import (Identity, Place, Root, Ways, changed, identity_of, is_change, open_at,
+                          pieces, read_small)
+from .keeping import Keep
 from .merging import Layer, Merge
+from .meta import KINDS
 from .metacopy import read_through
-from .objects import WHITEOUT, Content, Data, Directory, File, Object, Symlink
+from .objects import PIECE, WHITEOUT, Content, Data, Directory, File, Inode, Long, Object, Symlink
 from .telling import ATTRIBUTE, OTHER_KIND, OVER_LIMIT, UNSAYABLE, Refused, Report, shown
 from .writing import Files, LayerWriter, write_tree
 
-_KINDS = {
-    stat.S_IFIFO: "a fifo",
-    stat.S_IFSOCK: "a socket",
-    stat.S_IFCHR: "a character device",
-    stat.S_IFBLK: "a block device",
-}
-Identity = Tuple[int, int]
+_HAS_ATTRIBUTES = hasattr(os, "listxattr")
+_LETTERS = {stat.S_IFIFO: "p", stat.S_IFSOCK: "s", stat.S_IFCHR: "c", stat.S_IFBLK: "b"}
 
 
 class Step(NamedTuple):
-    """One name on a walk: its path in the layer, its directory, and what stands there."""
+    """One name on a walk: its path in the layer, its directory, what stands there, and of a file
+    the descriptor, which is open until the next step."""
 
     path: str
     name: str
     parent: Directory
     node: Object
+    descriptor: int = -1
 
 
 class _Open(NamedTuple):
-    """A directory whose names are being walked."""
+    """A directory whose names are being walked; `raw` is its path from the root and a `/`."""
 
     raw: bytes
     base: str
-    names: Iterator[bytes]
+    entries: Iterator["os.DirEntry[str]"]
     node: Directory
 
 
 class DirectoryLayer(Content, Layer):
-    """A directory of the file system as a layer; `below` has the layers under it. A file of more
-    than `most` bytes is left out."""
+    """A directory of the file system as a layer; `below` has the layers under it. What `keep`
+    doesn't say is left out."""
 
     def __init__(self, path: str, report: Report, skip: Set[Identity], below: Merge,
-                 most: int) -> None:
+                 keep: Keep) -> None:
         self.name = path
         self.covers = True
-        self.most = most
-        self._path = os.fsencode(path)
+        self.most = keep.most
+        self._keep = keep
+        self._root = Root(path)
         self._report = report
         self._skip = skip
         self._below = below
@@ -67,29 +73,39 @@ class DirectoryLayer(Content, Layer):
 
     def root(self) -> Directory:
         """The root alone."""
-        status = os.stat(self._path)
-        found = self._marks(self._path, "/", follow=True)
-        return Directory(status.st_mode & limits.MODE_BITS, status.st_uid, status.st_gid,
+        status = os.fstat(self._root.descriptor)
+        found = self._marks(self._root.descriptor, "/")
+        root = Directory(status.st_mode & limits.MODE_BITS, status.st_uid, status.st_gid,
                          found.attrs)
+        self._give_time(root, status, found)
+        return root
 
     def largest(self) -> int:
         """How many bytes its largest file has. Where no tree was needed before, none is made:
         sizes alone are asked for."""
         if self._tree is not None:
             return super().largest()
-        largest, todo = 0, [self._path]
-        while todo:
-            with os.scandir(todo.pop()) as entries:
-                for entry in entries:
-                    if entry.is_dir(follow_symlinks=False):
-                        todo.append(entry.path)
-                    elif entry.is_file(follow_symlinks=False):
-                        largest = max(largest, self._counted(os.lstat(entry.path)))
+        ways, largest = Ways(self._root), 0
+        todo = [_listed(ways.here)]
+        try:
+            while todo:
+                entry = next(todo[-1], None)
+                if entry is None:
+                    todo.pop()
+                    ways.up()
+                elif entry.is_dir(follow_symlinks=False):
+                    ways.down(self._opened(entry.name, ways, os.fsencode(entry.name), True))
+                    todo.append(_listed(ways.here))
+                elif entry.is_file(follow_symlinks=False):
+                    largest = max(largest, self._counted(entry.name, ways))
+        finally:
+            ways.close()
         return largest
 
-    def _counted(self, status: os.stat_result) -> int:
+    def _counted(self, name: str, ways: Ways) -> int:
         """The size of a file; 0 where it is left out for that, or is the unfinished manifest."""
-        if (status.st_dev, status.st_ino) in self._skip or status.st_size > self.most:
+        status = os.stat(name, dir_fd=ways.here, follow_symlinks=False)
+        if identity_of(status) in self._skip or status.st_size > self.most:
             return 0
         return status.st_size
 
@@ -112,7 +128,7 @@ class DirectoryLayer(Content, Layer):
         elif layer.again(step.path, node):
             pass
         elif isinstance(node, File):
-            data = self._read(node, step.path)
+            data = self._read(node, step.descriptor, step.path)
             if data is not None:
                 layer.file(step.path, node, data)
             elif self.covers:
@@ -126,65 +142,118 @@ class DirectoryLayer(Content, Layer):
     def read_each(self, files: Iterable[File]) -> Iterator[Tuple[File, Data]]:
         """The files with their bytes, in the order in which they are asked for."""
         for file in files:
-            data = self._read(file, os.fsdecode(self._raw(file)))
-            if data is not None:
-                yield file, data
+            if file.special is not None:
+                yield file, b""
+                continue
+            assert isinstance(file.place, Place)
+            descriptor = self._root.open_file(file.place)
+            try:
+                data = self._read(file, descriptor, os.fsdecode(b"/" + file.place.raw))
+                if data is not None:
+                    yield file, data
+            finally:
+                os.close(descriptor)
 
     def _walk(self, root: Directory) -> Iterator[Step]:
         """Each name below the root, a directory before what is in it, names by their bytes."""
-        stack = [self._opened(self._path, "/", root)]
+        ways = Ways(self._root)
+        stack = [_Open(b"", "/", _listed(ways.here), root)]
         merge = self._below.under(root)
-        while stack:
-            here = stack[-1]
-            raw = next(here.names, None)
-            if raw is None:
-                stack.pop()
-                continue
-            full = os.path.join(here.raw, raw)
-            status = os.lstat(full)
-            if (status.st_dev, status.st_ino) in self._skip:
-                continue
-            fault = limits.name_fault(raw)
+        try:
+            while stack:
+                entry = next(stack[-1].entries, None)
+                if entry is None:
+                    stack.pop()
+                    ways.up()
+                else:
+                    yield from self._step(entry, stack, ways, merge)
+        finally:
+            ways.close()
+
+    def _step(self, entry: "os.DirEntry[str]", stack: List[_Open], ways: Ways,
+              merge: Merge) -> Iterator[Step]:
+        """What stands at one name; a directory is gone into."""
+        here, name = stack[-1], entry.name
+        is_directory = entry.is_dir(follow_symlinks=False)
+        if not (name.isascii() and len(name) <= limits.NAME_BYTES):
+            fault = limits.name_fault(os.fsencode(name))
             if fault is not None:
-                below = ", and all in it" if stat.S_ISDIR(status.st_mode) else ""
-                self._report.leave_out(self.name, here.base.encode() + raw, UNSAYABLE,
+                below = ", and all in it" if is_directory else ""
+                self._report.leave_out(self.name, os.fsencode(here.base + name), UNSAYABLE,
                                        fault + below)
-                continue
-            name = raw.decode()
-            path = here.base + name
-            node = self._object(full, path, status, merge)
-            if node is None and self.covers and limits.path_fault(path) is None:
-                node = WHITEOUT
-            if node is None:
-                continue
-            yield Step(path, name, here.node, node)
-            if isinstance(node, Directory):
-                stack.append(self._opened(full, path + "/", node))
-
-    @staticmethod
-    def _opened(raw: bytes, base: str, node: Directory) -> _Open:
-        return _Open(raw, base, iter(sorted(os.listdir(raw))), node)
-
-    def _object(self, full: bytes, path: str, status: os.stat_result,
-                merge: Merge) -> Optional[Object]:
-        """What stands there, or None where it was left out. `merge` has the way to it over the
-        layers below."""
+                return
+        path = here.base + name
         fault = limits.path_fault(path)
-        kind = stat.S_IFMT(status.st_mode)
         if fault is not None:
             self._report.leave_out(self.name, path, UNSAYABLE, fault)
+            return
+        raw = here.raw + os.fsencode(name)
+        is_file = not is_directory and entry.is_file(follow_symlinks=False)
+        descriptor = self._opened(name, ways, raw, is_directory) if is_file or is_directory else -1
+        try:
+            node = self._object(name, path, raw, descriptor, ways, merge)
+            if isinstance(node, Directory):
+                ways.down(descriptor)
+                descriptor, kept = -1, ways.here
+                yield Step(path, name, here.node, node)
+                stack.append(_Open(raw + b"/", path + "/", _listed(kept), node))
+            elif node is not None:
+                yield Step(path, name, here.node, node, descriptor)
+        finally:
+            if descriptor >= 0:
+                os.close(descriptor)
+
+    def _opened(self, name: str, ways: Ways, raw: bytes, is_directory: bool) -> int:
+        try:
+            return open_at(name, ways.here, is_directory)
+        except OSError as error:
+            path = os.path.join(os.fsencode(self.name), raw)
+            if is_change(error):
+                raise changed(shown(path)) from None
+            raise OSError(error.errno, error.strerror, os.fsdecode(path)) from None
+
+    def _object(self, name: str, path: str, raw: bytes, descriptor: int, ways: Ways,
+                merge: Merge) -> Optional[Object]:
+        """What stands there, or None where there is nothing to write. `merge` has the way to it
+        over the layers below."""
+        if descriptor >= 0:
+            status = os.fstat(descriptor)
+        else:
+            status = os.stat(name, dir_fd=ways.here, follow_symlinks=False)
+        if self._skip and identity_of(status) in self._skip:
             return None
-        if kind == stat.S_IFREG:
-            return self._file(full, path, status, merge)
-        if kind == stat.S_IFDIR:
-            return self._directory(full, path, status)
-        if kind == stat.S_IFLNK:
-            return self._symlink(full, path, status)
-        if kind == stat.S_IFCHR and status.st_rdev == 0:
+        kind = stat.S_IFMT(status.st_mode)
+        node: Optional[Object]
+        if kind == stat.S_IFREG and descriptor >= 0:
+            node = self._file(raw, path, descriptor, status, merge)
+        elif kind == stat.S_IFDIR and descriptor >= 0:
+            node = self._directory(path, descriptor, status)
+        elif kind == stat.S_IFLNK:
+            node = self._symlink(name, path, ways, status)
+        elif kind == stat.S_IFCHR and status.st_rdev == 0:
             self._warn()
-            return WHITEOUT
-        self._report.leave_out(self.name, path, OTHER_KIND, _KINDS.get(kind, "of no known kind"))
-        return None
+            node = WHITEOUT
+        elif kind in _LETTERS:
+            node = self._special(name, path, _LETTERS[kind], ways, status)
+        else:
+            raise changed(f"{shown(self.name)}: {shown(path)}")
+        return WHITEOUT if node is None and self.covers else node
+
+    def _special(self, name: str, path: str, letter: str, ways: Ways,
+                 status: os.stat_result) -> Optional[Object]:
+        """A fifo, socket or device, which is an empty file with an attribute."""
+        if not self._keep.devices:
+            self._report.leave_out(self.name, path, OTHER_KIND, KINDS[letter])
+            return None
+        identity = identity_of(status)
+        if identity in self._shared:
+            return self._shared[identity]
+        found = self._marks(_by_name(ways.here, name), path)
+        node = File(status.st_mode & limits.MODE_BITS, status.st_uid, status.st_gid, found.attrs, 0)
+        node.source = self
+        node.special = letter, status.st_rdev if letter in "cb" else 0
+        self._give_time(node, status, found)
+        return self._maybe_shared(node, status)
 
     def _warn(self) -> None:
         """Says once that a user who isn't root can't see the marks of an upper."""
@@ -194,12 +263,11 @@ class DirectoryLayer(Content, Layer):
                               "`trusted.overlay.` attributes: opaque directories, redirects and "
                               "files whose bytes are in a lower layer may be missed")
 
-    def _file(self, full: bytes, path: str, status: os.stat_result,
+    def _file(self, raw: bytes, path: str, descriptor: int, status: os.stat_result,
               merge: Merge) -> Optional[Object]:
-        identity = (status.st_dev, status.st_ino)
-        if identity in self._shared:
-            return self._shared[identity]
-        found = self._marks(full, path)
+        if status.st_nlink > 1 and identity_of(status) in self._shared:
+            return self._shared[identity_of(status)]
+        found = self._marks(descriptor, path)
         if found.whiteout and status.st_size == 0:
             return WHITEOUT
         if status.st_size > self.most:
@@ -208,7 +276,8 @@ class DirectoryLayer(Content, Layer):
         file = File(status.st_mode & limits.MODE_BITS, status.st_uid, status.st_gid, found.attrs,
                     status.st_size)
         file.source = self
-        file.place = full
+        file.place = Place(raw, status.st_dev, status.st_ino)
+        self._give_time(file, status, found)
         if found.metacopy:
             fault = read_through(file, tuple(path[1:].split("/")), found.redirect, merge)
             if fault is not None:
@@ -218,72 +287,96 @@ class DirectoryLayer(Content, Layer):
     def _maybe_shared(self, node: Union[File, Symlink], status: os.stat_result) -> Object:
         if status.st_nlink > 1:
             node.linked = True
-            self._shared[(status.st_dev, status.st_ino)] = node
+            self._shared[identity_of(status)] = node
         return node
+
+    def _give_time(self, node: Inode, status: os.stat_result, found: marks.Marks) -> None:
+        if self._keep.times and not found.has_meta:
+            node.mtime = status.st_mtime_ns
 
     def _too_large(self, path: str, size: int) -> None:
         self._report.leave_out(self.name, path, OVER_LIMIT,
                                limits.size_fault(size, self.most))
 
-    def _directory(self, full: bytes, path: str, status: os.stat_result) -> Directory:
-        found = self._marks(full, path)
+    def _directory(self, path: str, descriptor: int, status: os.stat_result) -> Directory:
+        found = self._marks(descriptor, path)
         node = Directory(status.st_mode & limits.MODE_BITS, status.st_uid, status.st_gid,
                          found.attrs)
         node.opaque = found.opaque
+        self._give_time(node, status, found)
         if found.redirect is not None and not found.opaque:
             node.redirect, node.opaque = marks.redirect_text(found.redirect, self._teller(path))
         return node
 
-    def _symlink(self, full: bytes, path: str, status: os.stat_result) -> Optional[Object]:
-        identity = (status.st_dev, status.st_ino)
-        if identity in self._shared:
+    def _symlink(self, name: str, path: str, ways: Ways,
+                 status: os.stat_result) -> Optional[Object]:
+        identity = identity_of(status)
+        if status.st_nlink > 1 and identity in self._shared:
             return self._shared[identity]
-        target = os.readlink(full)
+        target = os.fsencode(os.readlink(name, dir_fd=ways.here))
         fault = limits.target_fault(target)
         if fault is not None:
             self._report.leave_out(self.name, path, UNSAYABLE, fault)
             return None
-        for name, _ in self._marks(full, path).attrs:
-            self._teller(path)(ATTRIBUTE, f"attribute {shown(name)} of a symbolic link")
+        for attribute, _ in self._marks(_by_name(ways.here, name), path, is_link=True).attrs:
+            self._teller(path)(ATTRIBUTE, f"attribute {shown(attribute)} of a symbolic link")
         return self._maybe_shared(Symlink(status.st_uid, status.st_gid, target.decode()), status)
 
-    def _marks(self, full: bytes, path: str, follow: bool = False) -> marks.Marks:
-        pairs = self._attributes(full, follow)
-        return marks.read_marks(pairs, self._teller(path)) if pairs else marks.NONE
+    def _marks(self, where: Union[int, bytes], path: str, is_link: bool = False) -> marks.Marks:
+        pairs = _attributes(where)
+        if not pairs:
+            return marks.NONE
+        keep = Keep() if is_link else self._keep
+        return marks.read_marks(pairs, self._teller(path), keep)
 
     def _teller(self, path: str) -> marks.Tell:
         return lambda group, why: self._report.leave_out(self.name, path, group, why)
 
-    @staticmethod
-    def _attributes(full: bytes, follow: bool) -> List[Tuple[bytes, bytes]]:
-        """The extended attributes; none where the system or the file system has none."""
-        if not hasattr(os, "listxattr"):
-            return []
-        try:
-            names = os.listxattr(full, follow_symlinks=follow)
-        except OSError as error:
-            if error.errno in limits.NO_ATTRIBUTES:
-                return []
-            raise
-        return [(os.fsencode(name), os.getxattr(full, name, follow_symlinks=follow))
-                for name in names]
-
-    @staticmethod
-    def _raw(file: File) -> bytes:
-        assert isinstance(file.place, bytes)
-        return file.place
-
-    def _read(self, file: File, path: str) -> Optional[bytes]:
+    def _read(self, file: File, descriptor: int, path: str) -> Optional[Data]:
         """The bytes of a file; None where it has grown over the limit meanwhile."""
-        most = self.most + 1
-        with open(self._raw(file), "rb", buffering=0) as stream:
-            data = stream.read(min(file.size + 1, most))
-            while len(data) != file.size and len(data) < most:
-                more = stream.read(most - len(data))
-                if not more:
-                    break
-                data += more
-        if len(data) == most:
+        if file.special is not None:
+            return b""
+        if file.size > PIECE:
+            size = os.fstat(descriptor).st_size
+            if size > self.most:
+                self._too_large(path, size)
+                return None
+            name = f"{shown(self.name)}: {shown(path)}"
+            return Long(size, lambda: pieces(descriptor, size, name))
+        data = os.read(descriptor, file.size + 1)
+        if len(data) != file.size:
+            data += read_small(descriptor, self.most + 1 - len(data))
+        if len(data) > self.most:
             self._too_large(path, len(data))
             return None
         return data
+
+
+def _listed(descriptor: int) -> Iterator["os.DirEntry[str]"]:
+    """The names of a directory by their bytes."""
+    with os.scandir(descriptor) as entries:
+        return iter(sorted(entries, key=_name_of))
+
+
+def _name_of(entry: "os.DirEntry[str]") -> str:
+    return entry.name
+
+
+def _by_name(directory: int, name: str) -> bytes:
+    """A path of what stands in an open directory and can't be opened itself."""
+    return b"/proc/self/fd/%d/%b" % (directory, os.fsencode(name))
+
+
+def _attributes(where: Union[int, bytes]) -> List[Tuple[bytes, bytes]]:
+    """The extended attributes; none where the system or the file system has none."""
+    if not _HAS_ATTRIBUTES:
+        return []
+    follows = isinstance(where, int)
+    try:
+        names = os.listxattr(where, follow_symlinks=follows)
+        return [(os.fsencode(name), os.getxattr(where, name, follow_symlinks=follows))
+                for name in names] if names else []
+    except OSError as error:
+        if error.errno in limits.NO_ATTRIBUTES or not follows and not os.path.exists("/proc/self"):
+            return []
+        raise

@@ -1,22 +1,20 @@
 """Whole images: archives of `docker save` and OCI layouts, as directories or tars."""
 
-import json
-import os
-import posixpath
-import tarfile
-from typing import Any, Dict, List, NamedTuple, Optional, Union
+from typing import Any, Dict, List, NamedTuple, Optional
 
+from . import limits
+from .archives import Archive, TarArchive, are_texts, is_saved, plain_name, skopeo_digests
 from .blobs import Blob
-from .tars import members
+from .members import members
 from .telling import Refused, shown
 
 _INDEXES = ("application/vnd.oci.image.index.v1+json",
             "application/vnd.docker.distribution.manifest.list.v2+json")
 _NAMES = ("org.opencontainers.image.ref.name", "io.containerd.image.name")
 _REFERENCE = "vnd.docker.reference.type"
-_JSON_BYTES = 1 << 26
 _DEPTH = 3
 _MEMBERS = 10_000
+_DESCRIPTORS_MOST = 4096
 
 
 class Choice(NamedTuple):
@@ -24,86 +22,6 @@ class Choice(NamedTuple):
 
     image: Optional[str] = None
     platform: Optional[str] = None
-
-
-class Archive:
-    """The files of an image, by their names."""
-
-    name = ""
-
-    def open(self, name: str) -> Optional[Blob]:
-        """The file of this name, if there is one."""
-        raise NotImplementedError
-
-    def json(self, name: str) -> Any:
-        """The JSON that a file has; None where there is no such file."""
-        blob = self.open(name)
-        if blob is None:
-            return None
-        if blob.size > _JSON_BYTES:
-            raise Refused(f"{shown(blob.name)}: too long for a description of an image")
-        with blob.raw() as stream:
-            try:
-                return json.loads(stream.read())
-            except (ValueError, RecursionError):
-                raise Refused(f"{shown(blob.name)}: no JSON") from None
-
-    def is_image(self) -> bool:
-        """Whether it is an archive of `docker save` or an OCI layout."""
-        if self.open("oci-layout") is not None and self.open("index.json") is not None:
-            return True
-        return self.open("manifest.json") is not None and _is_saved(self._maybe_json())
-
-    def _maybe_json(self) -> Any:
-        try:
-            return self.json("manifest.json")
-        except Refused:
-            return None
-
-
-class DirectoryArchive(Archive):
-    """An image as a directory."""
-
-    def __init__(self, path: str) -> None:
-        self.name = path
-
-    def open(self, name: str) -> Optional[Blob]:
-        plain = _plain_name(name)
-        path = os.path.join(self.name, plain)
-        return Blob.of_path(path) if plain[:2] != ".." and os.path.isfile(path) else None
-
-
-class TarArchive(Archive):
-    """An image as a tar, which must not be compressed."""
-
-    def __init__(self, blob: Blob) -> None:
-        self.name = blob.name
-        self._blob = blob
-        self._parts: Dict[str, Union[str, Blob]] = {}
-        for member in members(blob):
-            self._keep(member)
-
-    def _keep(self, member: tarfile.TarInfo) -> None:
-        name = _plain_name(member.name)
-        if member.isreg():
-            self._parts[name] = self._blob.part(name, member.offset_data, member.size)
-        elif member.issym():
-            above = posixpath.dirname(name)
-            self._parts[name] = _plain_name(posixpath.join(above, member.linkname))
-        elif member.islnk():
-            self._parts[name] = _plain_name(member.linkname)
-
-    def open(self, name: str) -> Optional[Blob]:
-        part: Union[str, Blob, None] = _plain_name(name)
-        for _ in range(8):
-            if not isinstance(part, str):
-                return part
-            part = self._parts.get(part)
-        return None
-
-
-def _plain_name(name: str) -> str:
-    return posixpath.normpath(name).lstrip("/")
 
 
 def archive_in(blob: Blob) -> Optional[Archive]:
@@ -118,7 +36,7 @@ def _may_be_image(blob: Blob) -> bool:
     """Whether a tar has what an image has, few members and nothing more than three names deep."""
     tops = set()
     for member in members(blob):
-        name = _plain_name(member.name)
+        name = plain_name(member.name)
         if name.count("/") >= _DEPTH or name.rpartition("/")[2].startswith(".wh."):
             return False
         tops.add(name)
@@ -131,12 +49,17 @@ def layers_of(archive: Archive, choice: Choice) -> List[Blob]:
     """The layers of the image that is meant, the highest first."""
     saved = archive.json("manifest.json")
     is_layout = archive.open("oci-layout") is not None
-    if _is_saved(saved) and not (choice.platform and is_layout):
+    if is_saved(saved) and not (choice.platform and is_layout):
         names = _saved_layers(archive, saved, choice)
     elif is_layout:
         names = _layout_layers(archive, choice)
+    elif skopeo_digests(archive) is not None:
+        names = skopeo_digests(archive) or []
     else:
         raise Refused(f"{shown(archive.name)}: no archive of docker save and no OCI layout")
+    if len(names) > limits.LAYERS_READ:
+        raise Refused(f"{shown(archive.name)}: {len(names):,} layers; at most "
+                      f"{limits.LAYERS_READ} are read")
     return [_layer(archive, name) for name in reversed(names)]
 
 
@@ -145,17 +68,6 @@ def _layer(archive: Archive, name: str) -> Blob:
     if blob is None:
         raise Refused(f"{shown(archive.name)}: the layer {shown(name)} isn't there")
     return blob
-
-
-def _is_saved(found: Any) -> bool:
-    """Whether this is the list of images that `docker save` writes."""
-    return (isinstance(found, list) and bool(found)
-            and all(isinstance(image, dict) and _are_texts(image.get("Layers"))
-                    for image in found))
-
-
-def _are_texts(found: Any) -> bool:
-    return isinstance(found, list) and all(isinstance(item, str) for item in found)
 
 
 def _saved_layers(archive: Archive, images: List[Dict[str, Any]], choice: Choice) -> List[str]:
@@ -172,7 +84,7 @@ def _saved_layers(archive: Archive, images: List[Dict[str, Any]], choice: Choice
 def _tags(image: Dict[str, Any]) -> List[str]:
     """The names that `docker save` gives an image."""
     tags = image.get("RepoTags")
-    return tags if _are_texts(tags) else []
+    return tags if are_texts(tags) else []
 
 
 def _one_of(archive: Archive, found: List[Any], names: List[str]) -> None:
@@ -180,7 +92,7 @@ def _one_of(archive: Archive, found: List[Any], names: List[str]) -> None:
     if not found:
         raise Refused(f"{shown(archive.name)}: it has no image of that name and platform")
     if len(found) > 1:
-        listed = ", ".join(shown(name) for name in names) or "they have no names"
+        listed = ", ".join(shown(name) for name in names[:16]) or "they have no names"
         raise Refused(f"{shown(archive.name)}: it has {len(found)} images: {listed}; say which "
                       "by --image or --platform")
 
@@ -194,6 +106,8 @@ def _layout_layers(archive: Archive, choice: Choice) -> List[str]:
     images = [image for image in images if image not in nested]
     for image in nested:
         images += _manifests(archive, archive.json(_blob_name(archive, image)))
+        if len(images) > _DESCRIPTORS_MOST:
+            raise Refused(f"{shown(archive.name)}: more than {_DESCRIPTORS_MOST:,} images")
     if choice.platform is not None:
         images = [image for image in images if _has_platform(archive, image, choice.platform)]
     names = [" ".join(filter(None, (*_names(image)[:1], _platform(image)))) for image in images]
@@ -210,6 +124,8 @@ def _manifests(archive: Archive, index: Any) -> List[Dict[str, Any]]:
     found = index.get("manifests") if isinstance(index, dict) else None
     if not isinstance(found, list) or not all(isinstance(item, dict) for item in found):
         raise Refused(f"{shown(archive.name)}: its index has no manifests")
+    if len(found) > _DESCRIPTORS_MOST:
+        raise Refused(f"{shown(archive.name)}: more than {_DESCRIPTORS_MOST:,} images")
     return [item for item in found if _REFERENCE not in _annotations(item)]
 
 
@@ -256,4 +172,5 @@ def _blob_name(archive: Archive, descriptor: Any) -> str:
     if not isinstance(digest, str) or digest.count(":") != 1 or "/" in digest:
         raise Refused(f"{shown(archive.name)}: a descriptor without a digest")
     algorithm, _, digits = digest.partition(":")
+    archive.expect(f"blobs/{algorithm}/{digits}", algorithm, digits)
     return f"blobs/{algorithm}/{digits}"

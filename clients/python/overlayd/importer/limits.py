@@ -9,6 +9,13 @@ TARGET_BYTES = 4095
 FILE_LIMIT = 1_048_576
 FILE_LIMIT_LEAST = 1
 FILE_LIMIT_MOST = 1 << 40
+# What a file has at most where no --file-limit is given, and how many times the bytes that are
+# there a sparse one, or what is unpacked, may be.
+FILE_UNASKED = 1 << 30
+GROWTH = 1000
+UNPACKED_LEAST = 1 << 25
+UNPACKED_MOST = 1 << 34
+LAYERS_READ = 128
 ATTRIBUTES_MOST = 64
 VALUE_BYTES = 1024
 OWNER_MOST = 4_294_967_295

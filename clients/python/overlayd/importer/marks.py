@@ -2,7 +2,9 @@
 
 from typing import Callable, Dict, Iterable, List, NamedTuple, Optional, Tuple
 
+from .keeping import Keep
 from .limits import ATTRIBUTES_MOST, attribute_fault, redirect_of
+from .meta import META, PRIVATE, hidden
 from .objects import Attributes
 from .telling import ATTRIBUTE, MARK, shown
 
@@ -13,16 +15,20 @@ _PREFIXES = (b"trusted.overlay.", b"user.overlay.")
 # What the kernel keeps for itself in an upper: nothing of it shows in the mount.
 _BOOKKEEPING = frozenset((b"origin", b"impure", b"nlink", b"uuid", b"upper"))
 _READ = frozenset((b"opaque", b"redirect", b"whiteout", b"metacopy"))
+# Attributes that a system keeps outside of `user.`, by how their names begin.
+_SYSTEM = (b"security.", b"system.", b"trusted.", b"user.")
 
 
 class Marks(NamedTuple):
-    """What the extended attributes of one object say. `attrs` are its user attributes."""
+    """What the extended attributes of one object say. `attrs` are its user attributes; `has_meta`,
+    that the one with its times is among them."""
 
     attrs: Attributes = ()
     opaque: bool = False
     redirect: Optional[bytes] = None
     whiteout: bool = False
     metacopy: bool = False
+    has_meta: bool = False
 
 
 NONE = Marks()
@@ -36,7 +42,19 @@ def _mark_of(name: bytes) -> Optional[bytes]:
     return None
 
 
-def read_marks(pairs: Pairs, tell: Tell) -> Marks:
+def _kept(name: bytes, value: bytes, keep: Keep) -> Tuple[Optional[Tuple[str, str]], str]:
+    """The attribute that a manifest has for this one; or None, and why."""
+    if name.startswith(PRIVATE.encode()) and not keep.private:
+        return None, "it is overlayd's own (--keep-private)"
+    fault = attribute_fault(name, value)
+    if fault is None:
+        return (name.decode(), value.decode()), ""
+    if keep.xattrs and name.startswith(_SYSTEM):
+        return hidden(name, value), fault
+    return None, fault
+
+
+def read_marks(pairs: Pairs, tell: Tell, keep: Keep = Keep()) -> Marks:
     """Reads the attributes of an object; `tell` hears of each that can't be kept."""
     marks: Dict[bytes, bytes] = {}
     users: List[Tuple[str, str]] = []
@@ -49,16 +67,16 @@ def read_marks(pairs: Pairs, tell: Tell) -> Marks:
             if mark not in _BOOKKEEPING:
                 tell(ATTRIBUTE, f"attribute {shown(name)}: an unknown mark of overlayfs")
         else:
-            fault = attribute_fault(name, value)
-            if fault is None and len(users) == ATTRIBUTES_MOST:
-                fault = "over 64 user attributes"
-            if fault is None:
-                users.append((name.decode(), value.decode()))
-            else:
+            kept, fault = _kept(name, value, keep)
+            if kept is None:
                 tell(ATTRIBUTE, f"attribute {shown(name)}: {fault}")
+            elif len(users) == ATTRIBUTES_MOST:
+                tell(ATTRIBUTE, f"attribute {shown(name)}: over 64 user attributes")
+            else:
+                users.append(kept)
     opaque = marks.get(b"opaque") == b"y"
-    redirect = marks.get(b"redirect")
-    return Marks(tuple(users), opaque, redirect, b"whiteout" in marks, b"metacopy" in marks)
+    return Marks(tuple(users), opaque, marks.get(b"redirect"), b"whiteout" in marks,
+                 b"metacopy" in marks, any(name == META for name, _ in users))
 
 
 def redirect_text(raw: bytes, tell: Tell) -> Tuple[Optional[str], bool]:

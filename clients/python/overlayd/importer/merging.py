@@ -176,4 +176,6 @@ def flatten(layers: Sequence[Layer]) -> Directory:
 
 def _bare(directory: Directory) -> Directory:
     """The directory without what is in it, and without marks."""
-    return Directory(directory.mode, directory.uid, directory.gid, directory.attrs)
+    bare = Directory(directory.mode, directory.uid, directory.gid, directory.attrs)
+    bare.mtime = directory.mtime
+    return bare

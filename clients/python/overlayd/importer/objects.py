@@ -1,6 +1,6 @@
 """What stands in a layer, in the terms of a manifest."""
 
-from typing import Dict, Iterable, Iterator, List, NamedTuple, Optional, Tuple, Union
+from typing import Callable, Dict, Iterable, Iterator, List, NamedTuple, Optional, Tuple, Union
 
 Attributes = Tuple[Tuple[str, str], ...]
 Names = Tuple[str, ...]
@@ -22,15 +22,19 @@ WHITEOUT = Whiteout()
 
 
 class Inode(Object):
-    """An object with an owner; all but symbolic links have a mode and user attributes too."""
+    """An object with an owner; all but symbolic links have a mode and user attributes too.
 
-    __slots__ = ("mode", "uid", "gid", "attrs")
+    `mtime` is when it was changed, in nanoseconds since 1970, where that is kept.
+    """
+
+    __slots__ = ("mode", "uid", "gid", "attrs", "mtime")
 
     def __init__(self, mode: int, uid: int, gid: int, attrs: Attributes = ()) -> None:
         self.mode = mode
         self.uid = uid
         self.gid = gid
         self.attrs = attrs
+        self.mtime: Optional[int] = None
 
 
 class Directory(Inode):
@@ -59,7 +63,27 @@ class Part(NamedTuple):
     size: int
 
 
-Data = Union[bytes, Part]
+class Long(NamedTuple):
+    """Bytes that are too many to be held at once: how many, and what gives them from their start,
+    piece by piece, as often as it is called."""
+
+    size: int
+    pieces: Callable[[], Iterator[bytes]]
+
+
+Data = Union[bytes, Part, Long]
+# What is read at once, and the most bytes that are held at once.
+PIECE = 1 << 20
+ZEROS = bytes(PIECE)
+
+
+def zeros(count: int) -> Iterator[bytes]:
+    """So many zero bytes."""
+    while count > PIECE:
+        yield ZEROS
+        count -= PIECE
+    if count > 0:
+        yield ZEROS[:count]
 
 
 class Content:
@@ -71,10 +95,11 @@ class Content:
 
 
 class File(Inode):
-    """A file. `place` tells its source where the bytes are; `linked`, that it may have more names.
+    """A file. `place` tells its source where the bytes are; `linked`, that it may have more names;
+    `special`, the letter of a fifo, socket or device, and its number, of one that stands for it.
     """
 
-    __slots__ = ("source", "place", "size", "linked")
+    __slots__ = ("source", "place", "size", "linked", "special")
 
     def __init__(self, mode: int, uid: int, gid: int, attrs: Attributes, size: int) -> None:
         super().__init__(mode, uid, gid, attrs)
@@ -82,12 +107,15 @@ class File(Inode):
         self.source: Content = Content()
         self.place: object = None
         self.linked = False
+        self.special: Optional[Tuple[str, int]] = None
 
     def copied_up(self) -> "File":
         """A file of another layer with the same bytes and attributes."""
         copy = File(self.mode, self.uid, self.gid, self.attrs, self.size)
         copy.source = self.source
         copy.place = self.place
+        copy.special = self.special
+        copy.mtime = self.mtime
         return copy
 
 

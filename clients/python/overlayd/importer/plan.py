@@ -5,9 +5,12 @@ import sys
 from typing import List, NamedTuple, Optional, Set, Tuple, Union
 
 from . import limits
+from .archives import DirectoryArchive
 from .blobs import Blob
-from .directories import DirectoryLayer, Identity
-from .images import Choice, DirectoryArchive, archive_in, layers_of
+from .descriptors import Identity
+from .directories import DirectoryLayer
+from .images import Choice, archive_in, layers_of
+from .keeping import Keep
 from .merging import Merge, TreeLayer, flatten
 from .objects import Directory
 from .references import References
@@ -31,15 +34,20 @@ class Wish(NamedTuple):
     history: Optional[int] = None
     read_only: bool = False
     file_limit: Optional[int] = None
+    keep: Keep = Keep()
+    unpack_limit: Optional[int] = None
 
 
-def _sources(text: str, choice: Choice) -> Tuple[List[Source], bool]:
-    """The layers of one source, the highest first, and whether it is an image."""
+def _sources(text: str, choice: Choice, most: Optional[int]) -> Tuple[List[Source], bool]:
+    """The layers of one source, the highest first, and whether it is an image. Of each at most
+    `most` bytes are unpacked, where that is said."""
     kind, colon, rest = text.partition(":")
+    if kind == "oci" and colon:
+        return list(layers_of(*_layout(rest, choice, most))), True
     if not (colon and kind in ("dir", "tar", "image")):
         kind, rest = "", text
     if rest != "-" and os.path.isdir(rest):
-        archive = DirectoryArchive(rest)
+        archive = DirectoryArchive(rest, most)
         if kind == "image" or (kind == "" and archive.is_image()):
             return list(layers_of(archive, choice)), True
         if kind == "tar":
@@ -47,14 +55,26 @@ def _sources(text: str, choice: Choice) -> Tuple[List[Source], bool]:
         return [rest], False
     if kind == "dir":
         raise Refused(f"{shown(rest)}: no directory")
-    stdin = sys.stdin.buffer
-    blob = Blob.of_stream("standard input", stdin) if rest == "-" else Blob.of_path(rest)
+    if rest == "-":
+        blob = Blob.of_stream("standard input", sys.stdin.buffer, most)
+    else:
+        blob = Blob.of_path(rest, most)
     found = None if kind == "tar" else archive_in(blob)
     if found is not None and (kind == "image" or found.is_image()):
         return list(layers_of(found, choice)), True
     if kind == "image":
         raise Refused(f"{shown(blob.name)}: no archive of docker save and no OCI layout")
     return [blob], False
+
+
+def _layout(text: str, choice: Choice, most: Optional[int]) -> Tuple[DirectoryArchive, Choice]:
+    """The OCI layout and the image of `DIR:TAG`, or of `DIR`."""
+    folder, colon, tag = text.rpartition(":")
+    if not colon or os.path.isdir(text):
+        folder, tag = text, ""
+    if not os.path.isdir(folder):
+        raise Refused(f"{shown(folder)}: no directory")
+    return DirectoryArchive(folder, most), choice._replace(image=tag) if tag else choice
 
 
 def plan(wish: Wish, report: Report, skip: Set[Identity],
@@ -64,10 +84,10 @@ def plan(wish: Wish, report: Report, skip: Set[Identity],
     found: List[Source] = []
     needs_upper = wish.empty_upper
     for number, text in enumerate(wish.sources):
-        sources, is_image = _sources(text, wish.choice)
+        sources, is_image = _sources(text, wish.choice, wish.unpack_limit)
         found += sources
         needs_upper = needs_upper or (number == 0 and is_image)
-    layers = _layers(found, report, skip, wish.file_limit or limits.FILE_LIMIT_MOST, references)
+    layers = _layers(found, report, skip, wish.keep, references)
     needs_upper = not wish.read_only and (needs_upper or len(layers) == 1)
     lowers = len(layers) - (0 if needs_upper or wish.read_only else 1)
     if lowers > limits.LOWERS_MOST:
@@ -81,17 +101,18 @@ def plan(wish: Wish, report: Report, skip: Set[Identity],
     return layers
 
 
-def _layers(sources: List[Source], report: Report, skip: Set[Identity], most: int,
+def _layers(sources: List[Source], report: Report, skip: Set[Identity], keep: Keep,
             references: Optional[References]) -> List[Writable]:
-    """The layers of the sources, the highest first, down to one that hides all below it. A file of
-    more than `most` bytes is left out."""
+    """The layers of the sources, the highest first, down to one that hides all below it."""
     layers: List[Writable] = []
+    if len(sources) > limits.LAYERS_READ:
+        raise Refused(f"{len(sources):,} layers; at most {limits.LAYERS_READ} are read")
     for source in reversed(sources):
         layer: Union[DirectoryLayer, TarLayer]
         if isinstance(source, Blob):
-            layer = TarLayer(source, report, Merge(layers), most)
+            layer = TarLayer(source, report, Merge(layers), keep)
         else:
-            layer = DirectoryLayer(source, report, skip, Merge(layers), most)
+            layer = DirectoryLayer(source, report, skip, Merge(layers), keep)
         layer.covers = bool(layers)
         if isinstance(layer, TarLayer) and layer.tree().opaque:
             report.note(f"{shown(layer.name)}: its root is opaque: what is below it is left away")
@@ -108,7 +129,9 @@ def _empty_over(below: List[Writable]) -> Directory:
     if not below:
         return Directory(0o755, 0, 0)
     root = below[0].root()
-    return Directory(root.mode, root.uid, root.gid, root.attrs)
+    empty = Directory(root.mode, root.uid, root.gid, root.attrs)
+    empty.mtime = root.mtime
+    return empty
 
 
 def file_limit_of(wish: Wish, layers: List[Writable]) -> Optional[int]:
@@ -121,6 +144,18 @@ def file_limit_of(wish: Wish, layers: List[Writable]) -> Optional[int]:
         if isinstance(layer, DirectoryLayer):
             layer.most = limit or limits.FILE_LIMIT
     return limit
+
+
+def has_own_bytes(layers: List[Writable]) -> bool:
+    """Whether there are bytes that no tar has for references: of directories, and of tars that are
+    compressed, sparse, or nowhere in a file."""
+    for layer in layers:
+        if isinstance(layer, TarLayer):
+            if layer.has_own_bytes():
+                return True
+        elif layer.largest():
+            return True
+    return False
 
 
 def write(layers: List[Writable], writer: ManifestWriter, report: Report) -> None:

@@ -1,9 +1,10 @@
 """What is said on standard error: what was left out, how far it is, and the sum of it."""
 
 import time
-from typing import Dict, Optional, TextIO, Union
+from typing import Dict, Optional, TextIO, Tuple, Union
 
 PROGRAM = "overlayd-import"
+_LINES_MOST = 32
 
 OTHER_KIND = "of another kind"
 OVER_LIMIT = "over the limit"
@@ -17,9 +18,16 @@ class Refused(Exception):
     """The import ends, for the reason that this says in one line."""
 
 
+def _raw_of(text: str) -> bytes:
+    try:
+        return text.encode("utf-8", "surrogateescape")
+    except UnicodeEncodeError:
+        return text.encode("utf-8", "surrogatepass")
+
+
 def shown(path: Union[bytes, str]) -> str:
     """A path on one line: bytes that aren't printable as `\\x` and two digits."""
-    raw = path if isinstance(path, bytes) else path.encode("utf-8", "surrogateescape")
+    raw = path if isinstance(path, bytes) else _raw_of(path)
     text = raw.decode("utf-8", "surrogateescape")
     if text.isprintable() and "\\" not in text:
         return text
@@ -37,6 +45,8 @@ class Report:
         self._drawn = 0
         self._next_drawing = time.monotonic() + 0.5
         self.left_out: Dict[str, int] = {}
+        self._about = ("", "")
+        self._lines = 0
 
     def leave_out(self, source: str, path: Union[bytes, str], group: str, why: str) -> None:
         """Tells that what is at `path` of a source isn't in the manifest; `group` is for the sum.
@@ -45,8 +55,22 @@ class Report:
         if self._strict:
             raise Refused(f"{line} (--strict)")
         self.left_out[group] = self.left_out.get(group, 0) + 1
-        if not self._quiet:
+        self._count((source, shown(path)))
+        if not self._quiet and self._lines <= _LINES_MOST:
             self._say(f"left out: {line}")
+
+    def _count(self, about: Tuple[str, str]) -> None:
+        """Counts the lines for one object; those over the bound are told in one."""
+        if about != self._about:
+            self._tell_rest()
+            self._about, self._lines = about, 0
+        self._lines += 1
+
+    def _tell_rest(self) -> None:
+        if self._lines > _LINES_MOST and not self._quiet:
+            source, path = self._about
+            self._say(f"left out: {source}: {path}: {self._lines - _LINES_MOST:,} things more")
+        self._lines = 0
 
     def note(self, line: str) -> None:
         """Tells something that leaves nothing out."""
@@ -65,11 +89,12 @@ class Report:
         self._err.flush()
         self._drawn = len(text[:100])
 
-    def sum_up(self, layers: int, objects: int, size: int) -> None:
-        """The last line: what was written and what was left out."""
+    def sum_up(self, layers: int, objects: int, size: int, lost: str = "times") -> None:
+        """The last line: what was written and what was left out; `lost`, what is never told."""
+        self._tell_rest()
         count = sum(self.left_out.values())
         parts = ", ".join(f"{n} {group}" for group, n in sorted(self.left_out.items()))
-        left = f"{count} left out ({parts})" if count else "nothing left out but times"
+        left = f"{count} left out ({parts})" if count else f"nothing left out but {lost}"
         self._say(f"{layers} layers, {objects:,} objects, {size:,} bytes; {left}")
 
     def end(self, line: str) -> int:

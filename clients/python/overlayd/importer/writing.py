@@ -1,46 +1,125 @@
 """Writes manifests, entry by entry."""
 
+import codecs
 import re
 from binascii import hexlify
-from typing import BinaryIO, Dict, List, Optional, Sequence, Tuple
+from typing import BinaryIO, Dict, Iterator, List, Optional, Sequence, Tuple
 
-from .limits import text_of
-from .objects import (Content, Data, Directory, File, Inode, Object, Part, Symlink, Whiteout,
-                      walk)
-from .telling import Report
+from .limits import ATTRIBUTES_MOST, text_of
+from .meta import META, Meta, changed_at, meta_text
+from .objects import (ZEROS, Content, Data, Directory, File, Inode, Long, Object,
+                      Part, Symlink, Whiteout, walk)
+from .stores import Store
+from .telling import ATTRIBUTE, Refused, Report, shown
 
 _CONTROLS = bytes(set(range(0x20)) - set(b"\n\t")) + b"\x7f"
-_ONE_CONTROL = re.compile(b"[" + re.escape(_CONTROLS) + b"]")
+_SHORT = b"\\\"\n\t"
+_SHORT_ESCAPES = [(b"\\", b"\\\\"), (b'"', b'\\"'), (b"\n", b"\\n"), (b"\t", b"\\t")]
+_ESCAPES = [(bytes([code]), b"\\u%04x" % code) for code in _CONTROLS]
+_PLAIN = re.compile(r'[ !#-\[\]-~]*')
+_UTF8 = codecs.getincrementaldecoder("utf-8")
+_ZERO_DIGITS = hexlify(ZEROS)
+
+
+def _added(raw: bytes) -> int:
+    """How many bytes escapes add to these."""
+    short = len(raw) - len(raw.translate(None, _SHORT))
+    return short + 5 * _controls(raw)
+
+
+def _controls(raw: bytes) -> int:
+    return len(raw) - len(raw.translate(None, _CONTROLS))
 
 
 def _escaped(raw: bytes) -> bytes:
     """The inside of a TOML text, of bytes that are UTF-8."""
-    raw = raw.replace(b"\\", b"\\\\").replace(b'"', b'\\"')
-    raw = raw.replace(b"\n", b"\\n").replace(b"\t", b"\\t")
-    if len(raw.translate(None, _CONTROLS)) < len(raw):
-        raw = _ONE_CONTROL.sub(lambda found: b"\\u%04x" % ord(found.group()), raw)
+    for plain, escape in _SHORT_ESCAPES:
+        raw = raw.replace(plain, escape)
+    if _controls(raw):
+        for plain, escape in _ESCAPES:
+            raw = raw.replace(plain, escape)
     return raw
 
 
 def quoted(text: str) -> str:
     """A TOML text."""
+    if _PLAIN.fullmatch(text):
+        return f'"{text}"'
     return f'"{_escaped(text.encode("utf-8")).decode("utf-8")}"'
 
 
-def bytes_line(data: Data) -> bytes:
-    """The lines of an entry that say a file's bytes: where they stand in a blob, or themselves in
-    the shortest of the three forms."""
-    if isinstance(data, Part):
-        return b"blob = %d\nat = %d\nsize = %d\n" % data
+def bytes_line(data: bytes) -> bytes:
+    """The line of an entry that says a file's bytes, in the shortest of the three forms."""
     if not data:
         return b""
-    if not data.strip(b"\0"):
+    if not data[0] and not data.strip(b"\0"):
         return b"zeros = %d\n" % len(data)
-    if text_of(data) is not None:
-        text = _escaped(data)
-        if len(text) <= 2 * len(data):
-            return b'text = "%b"\n' % text
+    if _added(data) <= len(data) and text_of(data) is not None:
+        return b'text = "%b"\n' % _escaped(data)
     return b'hex = "%b"\n' % hexlify(data)
+
+
+def part_lines(part: Part) -> bytes:
+    """The lines that say where a file's bytes stand in a blob."""
+    return b"blob = %d\nat = %d\nsize = %d\n" % part
+
+
+def long_lines(data: Long, path: str) -> Iterator[bytes]:
+    """The line that says bytes that are too many to be held, piece by piece. Refused where they
+    aren't the same when they are read again."""
+    form = _form_of(data)
+    if form == "zeros":
+        yield b"zeros = %d\n" % data.size
+        return
+    yield b'%b = "' % form.encode()
+    count = 0
+    decoder = _UTF8()
+    for piece in data.pieces():
+        count += len(piece)
+        if form == "text":
+            _go_on(decoder, piece, path)
+            yield _escaped(piece)
+        else:
+            yield _ZERO_DIGITS if piece is ZEROS else hexlify(piece)
+    if form == "text":
+        _go_on(decoder, b"", path)
+    if count != data.size:
+        raise _changed(path)
+    yield b'"\n'
+
+
+def _changed(path: str) -> Refused:
+    return Refused(f"{shown(path)}: it was changed while it was read")
+
+
+def _go_on(decoder: codecs.IncrementalDecoder, piece: bytes, path: str) -> None:
+    """The next piece of a text, or its end; refused where it is none any more."""
+    try:
+        decoder.decode(piece, not piece)
+    except UnicodeDecodeError:
+        raise _changed(path) from None
+
+
+def _form_of(data: Long) -> str:
+    """The shortest form for bytes: `zeros`, `text` or `hex`."""
+    decoder, is_text, added, is_zero = _UTF8(), True, 0, True
+    for piece in data.pieces():
+        is_zero = is_zero and (piece is ZEROS or not piece.strip(b"\0"))
+        if is_text:
+            try:
+                decoder.decode(piece)
+                added += 5 * len(piece) if piece is ZEROS else _added(piece)
+            except UnicodeDecodeError:
+                is_text = False
+        if not is_text and not is_zero:
+            return "hex"
+    if is_zero:
+        return "zeros"
+    try:
+        decoder.decode(b"", True)
+    except UnicodeDecodeError:
+        return "hex"
+    return "text" if added <= data.size else "hex"
 
 
 class ManifestWriter:
@@ -49,8 +128,9 @@ class ManifestWriter:
     def __init__(self, out: BinaryIO, redirect_dir: Optional[str] = None,
                  metacopy: Optional[str] = None, history: Optional[int] = None,
                  upper: bool = True, file_limit: Optional[int] = None,
-                 blobs: Sequence[str] = ()) -> None:
+                 blobs: Sequence[str] = (), store: Optional[Store] = None) -> None:
         self._out = out
+        self._store = store
         self._began = False
         self.layers = 0
         self.objects = 0
@@ -77,7 +157,8 @@ class ManifestWriter:
 
     def root(self, node: Directory) -> None:
         """Says what the root of the layer is like, where it isn't as a root is by default."""
-        if (node.mode, node.uid, node.gid, node.attrs) != (0o755, 0, 0, ()):
+        plain = (node.mode, node.uid, node.gid, node.attrs, node.mtime)
+        if plain != (0o755, 0, 0, (), None):
             self._entry("/", "dir", self._inode_lines(node, 0o755))
 
     def directory(self, path: str, node: Directory) -> None:
@@ -92,8 +173,15 @@ class ManifestWriter:
     def file(self, path: str, node: File, data: Data) -> None:
         """A file with its bytes."""
         self._entry(path, "file", self._inode_lines(node, 0o644))
-        self._out.write(bytes_line(data))
-        self.bytes += data.size if isinstance(data, Part) else len(data)
+        self.bytes += len(data) if isinstance(data, bytes) else data.size
+        if self._store is not None and data:
+            data = self._store.keep(data)
+        if isinstance(data, Part):
+            self._out.write(part_lines(data))
+        elif isinstance(data, Long):
+            self._out.writelines(long_lines(data, path))
+        else:
+            self._out.write(bytes_line(data))
 
     def symlink(self, path: str, node: Symlink) -> None:
         """A symbolic link."""
@@ -113,8 +201,9 @@ class ManifestWriter:
         self._began = True
 
     def _entry(self, path: str, kind: str, lines: List[str]) -> None:
-        head = f'\n[[layer.entry]]\npath = {quoted(path)}\nkind = "{kind}"\n'
-        self._out.write((head + "".join(f"{line}\n" for line in lines)).encode("utf-8"))
+        text = "\n".join(["\n[[layer.entry]]", f"path = {quoted(path)}", f'kind = "{kind}"', *lines,
+                          ""])
+        self._out.write(text.encode("utf-8"))
         self.objects += 1
 
     @staticmethod
@@ -129,10 +218,25 @@ class ManifestWriter:
     def _inode_lines(self, node: Inode, mode: int) -> List[str]:
         lines = [f"mode = 0o{node.mode:o}"] if node.mode != mode else []
         lines += self._owner_lines(node)
-        if node.attrs:
-            pairs = (f"[{quoted(name)}, {quoted(value)}]" for name, value in node.attrs)
-            lines.append(f"attrs = [{', '.join(pairs)}]")
+        if node.attrs or node.mtime is not None or isinstance(node, File) and node.special:
+            lines.append(f"attrs = [{', '.join(_pairs(node))}]")
         return lines
+
+
+def _pairs(node: Inode) -> List[str]:
+    """The user attributes of an object, with the one that has its kind and times, if it fits."""
+    special = node.special if isinstance(node, File) else None
+    attrs = node.attrs
+    if special is not None:
+        attrs = tuple(pair for pair in attrs if pair[0] != META)
+    found = [f"[{quoted(name)}, {quoted(value)}]" for name, value in attrs]
+    time = node.mtime or 0
+    if len(found) < ATTRIBUTES_MOST:
+        if special is not None:
+            found.append(f'["{META}", "{meta_text(Meta(*special, time, time, time))}"]')
+        elif node.mtime is not None:
+            found.append(f'["{META}", "{changed_at(time)}"]')
+    return found
 
 
 class LayerWriter:
@@ -165,6 +269,8 @@ class LayerWriter:
     def plain(self, path: str, node: Object) -> None:
         """Writes what has no bytes: a directory, a symbolic link or a whiteout."""
         self._report.progress(self._what, self._writer.objects, self._writer.bytes)
+        if isinstance(node, Inode) and len(node.attrs) >= ATTRIBUTES_MOST:
+            self._untimed(path, node)
         if isinstance(node, Directory):
             if path == "/":
                 self._writer.root(node)
@@ -176,9 +282,17 @@ class LayerWriter:
         elif isinstance(node, Whiteout):
             self._writer.whiteout(path)
 
+    def _untimed(self, path: str, node: Inode) -> None:
+        """Tells of what has as many user attributes as fit, so that its own isn't written."""
+        if node.mtime is not None or isinstance(node, File) and node.special is not None:
+            self._report.leave_out(self._what, path, ATTRIBUTE,
+                                   "its kind and times: it has 64 user attributes")
+
     def file(self, path: str, node: File, data: Data) -> None:
         """Writes a file under its first name."""
         self._report.progress(self._what, self._writer.objects, self._writer.bytes)
+        if len(node.attrs) >= ATTRIBUTES_MOST:
+            self._untimed(path, node)
         self._writer.file(path, node, data)
         self.first(path, node)
 
