@@ -23,9 +23,26 @@ struct options {
     int kernel;  /* a descriptor that is spoken to in the kernel's place, or -1 */
 };
 
-/* A connection to the server, which is a client of its own there. */
+struct bridge;
+struct connection;
+
+/* How a connection's requests get to the engine, and its replies back. */
+struct transport {
+    /* Makes a connection; an error number where there is none. */
+    int (*open)(struct bridge *bridge, struct connection *connection);
+    /* Whether an open one can be asked. */
+    bool (*ready)(struct bridge *bridge, struct connection *connection);
+    /* Has the batch answered, and its replies judged; false where they aren't right. */
+    bool (*exchange)(struct bridge *bridge, struct connection *connection);
+    void (*drop)(struct bridge *bridge, struct connection *connection);
+};
+extern const struct transport socket_transport;
+
+/* A connection to the engine, which is a client of its own there. */
 struct connection {
-    int descriptor;       /* of the socket, or -1 */
+    bool is_open;
+    int socket;           /* of the transport over a socket */
+    unsigned wait;        /* as the socket was told it */
     unsigned generation;  /* how often it ended */
     uint64_t used;        /* descriptors of the server that are open, a bit for each */
     uint64_t closing;     /* those of them that are closed with the next request */
@@ -94,6 +111,8 @@ struct handle {
 
 struct bridge {
     struct options options;
+    const struct transport *transport;
+    unsigned wait;              /* seconds that an answer may take now */
     struct connection connections[SESSIONS_MAX];
     struct connection *asked;   /* the connection of the batch */
     struct batch batch;

@@ -201,6 +201,7 @@ static int run(struct bridge *bridge, struct fuse_args *arguments)
 static bool begin(struct bridge *bridge)
 {
     bridge->epoch = 1;
+    bridge->transport = &socket_transport;
     bridge->began = bridge->options.times ? LONG_AGO : now();
     if (!nodes_begin(bridge)) {
         fputs("overlayd-fuse: out of memory\n", stderr);
