@@ -5,7 +5,19 @@
 #include <stdio.h>
 #include <string.h>
 
-enum { FIRST_WAIT = 5 };  /* seconds in which a session must be served at the beginning */
+enum {
+    FIRST_WAIT = 5,         /* seconds in which a session must be served at the beginning */
+    FURTHER_WAIT = 2,       /* and where a further one is needed */
+    AGAIN = 10,             /* seconds until the next is tried where one wasn't served */
+    HELD = DESCRIPTORS - 1, /* of a connection, but for one for listings, cuts and reopening */
+};
+
+int64_t milliseconds(void)
+{
+    struct timespec time;
+    clock_gettime(CLOCK_MONOTONIC_COARSE, &time);
+    return (int64_t)time.tv_sec * 1000 + time.tv_nsec / 1000000;
+}
 
 static void drop(struct bridge *bridge, struct connection *connection)
 {
@@ -21,7 +33,7 @@ static void drop(struct bridge *bridge, struct connection *connection)
 static int open_anew(struct bridge *bridge, struct connection *connection)
 {
     int fault = bridge->transport->open(bridge, connection);
-    connection->is_open = fault == 0;
+    connection->is_open = connection->is_fresh = fault == 0;
     return fault;
 }
 
@@ -54,27 +66,79 @@ int ask_any(struct bridge *bridge)
     return ask_on(bridge, &bridge->connections[0]);
 }
 
+/* Whether the server serves it: its first request is answered. */
+static bool is_served(struct bridge *bridge, struct connection *connection)
+{
+    if (ask_on(bridge, connection) != 0)
+        return false;
+    size_t root = ask_path(&bridge->batch, OP_STAT, "/");
+    return ask_end(bridge) == 0 && !refused(bridge, root);
+}
+
+/* One connection more. A server without a free worker isn't asked for one all the time. */
+static bool attach_further(struct bridge *bridge)
+{
+    time_t second = (time_t)(milliseconds() / 1000);
+    if (bridge->attached == bridge->options.max_sessions || second < bridge->next_attach)
+        return false;
+    struct connection *connection = &bridge->connections[bridge->attached];
+    unsigned wait = bridge->wait, epoch = bridge->epoch;
+    bridge->wait = wait < FURTHER_WAIT ? wait : FURTHER_WAIT;
+    bool served = is_served(bridge, connection);
+    bridge->wait = wait;
+    if (served) {
+        bridge->attached++;
+        return true;
+    }
+    drop(bridge, connection);
+    bridge->epoch = epoch;  /* nothing that was known came by it */
+    bridge->next_attach = second + AGAIN;
+    return false;
+}
+
+static unsigned open_on(const struct connection *connection)
+{
+    return (unsigned)__builtin_popcountll(connection->used & ~connection->closing);
+}
+
+/* Whether the user holds less than three quarters of what there is; root may have all. */
+static bool has_share(const struct bridge *bridge, uint32_t user)
+{
+    unsigned held = 0;
+    for (unsigned i = 0; user != 0 && i < bridge->attached; i++) {
+        const struct connection *one = &bridge->connections[i];
+        for (uint64_t left = one->used & ~one->closing; left; left &= left - 1)
+            held += one->users[__builtin_ctzll(left)] == user;
+    }
+    return held < bridge->attached * HELD * 3 / 4;
+}
+
+/* The one with the fewest open files of those that stay, or else the first with room. */
+static struct connection *roomiest(struct bridge *bridge, unsigned room)
+{
+    struct connection *found = NULL;
+    for (unsigned i = 0; i < bridge->attached; i++) {
+        struct connection *one = &bridge->connections[i];
+        bool is_further = i >= bridge->options.sessions;
+        if (open_on(one) < (found ? open_on(found) : room) && !(found && is_further))
+            found = one;
+    }
+    return found;
+}
+
 int ask_for_open(struct bridge *bridge)
 {
     struct connection *found = NULL;
-    int fewest = DESCRIPTORS;
-    for (unsigned i = 0; i < bridge->options.sessions; i++) {
-        struct connection *one = &bridge->connections[i];
-        int open = __builtin_popcountll(one->used & ~one->closing);
-        if (open < fewest) {
-            fewest = open;
-            found = one;
-        }
-    }
+    do
+        found = has_share(bridge, bridge->kernel.caller) ? roomiest(bridge, HELD) : NULL;
+    while (!found && attach_further(bridge));
     return found ? ask_on(bridge, found) : ENFILE;
 }
 
-int ask_handle(struct bridge *bridge, const struct handle *handle)
+int ask_for_moment(struct bridge *bridge)
 {
-    if (!is_alive(handle))
-        return EIO;
-    int fault = ask_on(bridge, handle->connection);
-    return fault ? fault : is_alive(handle) ? 0 : EIO;
+    struct connection *found = roomiest(bridge, DESCRIPTORS);
+    return found ? ask_on(bridge, found) : ENFILE;
 }
 
 size_t ask_opening(struct bridge *bridge, unsigned flags, uint32_t mode, const char *path,
@@ -89,6 +153,7 @@ size_t ask_opening(struct bridge *bridge, unsigned flags, uint32_t mode, const c
     }
     *descriptor = (uint32_t)__builtin_ctzll(free);
     bridge->asked->expected |= UINT64_C(1) << *descriptor;
+    bridge->asked->users[*descriptor] = bridge->kernel.caller;
     return ask_open(&bridge->batch, flags, mode, path, *descriptor);
 }
 
@@ -98,12 +163,23 @@ void ask_closing(struct bridge *bridge, uint32_t descriptor)
     ask_descriptor(&bridge->batch, OP_CLOSE, descriptor);
 }
 
+/* A full history never gets free again, and nobody sees it by the number of the refusal. */
+static void tell_full(struct bridge *bridge)
+{
+    if (!bridge->told_full)
+        fprintf(stderr, "overlayd-fuse: %s: the server's history is full, and each call is refused "
+                "from now on; serve with --no-history\n", bridge->options.socket);
+    bridge->told_full = true;
+}
+
 /* Which descriptors are open now, and whether something was changed. */
 static void account(struct bridge *bridge)
 {
     struct connection *connection = bridge->asked;
     for (size_t i = 0; i < bridge->batch.count; i++) {
         const struct ask *ask = &bridge->batch.asks[i];
+        if (ask->untaken && ask->refused == ENOSPC)
+            tell_full(bridge);
         if (ask->refused)
             continue;
         if (ask->op == OP_OPEN)
@@ -114,6 +190,7 @@ static void account(struct bridge *bridge)
             bridge->changes++;
     }
     connection->closing = 0;
+    connection->is_fresh = true;
 }
 
 int ask_end(struct bridge *bridge)
@@ -139,36 +216,66 @@ int refused(const struct bridge *bridge, size_t number)
 
 /* The beginning: each session must be served, which a server with few workers can't. */
 
-static bool is_served(struct bridge *bridge, struct connection *connection)
-{
-    if (ask_on(bridge, connection) != 0)
-        return false;
-    size_t root = ask_path(&bridge->batch, OP_STAT, "/");
-    return ask_end(bridge) == 0 && !refused(bridge, root);
-}
-
 bool connections_begin(struct bridge *bridge)
 {
-    unsigned served = 0, wanted = bridge->options.sessions;
+    unsigned wanted = bridge->options.sessions;
     bridge->wait = bridge->options.wait < FIRST_WAIT ? bridge->options.wait : FIRST_WAIT;
     int fault = open_anew(bridge, &bridge->connections[0]);
     if (fault) {
         fprintf(stderr, "overlayd-fuse: %s: %s\n", bridge->options.socket, strerror(fault));
         return false;
     }
-    while (served < wanted && is_served(bridge, &bridge->connections[served]))
-        served++;
+    while (bridge->attached < wanted
+           && is_served(bridge, &bridge->connections[bridge->attached]))
+        bridge->attached++;
     bridge->wait = bridge->options.wait;
-    if (served == wanted)
+    if (bridge->attached == wanted)
         return true;
     fprintf(stderr, "overlayd-fuse: the server answers %u of %u sessions: serve with more "
-            "--workers, or mount with fewer --sessions\n", served, wanted);
+            "--workers, or mount with fewer --sessions\n", bridge->attached, wanted);
     return false;
+}
+
+/* A path text that is refused takes no place in the server's history. */
+static void ask_nothing(struct bridge *bridge, struct connection *connection)
+{
+    uint64_t trips = bridge->trips, frames = bridge->frames;
+    if (ask_on(bridge, connection) != 0)
+        return;
+    ask_path(&bridge->batch, OP_STAT, "");
+    ask_end(bridge);
+    bridge->trips = trips;
+    bridge->frames = frames;
+}
+
+/* Ends those of the further ones that nobody needs any more, the last ones first. */
+static void detach_idle(struct bridge *bridge)
+{
+    while (bridge->attached > bridge->options.sessions) {
+        struct connection *last = &bridge->connections[bridge->attached - 1];
+        if (open_on(last) > 0)
+            return;
+        unsigned epoch = bridge->epoch;
+        drop(bridge, last);
+        bridge->epoch = epoch;
+        bridge->attached--;
+    }
+}
+
+void connections_care(struct bridge *bridge)
+{
+    for (unsigned i = 0; i < bridge->attached; i++) {
+        struct connection *one = &bridge->connections[i];
+        if (one->is_open && (!one->is_fresh || one->closing))
+            ask_nothing(bridge, one);
+        one->is_fresh = false;
+    }
+    detach_idle(bridge);
 }
 
 void connections_end(struct bridge *bridge)
 {
-    for (unsigned i = 0; i < bridge->options.sessions; i++)
+    for (unsigned i = 0; i < SESSIONS_MAX; i++)
         drop(bridge, &bridge->connections[i]);
     batch_free(&bridge->batch);
 }

@@ -91,7 +91,7 @@ class Session:
         count = min(4, int.from_bytes(fields[4:8], "big"))
         answers = {READLINK: b"\0\2to", GETATTR: b"\0\3one", ATTRS: texts(b"user.a"),
                    READ: count.to_bytes(4, "big") + b"four"[:count], LIST: texts(b"f", b"g"),
-                   SEEK: fields[4:12], WRITE: (len(fields) - 8).to_bytes(4, "big")}
+                   SEEK: fields[4:12], WRITE: max(0, len(fields) - 8).to_bytes(4, "big")}
         return made(answers[op])
 
 

@@ -5,7 +5,8 @@ import os
 import unittest
 
 from .bridges import Bridge, ServerCase
-from .kernel import (OPEN_DIRECT, OPEN_KEEP_CACHE, ROOT, SET_MODE, SET_SIZE, WRITE_CACHE)
+from .kernel import (OPEN_DIRECT, OPEN_KEEP_CACHE, ROOT, SET_MODE, SET_SIZE, SET_UID,
+                     WRITE_CACHE)
 
 LIMIT = 1048576
 CREATE, REPLACE = 1, 2
@@ -193,16 +194,74 @@ class ManyFiles(ServerCase):
         self.assertEqual(len(kernel.listing(ROOT)), 2 + 2 + 1000)
 
     def test_more_than_the_sessions_hold(self):
-        kernel = self.bridge(self.served(), "--sessions", "2")
+        """One descriptor of each session is kept back, so that all else goes on."""
+        kernel = self.bridge(self.served(), "--sessions", "2", "--max-sessions", "2")
         f = kernel.walk("/f").nodeid
-        opened = [kernel.open(f).fh for _ in range(128)]
-        self.refused(errno.ENFILE, kernel.open, f)
+        reader = kernel.open(f).fh
+        opened = []
+        for number in range(125):
+            entry, file = kernel.create(ROOT, f"n{number}")
+            opened.append((entry.nodeid, file.fh))
+        z = kernel.walk("/z").nodeid
+        self.refused(errno.ENFILE, kernel.open, z)
         self.refused(errno.ENFILE, kernel.create, ROOT, "n")
         self.assertEqual(kernel.lookup(ROOT, "n").nodeid, 0)
-        kernel.release(f, opened.pop())
-        opened.append(kernel.open(f).fh)
-        for fh in opened:
-            self.assertEqual(kernel.read(f, fh, 9, 1), b"9")
+        self.assertEqual(len(kernel.listing(ROOT)), 2 + 2 + 125)
+        self.assertEqual(kernel.setattr(z, SET_SIZE, size=5).size, 5)
+        kernel.setattr(f, SET_MODE, mode=0o600)  # copied up, it is opened anew
+        self.assertEqual(kernel.read(f, reader, 0, 99), b"0123456789")
+        kernel.mknod(ROOT, "p", 0o010600)
+        kernel.release(*opened.pop())
+        self.assertEqual(kernel.read(z, kernel.open(z).fh, 0, 99), bytes(5))
+
+    def test_handles_on_a_file_share_a_descriptor(self):
+        server = self.served()
+        kernel = self.bridge(server, "--sessions", "1", "--max-sessions", "1")
+        f = kernel.walk("/f").nodeid
+        readers = [kernel.open(f).fh for _ in range(500)]
+        writers = [kernel.open(f, os.O_RDWR).fh for _ in range(500)]
+        self.assertEqual(kernel.write(f, writers[7], 2, b"new"), 3)
+        for fh in (readers + writers)[::99]:
+            self.assertEqual(kernel.read(f, fh, 0, 99), b"01new56789")
+        for fh in readers + writers[1:]:
+            kernel.release(f, fh)
+        self.assertEqual(kernel.write(f, writers[0], 0, b"X"), 1)
+        emptied = kernel.open(f, os.O_WRONLY | os.O_TRUNC).fh
+        self.assertEqual(kernel.read(f, writers[0], 0, 99), b"")
+        kernel.write(f, emptied, 0, b"end")
+        self.assertEqual(self.client(server).open("/f").read(), b"end")
+
+    def test_further_sessions_are_made_as_they_are_needed(self):
+        """Ten thousand handles, on more files than the first session holds."""
+        server = self.served()
+        kernel = self.bridge(server, "--sessions", "1", "--max-sessions", "8")
+        opened = []
+        for number in range(400):
+            entry, file = kernel.create(ROOT, f"n{number}")
+            kernel.write(entry.nodeid, file.fh, 0, b"%d" % number)
+            opened += [(entry.nodeid, file.fh)] + [(entry.nodeid, kernel.open(entry.nodeid).fh)
+                                                   for _ in range(24)]
+        self.assertEqual(len(opened), 10000)
+        for at in range(0, 10000, 625):
+            self.assertEqual(kernel.read(*opened[at], 0, 9), b"%d" % (at // 25))
+        for node, fh in opened:
+            kernel.release(node, fh)
+
+    def test_one_user_has_three_quarters(self):
+        """Who opens all that he can stops nobody else."""
+        kernel = self.bridge(self.served(), "--sessions", "2", "--max-sessions", "2")
+        kernel.uid = 1000
+        for number in range(94):
+            kernel.create(ROOT, f"n{number}")
+        self.refused(errno.ENFILE, kernel.create, ROOT, "n")
+        f = kernel.walk("/f").nodeid
+        self.refused(errno.ENFILE, kernel.open, f)
+        kernel.uid = 1001
+        self.assertEqual(kernel.read(f, kernel.open(f).fh, 0, 3), b"012")
+        self.assertEqual(len(kernel.listing(ROOT)), 2 + 2 + 94)
+        kernel.uid = 0
+        opened = [kernel.create(ROOT, f"root{number}") for number in range(31)]
+        self.assertEqual(len(opened), 31)
 
     def test_handles_of_directories_need_no_descriptor(self):
         kernel = self.bridge(self.served(), "--sessions", "1")
@@ -337,7 +396,7 @@ class Attributes(ServerCase):
     def test_other_names(self):
         kernel = self.bridge(self.served())
         f = kernel.walk("/f").nodeid
-        for name in ("security.capability", "trusted.a", "system.posix_acl_access", "a"):
+        for name in ("system.posix_acl_access", "system.posix_acl_default", "other.a", "a"):
             self.refused(errno.EOPNOTSUPP, kernel.getxattr, f, name)
             self.refused(errno.EOPNOTSUPP, kernel.setxattr, f, name, b"x")
             self.refused(errno.EOPNOTSUPP, kernel.removexattr, f, name)
@@ -357,6 +416,82 @@ class Attributes(ServerCase):
         self.refused(errno.ENODATA, kernel.getxattr, f, "user.overlayd.meta")
         self.refused(errno.EPERM, kernel.setxattr, f, "user.overlayd.meta", b"")
         self.refused(errno.ENODATA, kernel.removexattr, f, "user.overlayd.meta")
+
+    def test_attributes_of_other_classes(self):
+        """They are kept under names that no program can set by itself."""
+        server = self.served()
+        capability = bytes.fromhex("0100000200040000000000000000000000000000")
+        with Bridge(server.path) as kernel:
+            f = kernel.walk("/f").nodeid
+            self.refused(errno.ENODATA, kernel.getxattr, f, "security.capability")
+            kernel.setxattr(f, "security.capability", capability)
+            kernel.setxattr(f, "trusted.t", b"T", CREATE)
+            self.refused(errno.EEXIST, kernel.setxattr, f, "trusted.t", b"T", CREATE)
+            self.refused(errno.ENOSPC, kernel.setxattr, f, "trusted." + "t" * 240, b"T")
+        self.assertEqual(self.client(server).listxattr("/f"), [
+            "user.overlayd.xattr.security.capability", "user.overlayd.xattr.trusted.t"])
+        with Bridge(server.path) as kernel:
+            f = kernel.walk("/f").nodeid
+            self.assertEqual(kernel.getxattr(f, "security.capability"), capability)
+            self.assertEqual(kernel.listxattr(f), [b"security.capability", b"trusted.t"])
+            kernel.uid = 1000
+            self.assertEqual(kernel.listxattr(f), [b"security.capability"])
+            for name in ("user.overlayd.xattr.security.capability", "user.overlayd.any"):
+                self.refused(errno.EPERM, kernel.setxattr, f, name, b"x")
+                self.refused(errno.ENODATA, kernel.getxattr, f, name)
+                self.refused(errno.ENODATA, kernel.removexattr, f, name)
+            kernel.uid = 0
+            kernel.removexattr(f, "security.capability")
+            self.refused(errno.ENODATA, kernel.getxattr, f, "security.capability")
+
+    def test_what_others_wrote_under_the_bridges_names(self):
+        """Only names of these two classes are shown."""
+        server = self.served()
+        client = self.client(server)
+        for name in ("user.a", "", "system.posix_acl_access", "security.s"):
+            client.setxattr("/f", "user.overlayd.xattr." + name, b"x")
+        kernel = self.bridge(server)
+        f = kernel.walk("/f").nodeid
+        self.assertEqual(kernel.listxattr(f), [b"security.s"])
+        self.refused(errno.EOPNOTSUPP, kernel.getxattr, f, "system.posix_acl_access")
+        self.refused(errno.ENODATA, kernel.getxattr, f, "user.a")
+
+    def test_attributes_of_what_has_no_name_any_more(self):
+        for options in ((), ("--shared",)):
+            for gone in ("unlink", "rename"):
+                self.check_nameless(self.bridge(self.served(), *options), gone)
+
+    def check_nameless(self, kernel, gone):
+        f = kernel.walk("/f").nodeid
+        kernel.setxattr(f, "user.a", b"one")
+        kernel.setxattr(f, "security.s", bytes(1024))
+        fh = kernel.open(f, os.O_RDWR).fh
+        kernel.create(ROOT, "n")
+        if gone == "unlink":
+            kernel.unlink(ROOT, "f")
+        else:
+            kernel.rename(ROOT, "n", ROOT, "f")
+        self.assertEqual(sorted(kernel.listxattr(f)), [b"security.s", b"user.a"])
+        self.assertEqual(kernel.getxattr(f, "user.a"), b"one")
+        self.assertEqual(kernel.getxattr(f, "security.s"), bytes(1024))
+        self.refused(errno.EEXIST, kernel.setxattr, f, "user.a", b"x", CREATE)
+        self.refused(errno.ENODATA, kernel.setxattr, f, "user.b", b"x", REPLACE)
+        kernel.setxattr(f, "user.a", b"two", REPLACE)
+        kernel.setxattr(f, "user.b", b"")
+        self.assertEqual(kernel.getxattr(f, "user.a"), b"two")
+        kernel.removexattr(f, "security.s")
+        self.refused(errno.ENODATA, kernel.getxattr, f, "security.s")
+        self.refused(errno.ENODATA, kernel.removexattr, f, "security.s")
+        self.refused(errno.ENOSPC, kernel.setxattr, f, "user.c", bytes(1025))
+        for number in range(62):
+            kernel.setxattr(f, f"user.{number}", b"")
+        self.refused(errno.ENOSPC, kernel.setxattr, f, "user.c", b"")
+        self.assertEqual(len(kernel.listxattr(f)), 64)
+        changed = kernel.setattr(f, SET_MODE | SET_UID, mode=0o600, uid=7)
+        self.assertEqual((kernel.getattr(f, fh).mode & 0o7777, kernel.getattr(f, fh).uid),
+                         (0o600, 7))
+        self.assertEqual(changed.nlink, 0)
+        kernel.release(f, fh)
 
 
 class RoundTrips(ServerCase):
