@@ -12,8 +12,8 @@ enum { META_BYTES = 256, BLOCK = 512 };
 /* For how long the kernel keeps what it was told, where nobody else changes the mount. */
 static const double LONG = 365.0 * 86400.0;
 
-/* The time of the kernel's last tick, as its own file systems have it. A finer one would differ from
-   what the kernel keeps of a file that it caches, since it tells no change within one tick. */
+/* The time of the kernel's last tick, as its own file systems have it. A finer one would differ
+   from what the kernel keeps of a file that it caches, since it tells no change within one tick. */
 struct timespec now(void)
 {
     struct timespec time;

@@ -156,6 +156,7 @@ struct kernel {
     int64_t next_care;          /* when connections are looked after next, in milliseconds */
     pid_t syncer;               /* a process that has the kernel write all that it holds, or 0 */
     bool drains, unsaved;
+    int64_t last;               /* when it ends, though the kernel still asks, in milliseconds */
 };
 
 struct bridge {
@@ -287,7 +288,7 @@ void node_written(struct bridge *bridge, struct node *node);
 unsigned open_flags(const struct bridge *bridge, int flags);
 
 /* privileges.c */
-/* Whether a change of a file's bytes, as it is asked for, takes its set-user-ID bits; takes them. */
+/* Whether a change of bytes, as it is asked for, takes set-user-ID bits; and taking them. */
 bool takes_bits(const struct bridge *bridge);
 int take_bits(struct bridge *bridge, struct node *node);
 uint32_t without_bits(uint32_t mode);

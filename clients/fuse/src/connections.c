@@ -236,13 +236,13 @@ bool connections_begin(struct bridge *bridge)
     return false;
 }
 
-/* A path text that is refused takes no place in the server's history. */
+/* A path text that is refused, as it has no slash, takes no place in the server's history. */
 static void ask_nothing(struct bridge *bridge, struct connection *connection)
 {
     uint64_t trips = bridge->trips, frames = bridge->frames;
     if (ask_on(bridge, connection) != 0)
         return;
-    ask_path(&bridge->batch, OP_STAT, "");
+    ask_path(&bridge->batch, OP_STAT, "x");
     ask_end(bridge);
     bridge->trips = trips;
     bridge->frames = frames;

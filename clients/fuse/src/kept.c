@@ -1,5 +1,5 @@
-/* User attributes of what has no name any more but is still open. The engine's calls go by paths, so
-   the bridge takes the attributes over with the last name, and keeps them as long as it is open. */
+/* Attributes of what has no name any more but is still open. The engine's calls go by paths, so the
+   bridge takes the attributes over with the last name, and keeps them as long as it is open. */
 #include "bridge.h"
 
 #include <errno.h>

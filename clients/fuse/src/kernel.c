@@ -17,7 +17,10 @@
 #include <sys/wait.h>
 #include <unistd.h>
 
-enum { DRAINED = 50 };  /* milliseconds without a request, after which there are no more */
+enum {
+    DRAINED = 50,      /* milliseconds without a request, after which there are no more */
+    DRAINS_MOST = 2000 /* and milliseconds after which it ends though there are */
+};
 
 /* What libfuse doesn't tell of a request. */
 
@@ -141,6 +144,14 @@ static ssize_t write_reply(int descriptor, struct iovec *parts, int count, void 
 
 /* The end: the kernel writes what it holds while it is served, and then nothing more comes. */
 
+static void drain(struct kernel *kernel, bool unsaved)
+{
+    kernel->syncer = 0;
+    kernel->drains = true;
+    kernel->unsaved = unsaved;
+    kernel->last = milliseconds() + DRAINS_MOST;
+}
+
 static void sync_mount(struct bridge *bridge)
 {
     struct kernel *kernel = &bridge->kernel;
@@ -149,8 +160,8 @@ static void sync_mount(struct bridge *bridge)
         int mount = open(bridge->options.mountpoint, O_RDONLY | O_DIRECTORY | O_CLOEXEC);
         _exit(mount >= 0 && syncfs(mount) == 0 ? 0 : 1);
     }
-    kernel->unsaved = kernel->syncer < 0;
-    kernel->drains = kernel->syncer < 0;
+    if (kernel->syncer < 0)
+        drain(kernel, true);
     notify("STOPPING=1");
 }
 
@@ -164,9 +175,7 @@ static void take_signal(struct bridge *bridge)
     if (told.ssi_signo == SIGCHLD) {
         if (kernel->syncer <= 0 || waitpid(kernel->syncer, &status, WNOHANG) != kernel->syncer)
             return;
-        kernel->syncer = 0;
-        kernel->drains = true;
-        kernel->unsaved = status != 0;
+        drain(kernel, status != 0);
     } else if (bridge->options.kernel < 0 && !kernel->syncer && !kernel->drains) {
         sync_mount(bridge);
     } else {
@@ -187,7 +196,7 @@ static bool is_asked(struct bridge *bridge, int descriptor)
         return false;
     if (waits[1].revents)
         take_signal(bridge);
-    if (ready == 0 && kernel->drains)
+    if (kernel->drains && (ready == 0 || milliseconds() > kernel->last))
         fuse_session_exit(bridge->session);
     if (bridge->options.keep && milliseconds() >= kernel->next_care) {
         connections_care(bridge);

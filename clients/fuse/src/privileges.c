@@ -21,7 +21,8 @@ bool takes_bits(const struct bridge *bridge)
 }
 
 /* What the file has now, where others may have given it. */
-static int look(struct bridge *bridge, const struct node *node, uint32_t *mode, bool *has_capability)
+static int look(struct bridge *bridge, const struct node *node, uint32_t *mode,
+                bool *has_capability)
 {
     int fault = path_of(node, bridge->path);
     if (!fault)

@@ -1,4 +1,4 @@
-"""How a mount begins and ends, and what its users can't do to each other, on this machine's kernel."""
+"""How a mount begins and ends, and what its users can't do to each other, on a real kernel."""
 
 import contextlib
 import os
@@ -187,7 +187,8 @@ class Life(unittest.TestCase):
         device = os.path.join(self.folder, "fuse")  # as /dev/fuse is on most machines
         os.mknod(device, stat.S_IFCHR, os.stat("/dev/fuse").st_rdev)
         os.chmod(device, 0o666)
-        script = (f"mount --bind {device} /dev/fuse && {PROGRAM} {self.server.path} {self.mount} --squash && cd {self.mount} &&"
+        script = (f"mount --bind {device} /dev/fuse &&"
+                  f"{PROGRAM} {self.server.path} {self.mount} --squash && cd {self.mount} &&"
                   "echo new > new && echo more >> f && mkdir d/e && stat -c '%n %u:%g' new f d/e"
                   f" && chown 0:0 f && ! chown 5:5 f 2> /dev/null; cd / && umount {self.mount}")
         told = as_nobody("env", "ASAN_OPTIONS=detect_leaks=0", "unshare", "-rm", "sh", "-c",

@@ -75,7 +75,7 @@ class Session:
             self.server.answered.append(body)
 
     def answer(self, op, fields):
-        if op == STAT and fields == b"\0\0":
+        if op == STAT and fields == b"\0\1x":
             return frame(b"\2\x16")
         if op in (STAT, FSTAT):
             is_root = op == STAT and fields == b"\0\1/"

@@ -229,7 +229,7 @@ class Listings(HostileCase):
 class Silence(PlayedCase):
     """A server with --idle ends who is silent, and with a connection all that is open on it."""
 
-    PING = bytes((played.STAT, 0, 0))
+    PING = bytes((played.STAT, 0, 1)) + b"x"
 
     def test_each_connection_is_asked_in_time(self):
         kernel = self.bridge("--keep", "1", sessions=3)
