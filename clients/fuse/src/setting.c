@@ -170,7 +170,8 @@ static int take_owners(const struct bridge *bridge, struct setting *setting)
 }
 
 /* Set-user-ID bits go with a new owner, also where root gives it, and with a cut by others; what
-   the request itself says of the mode stays. */
+   the request itself says of the mode stays. A kernel that tells whose bits go asks for nothing, or
+   for the time alone, where they are all that goes, as by a chown(2) that leaves both ids. */
 static int judge_bits(struct bridge *bridge, struct setting *setting)
 {
     struct node *node = setting->node;
@@ -178,7 +179,8 @@ static int judge_bits(struct bridge *bridge, struct setting *setting)
     setting->mode = setting->wanted->st_mode & 07777;
     if (asks(setting, FUSE_SET_ATTR_MODE) && is_cut)
         setting->mode = without_bits(setting->mode);
-    if (asks(setting, FUSE_SET_ATTR_MODE) || !(is_cut || asks(setting, SET_OWNER)))
+    bool is_all = bridge->kernel.tells_kills && !asks(setting, ~FUSE_SET_ATTR_CTIME);
+    if (asks(setting, FUSE_SET_ATTR_MODE) || !(is_cut || is_all || asks(setting, SET_OWNER)))
         return 0;
     return take_bits(bridge, node);
 }

@@ -11,8 +11,8 @@ import unittest
 
 from . import played
 from .bridges import ENVIRONMENT, PROGRAM, Bridge
-from .kernel import (CAPABLE, OPEN_KILLS, ROOT, SET_FH, SET_KILLS, SET_SIZE, WRITE_CACHE,
-                     WRITE_KILLS, Flag)
+from .kernel import (CAPABLE, OPEN_KILLS, ROOT, SET_CTIME, SET_FH, SET_KILLS, SET_MTIME, SET_SIZE,
+                     WRITE_CACHE, WRITE_KILLS, Flag)
 from .played import attr, frame, made, refused, texts
 from .test_bridge_servers import PlayedCase
 
@@ -107,6 +107,15 @@ class Privileges(HostileCase):
             kernel.uid = uid
             told = self.asked_by(kernel.write, node, fh, 0, b"more", how)
             self.assertEqual([op for op, _ in told], [played.WRITE])
+
+    def test_a_change_of_owner_that_leaves_both(self):
+        """The kernel asks for nothing then, or for the time; an older one sets the mode itself."""
+        for flags, asks, wanted in ((CAPABLE, SET_CTIME, [self.GONE]), (CAPABLE, 0, [self.GONE]),
+                                    (OLD_KERNEL, SET_CTIME, []), (CAPABLE, SET_MTIME, [])):
+            kernel = self.begun(flags)
+            self.server.mode = 0o6777
+            node = kernel.lookup(ROOT, "f").nodeid
+            self.assertEqual(self.asked_by(kernel.setattr, node, asks), wanted)
 
     def test_group_bits_without_the_right_to_run(self):
         kernel = self.begun(CAPABLE)
