@@ -19,9 +19,11 @@ static bool begins(const char *text, const char *with)
     return strncmp(text, with, strlen(with)) == 0;
 }
 
+/* A mount has no labels: who asks for one, as `ls -l` of each file, is told so once for all. */
 static bool is_other(const char *name)
 {
-    return begins(name, "security.") || begins(name, "trusted.");
+    bool is_label = strcmp(name, "security.selinux") == 0;
+    return (begins(name, "security.") && !is_label) || begins(name, "trusted.");
 }
 
 /* Access lists, and classes that nobody knows, are refused; what the bridge keeps for itself is

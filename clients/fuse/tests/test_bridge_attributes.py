@@ -55,7 +55,8 @@ class Attributes(ServerCase):
     def test_other_names(self):
         kernel = self.bridge(self.served())
         f = kernel.walk("/f").nodeid
-        for name in ("system.posix_acl_access", "system.posix_acl_default", "other.a", "a"):
+        for name in ("system.posix_acl_access", "system.posix_acl_default", "other.a", "a",
+                     "security.selinux"):
             self.refused(errno.EOPNOTSUPP, kernel.getxattr, f, name)
             self.refused(errno.EOPNOTSUPP, kernel.setxattr, f, name, b"x")
             self.refused(errno.EOPNOTSUPP, kernel.removexattr, f, name)
