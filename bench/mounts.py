@@ -117,7 +117,7 @@ class Bridge(Mount):
         socket = os.path.join(self.folder, "socket")
         self.start([self.overlayd, "serve", self.manifest, socket])
         self.wait_for(lambda: os.path.exists(socket))
-        self.start([self.bridge, socket, self.at])
+        self.start([self.bridge, socket, self.at, "-f"])
         self.wait_for(lambda: os.path.ismount(self.at))
 
 

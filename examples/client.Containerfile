@@ -9,7 +9,7 @@
 # A program that knows nothing of the socket needs no client: with the bridge outside, as root, its
 # container gets the mount as a volume (clients/fuse/README.md):
 #
-#     overlayd-fuse /run/overlayd/overlay.socket /mnt &
+#     overlayd-fuse /run/overlayd/overlay.socket /mnt
 #     docker run --rm -v /mnt:/work debian:12 ls -l /work
 #
 # overlayd is no storage driver: no runtime asks it for a container's own root file system.

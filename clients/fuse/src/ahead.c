@@ -25,7 +25,7 @@ void take_ahead(struct bridge *bridge, struct handle *handle, size_t first)
     const struct batch *batch = &bridge->batch;
     size_t length = 0, asked = 0;
     char *bytes = first < batch->count ? malloc(AHEAD_MAX) : NULL;
-    handle->place = first < batch->count ? PLACE_UNKNOWN : 0;
+    handle->opened->place = first < batch->count ? PLACE_UNKNOWN : 0;
     for (size_t i = first; bytes && i < batch->count && !refused(bridge, i); i++) {
         size_t count;
         const char *block = answer_block(batch, i, &count);
@@ -35,7 +35,7 @@ void take_ahead(struct bridge *bridge, struct handle *handle, size_t first)
     }
     if (!bytes)
         return;
-    handle->place = length;
+    handle->opened->place = length;
     handle->ahead = realloc(bytes, length ? length : 1);
     if (!handle->ahead)
         handle->ahead = bytes;

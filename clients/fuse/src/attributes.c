@@ -12,8 +12,8 @@ enum { META_BYTES = 256, BLOCK = 512 };
 /* For how long the kernel keeps what it was told, where nobody else changes the mount. */
 static const double LONG = 365.0 * 86400.0;
 
-/* The time of the kernel's last tick, as its own file systems have it. A finer one would differ from
-   what the kernel keeps of a file that it caches, since it tells no change within one tick. */
+/* The time of the kernel's last tick, as its own file systems have it. A finer one would differ
+   from what the kernel keeps of a file that it caches, since it tells no change within one tick. */
 struct timespec now(void)
 {
     struct timespec time;
@@ -139,7 +139,8 @@ struct meta meta_of(const struct bridge *bridge, struct look look)
     return meta;
 }
 
-/* With --shared anybody may have written the attribute, so it makes no devices. */
+/* An image may bring the attribute, so it makes devices by an option alone; and none with --shared,
+   where anybody may have written it. A device of this mount stays one. */
 void node_see_meta(const struct bridge *bridge, struct node *node, const struct meta *meta)
 {
     if (!meta->is_there)
@@ -147,7 +148,8 @@ void node_see_meta(const struct bridge *bridge, struct node *node, const struct 
     node->times = meta->times;
     node->has_times = true;
     bool is_device = meta->special == S_IFCHR || meta->special == S_IFBLK;
-    if (node->attr.kind == KIND_FILE && !(is_device && bridge->options.shared)) {
+    bool is_trusted = bridge->options.devices && !bridge->options.shared;
+    if (node->attr.kind == KIND_FILE && (!is_device || is_trusted)) {
         node->special = meta->special;
         node->device = meta->device;
     }
@@ -162,6 +164,8 @@ void node_see(struct bridge *bridge, struct node *node, const struct attr *attr)
         node->attr.uid = old.uid;
         node->attr.gid = old.gid;
     }
+    if (node->has_mode)
+        node->attr.mode = old.mode;
     bool is_known = attr->kind == KIND_DIRECTORY || attr->links <= names_of(node);
     node->sure = !bridge->options.shared && is_known ? bridge->epoch : 0;
 }
@@ -191,8 +195,8 @@ void stat_of(const struct bridge *bridge, const struct node *node, struct stat *
     stat->st_ino = node->number;
     stat->st_mode = type_of(node) | node->attr.mode;
     stat->st_nlink = node->attr.links;
-    stat->st_uid = node->attr.uid;
-    stat->st_gid = node->attr.gid;
+    stat->st_uid = shown_id(&bridge->options.uids, node->attr.uid);
+    stat->st_gid = shown_id(&bridge->options.gids, node->attr.gid);
     stat->st_rdev = node->device;
     stat->st_size = (off_t)node->attr.size;
     stat->st_blksize = 4096;

@@ -13,23 +13,60 @@
 
 enum { SESSIONS_MAX = 64, ROOT = FUSE_ROOT_ID };
 
-/* The attribute in which times and kinds are kept that the server doesn't know. */
-#define META "user.overlayd.meta"
+/* Attributes that begin so are the bridge's own: in one times and kinds are kept that the server
+   doesn't know, and in others what programs know by another class of names. */
+#define OWN "user.overlayd."
+#define META OWN "meta"
+#define OTHER OWN "xattr."
+
+enum { RANGES_MAX = 16 };
+
+/* Ids that the engine has, from `inner` on, and as which they are shown. */
+struct range {
+    uint32_t inner, outer, count;
+};
+struct ids {
+    struct range ranges[RANGES_MAX];
+    unsigned count;            /* without a range each id is shown as it is */
+    bool squash;               /* all are shown as `shown`, and made as 0 */
+    uint32_t shown;
+};
 
 struct options {
     const char *socket, *mountpoint;
-    unsigned sessions, wait;
-    bool shared, times, verbose;
+    unsigned sessions, max_sessions, wait, keep;
+    bool shared, times, devices, foreground, verbose;
+    struct ids uids, gids;
+    char places[2][PATH_BYTES];  /* room for socket and mountpoint */
     int kernel;  /* a descriptor that is spoken to in the kernel's place, or -1 */
 };
 
-/* A connection to the server, which is a client of its own there. */
+struct bridge;
+struct connection;
+
+/* How a connection's requests get to the engine, and its replies back. */
+struct transport {
+    /* Makes a connection; an error number where there is none. */
+    int (*open)(struct bridge *bridge, struct connection *connection);
+    /* Whether an open one can be asked. */
+    bool (*ready)(struct bridge *bridge, struct connection *connection);
+    /* Has the batch answered, and its replies judged; false where they aren't right. */
+    bool (*exchange)(struct bridge *bridge, struct connection *connection);
+    void (*drop)(struct bridge *bridge, struct connection *connection);
+};
+extern const struct transport socket_transport;
+
+/* A connection to the engine, which is a client of its own there. */
 struct connection {
-    int descriptor;       /* of the socket, or -1 */
+    bool is_open;
+    bool is_fresh;        /* it was asked something since it was last looked after */
+    int socket;           /* of the transport over a socket */
+    unsigned wait;        /* as the socket was told it */
     unsigned generation;  /* how often it ended */
     uint64_t used;        /* descriptors of the server that are open, a bit for each */
     uint64_t closing;     /* those of them that are closed with the next request */
     uint64_t expected;    /* `used` as it will be after the batch */
+    uint32_t users[DESCRIPTORS];  /* for whom each of them was opened */
 };
 
 struct times {
@@ -43,12 +80,18 @@ struct node {
     struct name *names;       /* where it stands; none once it was removed */
     struct name *children;    /* of a directory: the names that are known in it */
     struct handle *handles;   /* on it */
+    struct opened *opened;    /* where the engine has it open */
+    struct listing *listing;  /* of a directory, as it was last taken */
+    struct kept *kept;        /* the attributes of what has no name any more */
     struct attr attr;         /* as it was last told or changed */
     unsigned sure;            /* the epoch in which `attr` is true, or 0 */
     bool touched;             /* known to be in the upper layer */
     bool written;             /* known to have its bytes there */
     bool fetched;             /* the kernel has read from it */
-    bool has_times, has_owner;
+    unsigned bare;            /* the epoch in which it has no attribute to be shown, or 0 */
+    bool has_times, has_owner, has_mode;
+    bool is_doomed;           /* its names are just being let go */
+    struct node *doomed;      /* the next such node */
     struct times times;       /* where has_times */
     mode_t special;           /* S_IFIFO and such, or 0 */
     dev_t device;
@@ -69,6 +112,20 @@ struct nodes {
     struct name **by_name;
     size_t number_slots, name_slots, node_count, name_count;
     uint64_t last_number;
+    uint64_t key[2];           /* of the hashes, which nobody else knows */
+};
+
+/* A file that the engine has open, for all handles on a node that have that access. */
+struct opened {
+    struct opened *next;       /* on the same node */
+    unsigned handles;
+    unsigned access;           /* OPEN_READ, OPEN_WRITE or OPEN_BOTH */
+    bool appends;
+    bool lost;                 /* it has no descriptor any more */
+    struct connection *connection;
+    unsigned generation;       /* of the connection, when it was opened */
+    uint32_t descriptor;
+    uint64_t place;            /* at which the engine stands, or PLACE_UNKNOWN */
 };
 
 /* What the kernel has open. */
@@ -76,13 +133,9 @@ struct handle {
     struct node *node;
     struct handle *next;       /* on the same node */
     size_t number;             /* in the table of handles */
-    unsigned access;           /* OPEN_READ, OPEN_WRITE or OPEN_BOTH */
-    bool appends, lost;
+    uint32_t uid;              /* who opened it */
     bool changed;              /* the file was, by this handle */
-    struct connection *connection;
-    unsigned generation;       /* of the connection, when it was opened */
-    uint32_t descriptor;
-    uint64_t place;            /* at which the server stands, or PLACE_UNKNOWN */
+    struct opened *opened;     /* of a file */
     char *ahead;               /* bytes from the beginning, read with the open */
     size_t ahead_length;
     bool ahead_whole;          /* they are the whole file */
@@ -92,16 +145,37 @@ struct handle {
 
 #define PLACE_UNKNOWN UINT64_MAX
 
+/* The kernel's side: what it asks just now, and how serving it ends. */
+struct kernel {
+    uint32_t caller;            /* the user who asks */
+    bool kills;                 /* the kernel says that set-user-ID bits go with this request */
+    bool tells_kills;           /* it says so wherever it has to be */
+    bool offers_kills;          /* it could */
+    uint64_t init;              /* the number of the request that began all */
+    int signals;                /* a descriptor that tells signals, or -1 */
+    int64_t next_care;          /* when connections are looked after next, in milliseconds */
+    pid_t syncer;               /* a process that has the kernel write all that it holds, or 0 */
+    bool drains, unsaved;
+    int64_t last;               /* when it ends, though the kernel still asks, in milliseconds */
+};
+
 struct bridge {
     struct options options;
+    const struct transport *transport;
+    unsigned wait;              /* seconds that an answer may take now */
     struct connection connections[SESSIONS_MAX];
+    unsigned attached;          /* how many connections there are, from the first on */
+    time_t next_attach;         /* before which no further one is tried */
     struct connection *asked;   /* the connection of the batch */
+    bool told_full;             /* that the server's history is full */
+    struct kernel kernel;
     struct batch batch;
     struct nodes nodes;
     struct handle **handles;    /* by number; a free one is NULL */
-    size_t handle_room;
+    size_t handle_room, handle_free;  /* none below `handle_free` is free */
     unsigned epoch;             /* rises when a connection ends */
     uint64_t changes;           /* made by the bridge */
+    size_t listed;              /* bytes of all listings that are kept */
     size_t ahead;               /* bytes that are read ahead, of all handles */
     uint64_t frames, trips;
     struct timespec began;      /* the time of what was never changed */
@@ -112,11 +186,14 @@ struct bridge {
 /* connections.c */
 bool connections_begin(struct bridge *bridge);
 void connections_end(struct bridge *bridge);
-/* Begins a batch on any connection, on one, on one with a free descriptor, on a handle's own. */
+/* Asks each connection that was silent, so that the server doesn't end it. */
+void connections_care(struct bridge *bridge);
+/* Begins a batch on any connection, on one, or on one with a free descriptor: for a file that stays
+   open for the caller, or for what the batch itself closes again. */
 int ask_any(struct bridge *bridge);
 int ask_on(struct bridge *bridge, struct connection *connection);
 int ask_for_open(struct bridge *bridge);
-int ask_handle(struct bridge *bridge, const struct handle *handle);
+int ask_for_moment(struct bridge *bridge);
 /* An open and a close on the connection of the batch. */
 size_t ask_opening(struct bridge *bridge, unsigned flags, uint32_t mode, const char *path,
                    uint32_t *descriptor);
@@ -125,6 +202,21 @@ void ask_closing(struct bridge *bridge, uint32_t descriptor);
 int ask_end(struct bridge *bridge);
 /* Why the request of this number was refused, or 0. */
 int refused(const struct bridge *bridge, size_t number);
+int64_t milliseconds(void);
+
+/* kernel.c */
+bool kernel_begin(struct bridge *bridge);
+void kernel_end(struct bridge *bridge);
+/* Tells systemd, where that waits for it. */
+void notify(const char *text);
+
+/* ids.c */
+bool ids_add(struct ids *ids, const char *text);
+uint32_t shown_id(const struct ids *ids, uint32_t inner);
+bool inner_id(const struct ids *ids, uint32_t outer, uint32_t *inner);
+
+/* siphash.c */
+uint64_t siphash(const uint64_t key[2], uint64_t first, const char *text, size_t length);
 
 /* nodes.c */
 bool nodes_begin(struct bridge *bridge);
@@ -176,18 +268,39 @@ void entry_of(const struct bridge *bridge, const struct node *node,
 /* handles.c */
 struct handle *handle_new(struct bridge *bridge, struct node *node);
 struct handle *handle_of(struct bridge *bridge, const struct fuse_file_info *info);
-/* Takes the descriptor that the batch has opened. */
-void handle_opened(struct bridge *bridge, struct handle *handle, unsigned flags,
-                   uint32_t descriptor);
 void handle_free(struct bridge *bridge, struct handle *handle);
-bool is_alive(const struct handle *handle);
-/* A handle on the node that can be used, for writing where it has to be. */
-struct handle *live_handle(const struct node *node, bool writes);
+void handles_end(struct bridge *bridge);
+
+/* opened.c */
+/* One that new handles with these flags may share, or none. */
+struct opened *opened_for(const struct bridge *bridge, const struct node *node, unsigned flags);
+/* A new one, by the descriptor that the batch has opened. */
+struct opened *opened_new(struct bridge *bridge, struct node *node, unsigned flags,
+                          uint32_t descriptor);
+void opened_release(struct bridge *bridge, struct node *node, struct opened *opened);
+bool is_alive(const struct opened *opened);
+int ask_opened(struct bridge *bridge, const struct opened *opened);
+/* One of the node that can be used, for writing where it has to be. */
+struct opened *live_opened(const struct node *node, bool writes);
 /* Notes that the node is in the upper layer, and opens anew what was opened before that. */
 void node_touched(struct bridge *bridge, struct node *node);
 void node_written(struct bridge *bridge, struct node *node);
 unsigned open_flags(const struct bridge *bridge, int flags);
-void handles_end(struct bridge *bridge);
+
+/* privileges.c */
+/* Whether a change of bytes, as it is asked for, takes set-user-ID bits; and taking them. */
+bool takes_bits(const struct bridge *bridge);
+int take_bits(struct bridge *bridge, struct node *node);
+uint32_t without_bits(uint32_t mode);
+
+/* kept.c */
+int keep_attributes(struct bridge *bridge, const struct node *node, struct kept **kept);
+void kept_free(struct kept *kept);
+int kept_get(const struct kept *kept, const char *name, const char **value, size_t *length);
+int kept_set(struct node *node, const char *name, const char *value, size_t length);
+int kept_remove(struct node *node, const char *name);
+/* The next name from a place on, which it moves, or none. */
+const char *kept_next(const struct kept *kept, size_t *at);
 
 /* ahead.c */
 void ask_ahead(struct bridge *bridge, struct node *node, uint32_t descriptor);
@@ -197,7 +310,7 @@ bool reply_ahead(fuse_req_t request, struct bridge *bridge, struct handle *handl
 void ahead_free(struct bridge *bridge, struct handle *handle);
 
 /* listings.c */
-void listing_free(struct listing *listing);
+void listing_release(struct bridge *bridge, struct listing *listing);
 
 /* The operations, by file. */
 void looking_operations(struct fuse_lowlevel_ops *operations);

@@ -2,67 +2,48 @@
 #include "bridge.h"
 
 #include <errno.h>
-#include <poll.h>
 #include <stdio.h>
 #include <string.h>
-#include <sys/socket.h>
-#include <sys/un.h>
-#include <unistd.h>
 
 enum {
-    FRESH = 1 << 16,  /* how much room a read has at least */
-    FIRST_WAIT = 5,   /* seconds in which a session must be served at the beginning */
+    FIRST_WAIT = 5,         /* seconds in which a session must be served at the beginning */
+    FURTHER_WAIT = 2,       /* and where a further one is needed */
+    AGAIN = 10,             /* seconds until the next is tried where one wasn't served */
+    HELD = DESCRIPTORS - 1, /* of a connection, but for one for listings, cuts and reopening */
 };
+
+int64_t milliseconds(void)
+{
+    struct timespec time;
+    clock_gettime(CLOCK_MONOTONIC_COARSE, &time);
+    return (int64_t)time.tv_sec * 1000 + time.tv_nsec / 1000000;
+}
 
 static void drop(struct bridge *bridge, struct connection *connection)
 {
-    if (connection->descriptor < 0)
+    if (!connection->is_open)
         return;
-    close(connection->descriptor);
-    connection->descriptor = -1;
+    bridge->transport->drop(bridge, connection);
+    connection->is_open = false;
     connection->used = connection->closing = 0;
     connection->generation++;
     bridge->epoch++;
 }
 
-static void set_wait(int descriptor, unsigned seconds)
+static int open_anew(struct bridge *bridge, struct connection *connection)
 {
-    struct timeval wait = {.tv_sec = seconds};
-    setsockopt(descriptor, SOL_SOCKET, SO_SNDTIMEO, &wait, sizeof wait);
-    setsockopt(descriptor, SOL_SOCKET, SO_RCVTIMEO, &wait, sizeof wait);
+    int fault = bridge->transport->open(bridge, connection);
+    connection->is_open = connection->is_fresh = fault == 0;
+    return fault;
 }
 
-static int connect_anew(struct bridge *bridge, struct connection *connection)
-{
-    struct sockaddr_un address = {.sun_family = AF_UNIX};
-    size_t length = strlen(bridge->options.socket);
-    if (length >= sizeof address.sun_path)
-        return ENAMETOOLONG;
-    memcpy(address.sun_path, bridge->options.socket, length + 1);
-    int descriptor = socket(AF_UNIX, SOCK_STREAM | SOCK_CLOEXEC, 0);
-    if (descriptor < 0)
-        return errno;
-    set_wait(descriptor, bridge->options.wait);
-    if (connect(descriptor, (struct sockaddr *)&address, sizeof address) != 0) {
-        int fault = errno;
-        close(descriptor);
-        return fault;
-    }
-    connection->descriptor = descriptor;
-    return 0;
-}
-
-/* Whether it stands, with nothing to be read that nobody asked for; if not, it is made anew. */
+/* Whether it stands; if not, it is made anew. */
 static bool is_ready(struct bridge *bridge, struct connection *connection)
 {
-    char byte;
-    if (connection->descriptor >= 0) {
-        ssize_t got = recv(connection->descriptor, &byte, 1, MSG_PEEK | MSG_DONTWAIT);
-        if (got < 0 && (errno == EAGAIN || errno == EWOULDBLOCK))
-            return true;
-        drop(bridge, connection);
-    }
-    return connect_anew(bridge, connection) == 0;
+    if (connection->is_open && bridge->transport->ready(bridge, connection))
+        return true;
+    drop(bridge, connection);
+    return open_anew(bridge, connection) == 0;
 }
 
 /* Batches. */
@@ -85,27 +66,79 @@ int ask_any(struct bridge *bridge)
     return ask_on(bridge, &bridge->connections[0]);
 }
 
+/* Whether the server serves it: its first request is answered. */
+static bool is_served(struct bridge *bridge, struct connection *connection)
+{
+    if (ask_on(bridge, connection) != 0)
+        return false;
+    size_t root = ask_path(&bridge->batch, OP_STAT, "/");
+    return ask_end(bridge) == 0 && !refused(bridge, root);
+}
+
+/* One connection more. A server without a free worker isn't asked for one all the time. */
+static bool attach_further(struct bridge *bridge)
+{
+    time_t second = (time_t)(milliseconds() / 1000);
+    if (bridge->attached == bridge->options.max_sessions || second < bridge->next_attach)
+        return false;
+    struct connection *connection = &bridge->connections[bridge->attached];
+    unsigned wait = bridge->wait, epoch = bridge->epoch;
+    bridge->wait = wait < FURTHER_WAIT ? wait : FURTHER_WAIT;
+    bool served = is_served(bridge, connection);
+    bridge->wait = wait;
+    if (served) {
+        bridge->attached++;
+        return true;
+    }
+    drop(bridge, connection);
+    bridge->epoch = epoch;  /* nothing that was known came by it */
+    bridge->next_attach = second + AGAIN;
+    return false;
+}
+
+static unsigned open_on(const struct connection *connection)
+{
+    return (unsigned)__builtin_popcountll(connection->used & ~connection->closing);
+}
+
+/* Whether the user holds less than three quarters of what there is; root may have all. */
+static bool has_share(const struct bridge *bridge, uint32_t user)
+{
+    unsigned held = 0;
+    for (unsigned i = 0; user != 0 && i < bridge->attached; i++) {
+        const struct connection *one = &bridge->connections[i];
+        for (uint64_t left = one->used & ~one->closing; left; left &= left - 1)
+            held += one->users[__builtin_ctzll(left)] == user;
+    }
+    return held < bridge->attached * HELD * 3 / 4;
+}
+
+/* The one with the fewest open files of those that stay, or else the first with room. */
+static struct connection *roomiest(struct bridge *bridge, unsigned room)
+{
+    struct connection *found = NULL;
+    for (unsigned i = 0; i < bridge->attached; i++) {
+        struct connection *one = &bridge->connections[i];
+        bool is_further = i >= bridge->options.sessions;
+        if (open_on(one) < (found ? open_on(found) : room) && !(found && is_further))
+            found = one;
+    }
+    return found;
+}
+
 int ask_for_open(struct bridge *bridge)
 {
     struct connection *found = NULL;
-    int fewest = DESCRIPTORS;
-    for (unsigned i = 0; i < bridge->options.sessions; i++) {
-        struct connection *one = &bridge->connections[i];
-        int open = __builtin_popcountll(one->used & ~one->closing);
-        if (open < fewest) {
-            fewest = open;
-            found = one;
-        }
-    }
+    do
+        found = has_share(bridge, bridge->kernel.caller) ? roomiest(bridge, HELD) : NULL;
+    while (!found && attach_further(bridge));
     return found ? ask_on(bridge, found) : ENFILE;
 }
 
-int ask_handle(struct bridge *bridge, const struct handle *handle)
+int ask_for_moment(struct bridge *bridge)
 {
-    if (!is_alive(handle))
-        return EIO;
-    int fault = ask_on(bridge, handle->connection);
-    return fault ? fault : is_alive(handle) ? 0 : EIO;
+    struct connection *found = roomiest(bridge, DESCRIPTORS);
+    return found ? ask_on(bridge, found) : ENFILE;
 }
 
 size_t ask_opening(struct bridge *bridge, unsigned flags, uint32_t mode, const char *path,
@@ -120,6 +153,7 @@ size_t ask_opening(struct bridge *bridge, unsigned flags, uint32_t mode, const c
     }
     *descriptor = (uint32_t)__builtin_ctzll(free);
     bridge->asked->expected |= UINT64_C(1) << *descriptor;
+    bridge->asked->users[*descriptor] = bridge->kernel.caller;
     return ask_open(&bridge->batch, flags, mode, path, *descriptor);
 }
 
@@ -129,62 +163,13 @@ void ask_closing(struct bridge *bridge, uint32_t descriptor)
     ask_descriptor(&bridge->batch, OP_CLOSE, descriptor);
 }
 
-static bool send_some(int descriptor, const struct batch *batch, size_t *sent)
+/* A full history never gets free again, and nobody sees it by the number of the refusal. */
+static void tell_full(struct bridge *bridge)
 {
-    ssize_t count = send(descriptor, batch->out + *sent, batch->out_length - *sent,
-                         MSG_NOSIGNAL | MSG_DONTWAIT);
-    if (count >= 0)
-        *sent += (size_t)count;
-    return count >= 0 || errno == EAGAIN || errno == EINTR;
-}
-
-static bool receive_some(int descriptor, struct batch *batch, int flags)
-{
-    if (!batch_room(batch, FRESH))
-        return false;
-    ssize_t count = recv(descriptor, batch->in + batch->in_length, FRESH, flags);
-    if (count > 0)
-        batch->in_length += (size_t)count;
-    bool later = count < 0 && (errno == EINTR || (flags && errno == EAGAIN));
-    return (count > 0 || later) && batch_judge(batch);
-}
-
-/* While not all is sent it reads as well, since the server may wait for that. */
-static bool exchange_some(struct bridge *bridge, int descriptor, size_t *sent)
-{
-    struct batch *batch = &bridge->batch;
-    if (*sent == batch->out_length)
-        return receive_some(descriptor, batch, 0);
-    struct pollfd poll_for = {.fd = descriptor, .events = POLLIN | POLLOUT};
-    int ready = poll(&poll_for, 1, (int)bridge->options.wait * 1000);
-    if (ready == 0 || (ready < 0 && errno != EINTR))
-        return false;
-    if (ready > 0 && (poll_for.revents & POLLOUT) && !send_some(descriptor, batch, sent))
-        return false;
-    return !(ready > 0 && (poll_for.revents & ~POLLOUT))
-        || receive_some(descriptor, batch, MSG_DONTWAIT);
-}
-
-/* Each reply has its time to come whole, so a server can't keep the mount by single bytes. */
-static bool exchange(struct bridge *bridge)
-{
-    struct batch *batch = &bridge->batch;
-    int descriptor = bridge->asked->descriptor;
-    size_t sent = 0, seen = 0;
-    time_t since = now().tv_sec;
-    if (!send_some(descriptor, batch, &sent))
-        return false;
-    while (batch->answered < batch->count) {
-        if (!exchange_some(bridge, descriptor, &sent))
-            return false;
-        if (batch->answered > seen) {
-            seen = batch->answered;
-            since = now().tv_sec;
-        } else if (now().tv_sec - since > (time_t)bridge->options.wait) {
-            return false;
-        }
-    }
-    return sent == batch->out_length && batch->judged == batch->in_length;
+    if (!bridge->told_full)
+        fprintf(stderr, "overlayd-fuse: %s: the server's history is full, and each call is refused "
+                "from now on; serve with --no-history\n", bridge->options.socket);
+    bridge->told_full = true;
 }
 
 /* Which descriptors are open now, and whether something was changed. */
@@ -193,6 +178,8 @@ static void account(struct bridge *bridge)
     struct connection *connection = bridge->asked;
     for (size_t i = 0; i < bridge->batch.count; i++) {
         const struct ask *ask = &bridge->batch.asks[i];
+        if (ask->untaken && ask->refused == ENOSPC)
+            tell_full(bridge);
         if (ask->refused)
             continue;
         if (ask->op == OP_OPEN)
@@ -203,6 +190,7 @@ static void account(struct bridge *bridge)
             bridge->changes++;
     }
     connection->closing = 0;
+    connection->is_fresh = true;
 }
 
 int ask_end(struct bridge *bridge)
@@ -213,7 +201,7 @@ int ask_end(struct bridge *bridge)
         return 0;
     bridge->trips++;
     bridge->frames += bridge->batch.count;
-    if (!exchange(bridge)) {
+    if (!bridge->transport->exchange(bridge, bridge->asked)) {
         drop(bridge, bridge->asked);
         return EIO;
     }
@@ -228,39 +216,66 @@ int refused(const struct bridge *bridge, size_t number)
 
 /* The beginning: each session must be served, which a server with few workers can't. */
 
-static bool is_served(struct bridge *bridge, struct connection *connection)
-{
-    if (ask_on(bridge, connection) != 0)
-        return false;
-    size_t root = ask_path(&bridge->batch, OP_STAT, "/");
-    return ask_end(bridge) == 0 && !refused(bridge, root);
-}
-
 bool connections_begin(struct bridge *bridge)
 {
-    unsigned served = 0, wait = bridge->options.wait;
-    bridge->options.wait = wait < FIRST_WAIT ? wait : FIRST_WAIT;
-    for (unsigned i = 0; i < bridge->options.sessions; i++)
-        bridge->connections[i].descriptor = -1;
-    int fault = connect_anew(bridge, &bridge->connections[0]);
+    unsigned wanted = bridge->options.sessions;
+    bridge->wait = bridge->options.wait < FIRST_WAIT ? bridge->options.wait : FIRST_WAIT;
+    int fault = open_anew(bridge, &bridge->connections[0]);
     if (fault) {
         fprintf(stderr, "overlayd-fuse: %s: %s\n", bridge->options.socket, strerror(fault));
         return false;
     }
-    while (served < bridge->options.sessions && is_served(bridge, &bridge->connections[served]))
-        set_wait(bridge->connections[served++].descriptor, wait);
-    bridge->options.wait = wait;
-    if (served == bridge->options.sessions)
+    while (bridge->attached < wanted
+           && is_served(bridge, &bridge->connections[bridge->attached]))
+        bridge->attached++;
+    bridge->wait = bridge->options.wait;
+    if (bridge->attached == wanted)
         return true;
     fprintf(stderr, "overlayd-fuse: the server answers %u of %u sessions: serve with more "
-            "--workers, or mount with fewer --sessions\n", served, bridge->options.sessions);
+            "--workers, or mount with fewer --sessions\n", bridge->attached, wanted);
     return false;
+}
+
+/* A path text that is refused, as it has no slash, takes no place in the server's history. */
+static void ask_nothing(struct bridge *bridge, struct connection *connection)
+{
+    uint64_t trips = bridge->trips, frames = bridge->frames;
+    if (ask_on(bridge, connection) != 0)
+        return;
+    ask_path(&bridge->batch, OP_STAT, "x");
+    ask_end(bridge);
+    bridge->trips = trips;
+    bridge->frames = frames;
+}
+
+/* Ends those of the further ones that nobody needs any more, the last ones first. */
+static void detach_idle(struct bridge *bridge)
+{
+    while (bridge->attached > bridge->options.sessions) {
+        struct connection *last = &bridge->connections[bridge->attached - 1];
+        if (open_on(last) > 0)
+            return;
+        unsigned epoch = bridge->epoch;
+        drop(bridge, last);
+        bridge->epoch = epoch;
+        bridge->attached--;
+    }
+}
+
+void connections_care(struct bridge *bridge)
+{
+    for (unsigned i = 0; i < bridge->attached; i++) {
+        struct connection *one = &bridge->connections[i];
+        if (one->is_open && (!one->is_fresh || one->closing))
+            ask_nothing(bridge, one);
+        one->is_fresh = false;
+    }
+    detach_idle(bridge);
 }
 
 void connections_end(struct bridge *bridge)
 {
-    for (unsigned i = 0; i < bridge->options.sessions; i++)
-        if (bridge->connections[i].descriptor >= 0)
-            close(bridge->connections[i].descriptor);
+    for (unsigned i = 0; i < SESSIONS_MAX; i++)
+        drop(bridge, &bridge->connections[i]);
     batch_free(&bridge->batch);
 }

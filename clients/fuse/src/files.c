@@ -7,6 +7,7 @@
 
 enum { PIECES_MAX = 64 };
 
+/* The engine opens it, and reads the beginning of what is only read. */
 static int open_on_server(struct bridge *bridge, struct handle *handle, unsigned flags)
 {
     struct node *node = handle->node;
@@ -24,8 +25,51 @@ static int open_on_server(struct bridge *bridge, struct handle *handle, unsigned
         fault = refused(bridge, open);
     if (fault)
         return fault;
-    handle_opened(bridge, handle, flags, descriptor);
+    handle->opened = opened_new(bridge, node, flags, descriptor);
+    if (!handle->opened)
+        return ENOMEM;
+    handle->opened->handles = 1;
     take_ahead(bridge, handle, open + 1);
+    return 0;
+}
+
+/* What the engine has open already is shared, and only emptied where that is asked for. */
+static int share(struct bridge *bridge, struct handle *handle, struct opened *opened,
+                 unsigned flags)
+{
+    if (flags & OPEN_EMPTY) {
+        int fault = ask_opened(bridge, opened);
+        if (fault)
+            return fault;
+        size_t truncate = ask_truncate(&bridge->batch, opened->descriptor, 0);
+        fault = ask_end(bridge);
+        if (!fault)
+            fault = refused(bridge, truncate);
+        if (fault)
+            return fault;
+    }
+    opened->handles++;
+    handle->opened = opened;
+    return 0;
+}
+
+static int open_handle(struct bridge *bridge, struct handle *handle, unsigned flags)
+{
+    struct node *node = handle->node;
+    int fault = (flags & OPEN_EMPTY) && takes_bits(bridge) ? take_bits(bridge, node) : 0;
+    struct opened *opened = opened_for(bridge, node, flags);
+    if (!fault)
+        fault = opened ? share(bridge, handle, opened, flags)
+            : open_on_server(bridge, handle, flags);
+    if (fault)
+        return fault;
+    if (flags & OPEN_EMPTY) {
+        node->attr.size = 0;
+        times_changed(bridge, node);
+        handle->changed = true;
+    }
+    if (flags != OPEN_READ)
+        node_written(bridge, node);
     return 0;
 }
 
@@ -38,20 +82,12 @@ static void do_open(fuse_req_t request, fuse_ino_t number, struct fuse_file_info
         fuse_reply_err(request, node ? ENOMEM : ESTALE);
         return;
     }
-    unsigned flags = open_flags(bridge, info->flags);
-    int fault = open_on_server(bridge, handle, flags);
+    int fault = open_handle(bridge, handle, open_flags(bridge, info->flags));
     if (fault) {
         handle_free(bridge, handle);
         fuse_reply_err(request, fault);
         return;
     }
-    if (flags & OPEN_EMPTY) {
-        node->attr.size = 0;
-        times_changed(bridge, node);
-        handle->changed = true;
-    }
-    if (flags != OPEN_READ)
-        node_written(bridge, node);
     info->fh = handle->number;
     info->direct_io = bridge->options.shared;
     info->keep_cache = is_sure(bridge, node);
@@ -59,10 +95,10 @@ static void do_open(fuse_req_t request, fuse_ino_t number, struct fuse_file_info
         handle_free(bridge, handle);
 }
 
-static void ask_place(struct bridge *bridge, struct handle *handle, uint64_t offset)
+static void ask_place(struct bridge *bridge, const struct opened *opened, uint64_t offset)
 {
-    if (handle->place != offset)
-        ask_seek(&bridge->batch, handle->descriptor, offset);
+    if (opened->place != offset)
+        ask_seek(&bridge->batch, opened->descriptor, offset);
 }
 
 /* Why the request that moves the place was refused, where there is one before number `first`. */
@@ -72,7 +108,7 @@ static int refused_place(const struct bridge *bridge, size_t first)
         : 0;
 }
 
-static void reply_pieces(fuse_req_t request, struct bridge *bridge, struct handle *handle,
+static void reply_pieces(fuse_req_t request, struct bridge *bridge, struct opened *opened,
                          size_t first, uint64_t offset)
 {
     struct iovec pieces[PIECES_MAX];
@@ -89,7 +125,7 @@ static void reply_pieces(fuse_req_t request, struct bridge *bridge, struct handl
         if (length < bridge->batch.asks[i].bound)
             break;
     }
-    handle->place = fault ? PLACE_UNKNOWN : offset + total;
+    opened->place = fault ? PLACE_UNKNOWN : offset + total;
     if (fault && count == 0)
         fuse_reply_err(request, fault);
     else
@@ -102,34 +138,36 @@ static void do_read(fuse_req_t request, fuse_ino_t number, size_t size, off_t of
     (void)number;
     struct bridge *bridge = bridge_of(request);
     struct handle *handle = handle_of(bridge, info);
+    struct opened *opened = handle ? handle->opened : NULL;
     uint64_t place = (uint64_t)offset;
-    int fault = handle && is_alive(handle) ? 0 : EIO;
+    int fault = is_alive(opened) ? 0 : EIO;
     if (!fault && reply_ahead(request, bridge, handle, size, place)) {
         handle->node->fetched = true;
         return;
     }
     if (!fault)
-        fault = ask_handle(bridge, handle);
+        fault = ask_opened(bridge, opened);
     if (fault) {
         fuse_reply_err(request, fault);
         return;
     }
-    ask_place(bridge, handle, place);
+    ask_place(bridge, opened, place);
     size_t first = bridge->batch.count;
     size = size < (size_t)PIECES_MAX * PIECE_MAX ? size : (size_t)PIECES_MAX * PIECE_MAX;
     for (size_t at = 0; at < size; at += PIECE_MAX)
-        ask_count(&bridge->batch, OP_READ, handle->descriptor,
+        ask_count(&bridge->batch, OP_READ, opened->descriptor,
                   (uint32_t)(size - at < PIECE_MAX ? size - at : PIECE_MAX));
+    opened->place = PLACE_UNKNOWN;
     fault = ask_end(bridge);
     handle->node->fetched = true;
     if (fault)
         fuse_reply_err(request, fault);
     else
-        reply_pieces(request, bridge, handle, first, place);
+        reply_pieces(request, bridge, opened, first, place);
 }
 
 /* How much of the pieces was written, up to the first that didn't fit whole. */
-static size_t written(struct bridge *bridge, struct handle *handle, size_t first,
+static size_t written(struct bridge *bridge, struct opened *opened, size_t first,
                       uint64_t offset, int *fault)
 {
     size_t total = 0;
@@ -141,8 +179,26 @@ static size_t written(struct bridge *bridge, struct handle *handle, size_t first
         is_short = count < bridge->batch.asks[i].bound;
         total += count;
     }
-    handle->place = *fault || is_short || handle->appends ? PLACE_UNKNOWN : offset + total;
+    opened->place = *fault || is_short || opened->appends ? PLACE_UNKNOWN : offset + total;
     return total;
+}
+
+/* All pieces in one go; how much was written, and why no more was. */
+static size_t write_pieces(struct bridge *bridge, struct opened *opened, const char *bytes,
+                           size_t size, uint64_t place, int *fault)
+{
+    *fault = ask_opened(bridge, opened);
+    if (*fault)
+        return 0;
+    if (!opened->appends)
+        ask_place(bridge, opened, place);
+    size_t first = bridge->batch.count;
+    for (size_t at = 0; at < size; at += PIECE_MAX)
+        ask_write(&bridge->batch, opened->descriptor, bytes + at,
+                  (uint32_t)(size - at < PIECE_MAX ? size - at : PIECE_MAX));
+    opened->place = PLACE_UNKNOWN;
+    *fault = ask_end(bridge);
+    return *fault ? 0 : written(bridge, opened, first, place, fault);
 }
 
 /* Of what the kernel writes from its cache nobody sees how much was written, so all has to be. */
@@ -152,27 +208,19 @@ static void do_write(fuse_req_t request, fuse_ino_t number, const char *bytes, s
     (void)number;
     struct bridge *bridge = bridge_of(request);
     struct handle *handle = handle_of(bridge, info);
+    struct opened *opened = handle ? handle->opened : NULL;
     uint64_t place = (uint64_t)offset;
-    if (handle && info->writepage && !is_alive(handle))
-        handle = live_handle(handle->node, true);
-    int fault = handle ? ask_handle(bridge, handle) : EIO;
-    if (fault) {
+    if (handle && info->writepage && !is_alive(opened))
+        opened = live_opened(handle->node, true);
+    int fault = is_alive(opened) ? 0 : EIO;
+    if (!fault && size > 0 && !info->writepage && takes_bits(bridge))
+        fault = take_bits(bridge, handle->node);
+    size_t total = fault ? 0 : write_pieces(bridge, opened, bytes, size, place, &fault);
+    if (!handle || (fault && total == 0)) {
         fuse_reply_err(request, fault);
         return;
     }
     struct node *node = handle->node;
-    if (!handle->appends)
-        ask_place(bridge, handle, place);
-    size_t first = bridge->batch.count;
-    for (size_t at = 0; at < size; at += PIECE_MAX)
-        ask_write(&bridge->batch, handle->descriptor, bytes + at,
-                  (uint32_t)(size - at < PIECE_MAX ? size - at : PIECE_MAX));
-    fault = ask_end(bridge);
-    if (fault) {
-        fuse_reply_err(request, fault);
-        return;
-    }
-    size_t total = written(bridge, handle, first, place, &fault);
     if (place + total > node->attr.size)
         node->attr.size = place + total;
     if (total > 0 && (!info->writepage || bridge->options.shared)) {
@@ -201,19 +249,23 @@ static void do_release(fuse_req_t request, fuse_ino_t number, struct fuse_file_i
 /* What is beyond the end becomes zeros; room isn't kept, and no holes are made. */
 static int grow(struct bridge *bridge, struct handle *handle, uint64_t size)
 {
-    int fault = ask_handle(bridge, handle);
+    struct opened *opened = handle->opened;
+    int fault = ask_opened(bridge, opened);
     if (fault)
         return fault;
-    size_t stat = ask_descriptor(&bridge->batch, OP_FSTAT, handle->descriptor);
+    size_t stat = ask_descriptor(&bridge->batch, OP_FSTAT, opened->descriptor);
     fault = ask_end(bridge);
     if (!fault)
         fault = refused(bridge, stat);
     if (fault || answer_attr(&bridge->batch, stat).size >= size)
         return fault;
-    fault = ask_handle(bridge, handle);
+    if (bridge->kernel.caller != 0)
+        fault = take_bits(bridge, handle->node);
+    if (!fault)
+        fault = ask_opened(bridge, opened);
     if (fault)
         return fault;
-    size_t truncate = ask_truncate(&bridge->batch, handle->descriptor, size);
+    size_t truncate = ask_truncate(&bridge->batch, opened->descriptor, size);
     fault = ask_end(bridge);
     if (!fault)
         fault = refused(bridge, truncate);

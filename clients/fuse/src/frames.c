@@ -323,6 +323,7 @@ static bool judge(struct ask *ask, const uint8_t *body, size_t length, size_t at
         judge_answer(ask, &view);
     } else {
         ask->refused = (int)take(&view, 1);
+        ask->untaken = status == STATUS_NONE;
         view.bad |= !is_error((uint64_t)ask->refused);
     }
     return !view.bad && view.left == 0;

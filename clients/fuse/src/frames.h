@@ -42,6 +42,7 @@ struct ask {
     uint32_t descriptor;  /* of a close; of an open the one that is expected */
     uint64_t bound;       /* of read, write and list the most; of a seek the place */
     int refused;          /* the error number of a refusal, or 0 */
+    bool untaken;         /* no call was made of it */
     size_t answer, length;
 };
 

@@ -13,6 +13,7 @@ enum {
     DOTS = 2,               /* the names before the first */
     AHEAD = 256,            /* how many names are looked at in one go */
     LISTS_MAX = 4096,
+    LISTED_MAX = 128 << 20, /* bytes of all listings */
     UNKNOWN = -1,           /* the inode number of what wasn't looked at */
 };
 
@@ -26,17 +27,46 @@ struct item {
     bool asked;
 };
 
+/* All readers of a directory share one, as long as nothing is changed. */
 struct listing {
+    struct node *node;
+    unsigned handles;
+    uint32_t uid;           /* who had it taken */
+    size_t bytes;
+    uint64_t changes;       /* how many there were before it was taken */
     size_t count;
     char *texts;
     struct item items[];
 };
 
-void listing_free(struct listing *listing)
+static void listing_free(struct bridge *bridge, struct listing *listing)
 {
-    if (listing)
-        free(listing->texts);
+    if (listing->node->listing == listing)
+        listing->node->listing = NULL;
+    bridge->listed -= listing->bytes;
+    free(listing->texts);
     free(listing);
+}
+
+/* A handle less has it; with the last one it goes. */
+void listing_release(struct bridge *bridge, struct listing *listing)
+{
+    if (listing && --listing->handles == 0)
+        listing_free(bridge, listing);
+}
+
+/* Whether there is room for so many bytes more. Who has none yet may have one in any case, but
+   nobody except root more than three quarters of all. */
+static bool has_room(const struct bridge *bridge, uint32_t uid, size_t bytes)
+{
+    size_t own = 0;
+    for (size_t i = 0; i < bridge->handle_room; i++) {
+        const struct handle *handle = bridge->handles[i];
+        if (handle && handle->listing && handle->listing->uid == uid)
+            own += handle->listing->bytes / handle->listing->handles;
+    }
+    size_t most = uid == 0 ? LISTED_MAX : LISTED_MAX / 4 * 3;
+    return own == 0 || (own + bytes <= most && bridge->listed + bytes <= LISTED_MAX);
 }
 
 /* Names. */
@@ -55,6 +85,7 @@ static struct listing *kept_names(const struct batch *batch, size_t first, size_
         return NULL;
     }
     listing->texts = text;
+    listing->bytes = bytes + sizeof *listing + count * sizeof listing->items[0];
     for (size_t i = first; i < first + lists; i++)
         for (struct names at = answer_names(batch, i); (name = next_name(&at, &length));) {
             listing->items[listing->count++].name = text;
@@ -69,7 +100,7 @@ static struct listing *kept_names(const struct batch *batch, size_t first, size_
 static int try_lists(struct bridge *bridge, size_t lists, struct listing **listing, bool *more)
 {
     uint32_t descriptor;
-    int fault = ask_for_open(bridge);
+    int fault = ask_for_moment(bridge);
     if (fault)
         return fault;
     size_t open = ask_opening(bridge, OPEN_READ | OPEN_DIRECTORY, 0, bridge->path, &descriptor);
@@ -87,21 +118,44 @@ static int try_lists(struct bridge *bridge, size_t lists, struct listing **listi
 }
 
 /* A directory without a name was removed, and has nothing in it. */
-static int list(struct bridge *bridge, struct handle *handle)
+static int take_listing(struct bridge *bridge, struct node *node, struct listing **listing)
 {
-    struct listing *listing = NULL;
     bool more = true;
-    int fault = path_of(handle->node, bridge->path);
+    int fault = path_of(node, bridge->path);
+    *listing = NULL;
     if (fault == ENOENT) {
         more = false;
-        listing = calloc(1, sizeof *listing);
-        fault = listing ? 0 : ENOMEM;
+        *listing = calloc(1, sizeof **listing);
+        fault = *listing ? 0 : ENOMEM;
     }
     for (size_t lists = 1; !fault && more; lists *= 8)
-        fault = lists > LISTS_MAX ? ENOMEM : try_lists(bridge, lists, &listing, &more);
-    if (fault)
-        return fault;
-    listing_free(handle->listing);
+        fault = lists > LISTS_MAX ? ENOMEM : try_lists(bridge, lists, listing, &more);
+    return fault;
+}
+
+/* The directory's listing, where that is as new as it can be, or else one that is taken now. */
+static int list(struct bridge *bridge, struct handle *handle)
+{
+    struct node *node = handle->node;
+    listing_release(bridge, handle->listing);
+    handle->listing = NULL;
+    struct listing *listing = node->listing;
+    if (!listing || listing->changes != bridge->changes || bridge->options.shared) {
+        int fault = take_listing(bridge, node, &listing);
+        if (fault)
+            return fault;
+        if (!has_room(bridge, handle->uid, listing->bytes)) {
+            free(listing->texts);
+            free(listing);
+            return ENOMEM;
+        }
+        listing->node = node;
+        listing->uid = handle->uid;
+        listing->changes = bridge->changes;
+        bridge->listed += listing->bytes;
+        node->listing = listing;
+    }
+    listing->handles++;
     handle->listing = listing;
     return 0;
 }

@@ -52,28 +52,29 @@ static void do_lookup(fuse_req_t request, fuse_ino_t number, const char *name)
     reply_entry(request, bridge, node);
 }
 
-/* By a handle where the object has no name, or where the name may be another object's by now; a
-   handle that may keep what a file was is never asked. */
-static struct handle *handle_to_ask(struct bridge *bridge, const struct node *node,
+/* By what is open where the object has no name, or where the name may be another object's by now;
+   what may keep what a file was is never asked. */
+static struct opened *opened_to_ask(struct bridge *bridge, const struct node *node,
                                     const struct fuse_file_info *info)
 {
-    struct handle *handle = handle_of(bridge, info);
+    const struct handle *handle = handle_of(bridge, info);
+    struct opened *opened = handle && is_alive(handle->opened) ? handle->opened : NULL;
     if (!node->names)
-        return handle && is_alive(handle) ? handle : live_handle(node, false);
-    bool is_true = handle && is_alive(handle) && (node->written || handle->access != OPEN_READ);
-    return bridge->options.shared && is_true ? handle : NULL;
+        return opened ? opened : live_opened(node, false);
+    bool is_true = opened && (node->written || opened->access != OPEN_READ);
+    return bridge->options.shared && is_true ? opened : NULL;
 }
 
-static int look_again(struct bridge *bridge, struct node *node, const struct handle *handle)
+static int look_again(struct bridge *bridge, struct node *node, const struct opened *opened)
 {
     struct look look = {0};
-    int fault = handle ? ask_handle(bridge, handle) : path_of(node, bridge->path);
-    if (!fault && !handle)
+    int fault = opened ? ask_opened(bridge, opened) : path_of(node, bridge->path);
+    if (!fault && !opened)
         fault = ask_any(bridge);
     if (fault)
         return fault;
-    if (handle)
-        look.stat = ask_descriptor(&bridge->batch, OP_FSTAT, handle->descriptor);
+    if (opened)
+        look.stat = ask_descriptor(&bridge->batch, OP_FSTAT, opened->descriptor);
     else
         look = ask_look(bridge, bridge->path, wants_meta(bridge, node));
     fault = ask_end(bridge);
@@ -97,12 +98,12 @@ static void do_getattr(fuse_req_t request, fuse_ino_t number, struct fuse_file_i
     struct stat stat;
     int fault = node ? 0 : ESTALE;
     if (node && !is_sure(bridge, node)) {
-        struct handle *handle = handle_to_ask(bridge, node, info);
-        bool is_gone = !node->names && node->number != ROOT && !handle;
+        struct opened *opened = opened_to_ask(bridge, node, info);
+        bool is_gone = !node->names && node->number != ROOT && !opened;
         if (is_gone)
             node->attr.links = 0;
         else
-            fault = look_again(bridge, node, handle);
+            fault = look_again(bridge, node, opened);
     }
     if (fault) {
         fuse_reply_err(request, fault);
@@ -167,7 +168,7 @@ static void do_forget_multi(fuse_req_t request, size_t count, struct fuse_forget
     fuse_reply_none(request);
 }
 
-/* The kernel clears set-user-ID bits itself, and judges locks. */
+/* The kernel judges locks; which set-user-ID bits go it clears itself or tells. */
 static void do_init(void *userdata, struct fuse_conn_info *connection)
 {
     const struct bridge *bridge = userdata;

@@ -13,7 +13,18 @@ struct making {
     bool was_there;  /* another client was faster */
 };
 
-/* The server makes all for owner and group 0; a set-group-ID directory gives its group on. */
+static bool has_owner(const struct making *making)
+{
+    return making->uid != 0 || making->gid != 0;
+}
+
+/* The engine makes all for owner and group 0. What gets another one is root's alone until then. */
+static uint32_t first_mode(const struct making *making)
+{
+    return has_owner(making) ? making->mode & S_IRWXU : making->mode;
+}
+
+/* A set-group-ID directory gives its group on. */
 static int begin(fuse_req_t request, fuse_ino_t parent, const char *name, mode_t mode,
                  struct making *making)
 {
@@ -28,35 +39,50 @@ static int begin(fuse_req_t request, fuse_ino_t parent, const char *name, mode_t
     making->mode = mode & 07777;
     if (gives_group && S_ISDIR(mode))
         making->mode |= S_ISGID;
-    making->uid = caller->uid;
-    making->gid = gives_group ? making->parent->attr.gid : caller->gid;
+    if (!inner_id(&bridge->options.uids, caller->uid, &making->uid)
+        || !inner_id(&bridge->options.gids, caller->gid, &making->gid))
+        return EOVERFLOW;
+    if (gives_group)
+        making->gid = making->parent->attr.gid;
     return path_in(making->parent, name, bridge->path);
 }
 
-static bool has_owner(const struct making *making)
+/* Gives what was made its owner, and only then its mode; what can't be given is removed again. */
+static int give(struct bridge *bridge, const struct making *making, bool is_directory,
+                size_t *stat)
 {
-    return making->uid != 0 || making->gid != 0;
+    struct connection *connection = bridge->asked;
+    int fault = ask_on(bridge, connection);
+    if (fault)
+        return fault;
+    size_t chown = ask_chown(&bridge->batch, making->uid, making->gid, bridge->path);
+    size_t chmod = ask_mode(&bridge->batch, OP_CHMOD, making->mode, bridge->path);
+    *stat = ask_path(&bridge->batch, OP_STAT, bridge->path);
+    fault = ask_end(bridge);
+    if (!fault)
+        fault = refused(bridge, chown);
+    if (!fault)
+        fault = refused(bridge, chmod);
+    if (fault && ask_on(bridge, connection) == 0) {
+        ask_path(&bridge->batch, is_directory ? OP_RMDIR : OP_UNLINK, bridge->path);
+        ask_end(bridge);
+    }
+    return fault;
 }
 
-/* Gives what was made its owner, and looks at it. The batch so far made it; its stat goes with it
-   where no owner has to be given, which must not happen to what was there before. */
+/* Has what the batch makes made, gives it its owner, and looks at it. Its stat goes with it where
+   no owner has to be given, which must not happen to what was there before. */
 static int look_at(struct bridge *bridge, const struct making *making, bool owned,
                    struct attr *attr, size_t made)
 {
-    struct connection *connection = bridge->asked;
     bool later = owned && has_owner(making);
+    bool is_directory = bridge->batch.asks[made].op == OP_MKDIR;
     size_t stat = later ? 0 : ask_path(&bridge->batch, OP_STAT, bridge->path);
     int fault = ask_end(bridge);
     if (!fault)
         fault = refused(bridge, made);
-    if (!fault && later) {
-        fault = ask_on(bridge, connection);
-        if (fault)
-            return fault;
-        ask_chown(&bridge->batch, making->uid, making->gid, bridge->path);
-        stat = ask_path(&bridge->batch, OP_STAT, bridge->path);
-        fault = ask_end(bridge);
-    }
+    if (!fault && later)
+        fault = give(bridge, making, is_directory, &stat);
     if (!fault)
         fault = refused(bridge, stat);
     if (!fault)
@@ -85,6 +111,7 @@ static struct node *made_node(struct bridge *bridge, const struct making *making
     node_see(bridge, node, attr);
     node->touched = true;
     node->written = true;
+    node->bare = bridge->options.shared ? 0 : bridge->epoch;
     times_new(node);
     times_changed(bridge, making->parent);
     return node;
@@ -112,7 +139,7 @@ static void do_mkdir(fuse_req_t request, fuse_ino_t parent, const char *name, mo
     if (!fault)
         fault = ask_any(bridge);
     if (!fault) {
-        size_t made = ask_mode(&bridge->batch, OP_MKDIR, making.mode, bridge->path);
+        size_t made = ask_mode(&bridge->batch, OP_MKDIR, first_mode(&making), bridge->path);
         fault = look_at(bridge, &making, true, &attr, made);
     }
     reply_made(request, bridge, &making, &attr, fault);
@@ -144,10 +171,10 @@ static void do_mknod(fuse_req_t request, fuse_ino_t parent, const char *name, mo
     uint32_t descriptor;
     int fault = begin(request, parent, name, mode, &making);
     if (!fault)
-        fault = ask_for_open(bridge);
+        fault = ask_for_moment(bridge);
     if (!fault) {
-        size_t made = ask_opening(bridge, OPEN_WRITE | OPEN_CREATE | OPEN_NEW, making.mode,
-                                  bridge->path, &descriptor);
+        size_t made = ask_opening(bridge, OPEN_WRITE | OPEN_CREATE | OPEN_NEW,
+                                  first_mode(&making), bridge->path, &descriptor);
         ask_closing(bridge, descriptor);
         fault = look_at(bridge, &making, true, &attr, made);
     }
@@ -211,33 +238,65 @@ static void do_link(fuse_req_t request, fuse_ino_t number, fuse_ino_t new_parent
     reply_entry(request, bridge, node);
 }
 
-/* What was opened though the rest was refused is closed again. */
-static int open_made(struct bridge *bridge, const struct making *making, unsigned flags,
-                     struct handle *handle, struct attr *attr)
-{
+/* A file that is made and opened, before its node is known. */
+struct file {
+    unsigned flags;
+    struct connection *connection;
+    unsigned generation;
     uint32_t descriptor;
+    struct attr attr;
+};
+
+/* What was opened though the rest was refused is closed again. */
+static int open_made(struct bridge *bridge, const struct making *making, struct file *file)
+{
+    bool is_new = (file->flags & OPEN_NEW) != 0;
     int fault = ask_for_open(bridge);
     if (fault)
         return fault;
-    size_t made = ask_opening(bridge, flags, making->mode, bridge->path, &descriptor);
-    fault = look_at(bridge, making, (flags & OPEN_NEW) != 0, attr, made);
-    if (!fault)
-        handle_opened(bridge, handle, flags, descriptor);
-    else
-        bridge->asked->closing |= bridge->asked->used & UINT64_C(1) << descriptor;
+    struct connection *connection = bridge->asked;
+    file->connection = connection;
+    file->generation = connection->generation;
+    size_t made = ask_opening(bridge, file->flags, is_new ? first_mode(making) : making->mode,
+                              bridge->path, &file->descriptor);
+    fault = look_at(bridge, making, is_new, &file->attr, made);
+    if (fault && connection->generation == file->generation)
+        connection->closing |= connection->used & UINT64_C(1) << file->descriptor;
     return fault;
 }
 
 /* Opens a file that is made by it; where another client was faster, and it may, that one. */
 static int create_on_server(struct bridge *bridge, struct making *making, int how,
-                            struct handle *handle, struct attr *attr)
+                            struct file *file)
 {
-    unsigned flags = open_flags(bridge, how & ~O_TRUNC) | OPEN_CREATE | OPEN_NEW;
-    int fault = open_made(bridge, making, flags, handle, attr);
+    file->flags = open_flags(bridge, how & ~O_TRUNC) | OPEN_CREATE | OPEN_NEW;
+    int fault = open_made(bridge, making, file);
     if (fault != EEXIST || (how & O_EXCL))
         return fault;
     making->was_there = true;
-    return open_made(bridge, making, open_flags(bridge, how), handle, attr);
+    file->flags = open_flags(bridge, how);
+    return open_made(bridge, making, file);
+}
+
+/* A handle on what was opened, or else nothing of it stays open. */
+static struct handle *created(struct bridge *bridge, const struct making *making,
+                              const struct file *file)
+{
+    struct node *node = made_node(bridge, making, &file->attr);
+    struct handle *handle = node ? handle_new(bridge, node) : NULL;
+    bridge->asked = file->connection;
+    if (handle)
+        handle->opened = opened_new(bridge, node, file->flags, file->descriptor);
+    if (handle && handle->opened) {
+        handle->opened->handles = 1;
+        handle->opened->generation = file->generation;
+        return handle;
+    }
+    if (!handle)
+        file->connection->closing |= file->connection->used & UINT64_C(1) << file->descriptor;
+    else
+        handle_free(bridge, handle);
+    return NULL;
 }
 
 static void reply_created(fuse_req_t request, struct bridge *bridge, struct handle *handle,
@@ -261,26 +320,18 @@ static void do_create(fuse_req_t request, fuse_ino_t parent, const char *name, m
 {
     struct bridge *bridge = bridge_of(request);
     struct making making;
-    struct attr attr;
-    struct handle opened = {0}, *handle = NULL;
+    struct file file;
     int fault = begin(request, parent, name, mode, &making);
     if (!fault)
-        fault = create_on_server(bridge, &making, info->flags, &opened, &attr);
-    struct node *node = fault ? NULL : made_node(bridge, &making, &attr);
-    if (node)
-        handle = handle_new(bridge, node);
+        fault = create_on_server(bridge, &making, info->flags, &file);
+    struct handle *handle = fault ? NULL : created(bridge, &making, &file);
     if (!handle) {
-        if (opened.connection)
-            opened.connection->closing |= UINT64_C(1) << opened.descriptor;
         fuse_reply_err(request, fault ? fault : ENOMEM);
         return;
     }
-    handle->connection = opened.connection;
-    handle->generation = opened.generation;
-    handle->descriptor = opened.descriptor;
-    handle->access = opened.access;
-    handle->appends = opened.appends;
-    keep_meta(bridge, node);
+    if (making.was_there && (file.flags & OPEN_EMPTY) && takes_bits(bridge))
+        take_bits(bridge, handle->node);
+    keep_meta(bridge, handle->node);
     keep_meta(bridge, making.parent);
     reply_created(request, bridge, handle, info);
 }

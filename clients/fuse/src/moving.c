@@ -9,13 +9,18 @@
 #define RENAME_EXCHANGE 2
 #endif
 
-/* One name of the node is gone, at the server too. */
-static void lose(struct bridge *bridge, struct node *parent, const char *name)
+/* One name of the node is gone, at the server too; its attributes were kept, where it was the last
+   name of what is open. */
+static void lose(struct bridge *bridge, struct node *parent, const char *name, struct kept *kept)
 {
     struct node *node = node_at(bridge, parent, name);
+    bool stays = node && node->names->of_node != NULL;
+    if (!node || stays)
+        kept_free(kept);
+    else
+        node->kept = kept;
     if (!node)
         return;
-    bool stays = node->names->of_node != NULL;
     if (node->attr.links > 0)
         node->attr.links--;
     times_status(bridge, node);
@@ -24,12 +29,23 @@ static void lose(struct bridge *bridge, struct node *parent, const char *name)
         keep_meta(bridge, node);
 }
 
+/* What isn't there is told by the call itself. */
+static int keep_before(struct bridge *bridge, const struct node *parent, const char *name,
+                       struct kept **kept)
+{
+    int fault = keep_attributes(bridge, node_at(bridge, parent, name), kept);
+    return fault == ENOENT || fault == ENOTDIR ? 0 : fault;
+}
+
 static void remove_name(fuse_req_t request, fuse_ino_t number, const char *name, enum op op)
 {
     struct bridge *bridge = bridge_of(request);
     struct node *parent = node_of(bridge, number);
+    struct kept *kept = NULL;
     size_t removal = 0;
     int fault = parent ? path_in(parent, name, bridge->path) : ESTALE;
+    if (!fault)
+        fault = keep_before(bridge, parent, name, &kept);
     if (!fault)
         fault = ask_any(bridge);
     if (!fault) {
@@ -38,8 +54,10 @@ static void remove_name(fuse_req_t request, fuse_ino_t number, const char *name,
     }
     if (!fault)
         fault = refused(bridge, removal);
-    if (!fault) {
-        lose(bridge, parent, name);
+    if (fault) {
+        kept_free(kept);
+    } else {
+        lose(bridge, parent, name, kept);
         times_changed(bridge, parent);
         keep_meta(bridge, parent);
     }
@@ -113,14 +131,20 @@ static void note_times(struct bridge *bridge, const struct move *move, struct no
 static int move_name(struct bridge *bridge, const struct move *move)
 {
     bool still_there = false;
+    struct kept *kept;
     struct node *node = node_at(bridge, move->from, move->old);
-    int fault = rename_on_server(bridge, bridge->path, bridge->other, &still_there);
-    if (fault || (node && node == node_at(bridge, move->to, move->new)))
+    int fault = keep_before(bridge, move->to, move->new, &kept);
+    if (!fault)
+        fault = rename_on_server(bridge, bridge->path, bridge->other, &still_there);
+    bool is_same = node && node == node_at(bridge, move->to, move->new);
+    if (fault || is_same || still_there)
+        kept_free(kept);
+    if (fault || is_same)
         return fault;
     if (still_there)
         node_unname(bridge, move->to, move->new);
     else
-        lose(bridge, move->to, move->new);
+        lose(bridge, move->to, move->new, kept);
     if (node && !node_name(bridge, move->to, move->new, node))
         fault = ENOMEM;
     if (!still_there)

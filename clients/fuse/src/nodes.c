@@ -8,15 +8,13 @@
 #include <errno.h>
 #include <stdlib.h>
 #include <string.h>
+#include <sys/random.h>
 
 enum { SLOTS = 1024 };
 
-static uint64_t hash_of(const struct node *parent, const char *text)
+static uint64_t hash_of(const struct nodes *nodes, const struct node *parent, const char *text)
 {
-    uint64_t hash = UINT64_C(14695981039346656037) ^ parent->number;
-    for (const unsigned char *at = (const unsigned char *)text; *at; at++)
-        hash = (hash ^ *at) * UINT64_C(1099511628211);
-    return hash ^ hash >> 32;
+    return siphash(nodes->key, parent->number, text, strlen(text));
 }
 
 bool nodes_begin(struct bridge *bridge)
@@ -25,7 +23,8 @@ bool nodes_begin(struct bridge *bridge)
     nodes->number_slots = nodes->name_slots = SLOTS;
     nodes->by_number = calloc(SLOTS, sizeof *nodes->by_number);
     nodes->by_name = calloc(SLOTS, sizeof *nodes->by_name);
-    struct node *root = nodes->by_number && nodes->by_name ? node_new(bridge) : NULL;
+    bool has_key = getrandom(nodes->key, sizeof nodes->key, 0) == sizeof nodes->key;
+    struct node *root = nodes->by_number && nodes->by_name && has_key ? node_new(bridge) : NULL;
     if (!root)
         return false;
     root->lookups = 1;
@@ -44,6 +43,7 @@ void nodes_end(struct bridge *bridge)
     for (size_t i = 0; nodes->by_number && i < nodes->number_slots; i++)
         for (struct node *node = nodes->by_number[i], *next; node; node = next) {
             next = node->next;
+            kept_free(node->kept);
             free(node);
         }
     free(nodes->by_name);
@@ -116,6 +116,7 @@ static void node_free(struct nodes *nodes, struct node *node)
         slot = &(*slot)->next;
     *slot = node->next;
     nodes->node_count--;
+    kept_free(node->kept);
     free(node);
 }
 
@@ -123,9 +124,10 @@ static void node_free(struct nodes *nodes, struct node *node)
 
 static struct name **name_slot(struct nodes *nodes, const struct node *parent, const char *text)
 {
-    uint64_t hash = hash_of(parent, text);
+    uint64_t hash = hash_of(nodes, parent, text);
     struct name **slot = &nodes->by_name[hash % nodes->name_slots];
-    while (*slot && ((*slot)->parent != parent || strcmp((*slot)->text, text) != 0))
+    while (*slot && ((*slot)->hash != hash || (*slot)->parent != parent
+                     || strcmp((*slot)->text, text) != 0))
         slot = &(*slot)->next;
     return slot;
 }
@@ -147,7 +149,7 @@ bool node_name(struct bridge *bridge, struct node *parent, const char *text, str
     memcpy(name->text, text, length + 1);
     name->parent = parent;
     name->node = node;
-    name->hash = hash_of(parent, text);
+    name->hash = hash_of(nodes, parent, text);
     struct name **slot = &nodes->by_name[name->hash % nodes->name_slots];
     name->next = *slot;
     *slot = name;
@@ -178,7 +180,31 @@ static void name_free(struct nodes *nodes, struct name **slot)
     free(name);
 }
 
-/* A directory that has no name any more has nothing in it either. */
+/* A directory that has no name any more has nothing in it either. Those nodes stand in a row, and
+   are kept until all of their names are gone, so that a deep tree takes no stack. */
+static void node_unnamed(struct bridge *bridge, struct node *node)
+{
+    struct node *last = node, *next;
+    node->is_doomed = true;
+    node->lookups++;
+    for (struct node *at = node; at; at = at->doomed)
+        while (!at->names && at->children) {
+            struct node *child = at->children->node;
+            name_free(&bridge->nodes, name_slot(&bridge->nodes, at, at->children->text));
+            if (child->is_doomed)
+                continue;
+            child->is_doomed = true;
+            child->lookups++;
+            last = last->doomed = child;
+        }
+    for (struct node *at = node; at; at = next) {
+        next = at->doomed;
+        at->doomed = NULL;
+        at->is_doomed = false;
+        node_forget(bridge, at, 1);
+    }
+}
+
 void node_unname(struct bridge *bridge, struct node *parent, const char *text)
 {
     struct name **slot = name_slot(&bridge->nodes, parent, text);
@@ -186,9 +212,9 @@ void node_unname(struct bridge *bridge, struct node *parent, const char *text)
         return;
     struct node *node = (*slot)->node;
     name_free(&bridge->nodes, slot);
-    while (!node->names && node->children)
-        node_unname(bridge, node, node->children->text);
-    node_settle(bridge, node);
+    parent->lookups++;
+    node_unnamed(bridge, node);
+    parent->lookups--;
     if (parent->names)
         node_settle(bridge, parent);
 }

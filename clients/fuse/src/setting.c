@@ -14,8 +14,8 @@ struct setting {
     struct node *node;
     const struct stat *wanted;
     int what;
-    uint32_t uid, gid;
-    struct handle *handle;    /* by which the file is cut, or none */
+    uint32_t mode, uid, gid;
+    struct opened *opened;    /* by which the file is cut, or none */
     bool by_path;             /* whether the object has a name */
     size_t first, after;      /* of the requests that must not be refused */
     bool has_stat;            /* whether the next one tells what it has become */
@@ -38,8 +38,8 @@ static void ask_size(struct bridge *bridge, const struct setting *setting)
 {
     uint64_t size = (uint64_t)setting->wanted->st_size;
     uint32_t descriptor;
-    if (setting->handle) {
-        ask_truncate(&bridge->batch, setting->handle->descriptor, size);
+    if (setting->opened) {
+        ask_truncate(&bridge->batch, setting->opened->descriptor, size);
         return;
     }
     ask_opening(bridge, OPEN_WRITE, 0, bridge->path, &descriptor);
@@ -51,13 +51,13 @@ static int begin(struct bridge *bridge, struct setting *setting)
 {
     struct node *node = setting->node;
     if (asks(setting, FUSE_SET_ATTR_SIZE)) {
-        if (setting->handle && !is_alive(setting->handle))
+        if (setting->opened && !is_alive(setting->opened))
             return EIO;
-        if (!setting->handle || setting->handle->access == OPEN_READ)
-            setting->handle = live_handle(node, true);
-        if (!setting->handle && !setting->by_path)
+        if (!setting->opened || setting->opened->access == OPEN_READ)
+            setting->opened = live_opened(node, true);
+        if (!setting->opened && !setting->by_path)
             return EBADF;
-        return setting->handle ? ask_handle(bridge, setting->handle) : ask_for_open(bridge);
+        return setting->opened ? ask_opened(bridge, setting->opened) : ask_for_moment(bridge);
     }
     return ask_any(bridge);
 }
@@ -71,7 +71,7 @@ static int set_on_server(struct bridge *bridge, struct setting *setting)
         return fault;
     setting->first = bridge->batch.count;
     if (asks(setting, FUSE_SET_ATTR_MODE) && is_of_server(setting))
-        ask_mode(&bridge->batch, OP_CHMOD, setting->wanted->st_mode & 07777, bridge->path);
+        ask_mode(&bridge->batch, OP_CHMOD, setting->mode, bridge->path);
     if (asks(setting, SET_OWNER) && is_of_server(setting))
         ask_chown(&bridge->batch, setting->uid, setting->gid, bridge->path);
     if (asks(setting, FUSE_SET_ATTR_SIZE))
@@ -97,7 +97,9 @@ static void set_attr(struct bridge *bridge, const struct setting *setting)
         node_see(bridge, node, &attr);
     }
     if (asks(setting, FUSE_SET_ATTR_MODE))
-        node->attr.mode = setting->wanted->st_mode & 07777;
+        node->attr.mode = setting->mode;
+    if (asks(setting, FUSE_SET_ATTR_MODE))
+        node->has_mode |= !is_of_server(setting);
     if (asks(setting, FUSE_SET_ATTR_SIZE))
         node->attr.size = (uint64_t)setting->wanted->st_size;
     if (asks(setting, SET_OWNER)) {
@@ -144,24 +146,62 @@ static int set(struct bridge *bridge, struct setting *setting)
     return 0;
 }
 
+/* Owners as the engine has them. What they are shown as may be set again with --squash. */
+static int take_owners(const struct bridge *bridge, struct setting *setting)
+{
+    const struct options *options = &bridge->options;
+    const struct attr *attr = &setting->node->attr;
+    const struct stat *wanted = setting->wanted;
+    setting->uid = attr->uid;
+    setting->gid = attr->gid;
+    if (options->uids.squash) {
+        bool is_same = (!asks(setting, FUSE_SET_ATTR_UID) || wanted->st_uid == options->uids.shown)
+            && (!asks(setting, FUSE_SET_ATTR_GID) || wanted->st_gid == options->gids.shown);
+        setting->what &= ~SET_OWNER;
+        return is_same ? 0 : EPERM;
+    }
+    if (asks(setting, FUSE_SET_ATTR_UID)
+        && !inner_id(&options->uids, wanted->st_uid, &setting->uid))
+        return EINVAL;
+    if (asks(setting, FUSE_SET_ATTR_GID)
+        && !inner_id(&options->gids, wanted->st_gid, &setting->gid))
+        return EINVAL;
+    return 0;
+}
+
+/* Set-user-ID bits go with a new owner, also where root gives it, and with a cut by others; what
+   the request itself says of the mode stays. A kernel that tells whose bits go asks for nothing, or
+   for the time alone, where they are all that goes, as by a chown(2) that leaves both ids. */
+static int judge_bits(struct bridge *bridge, struct setting *setting)
+{
+    struct node *node = setting->node;
+    bool is_cut = asks(setting, FUSE_SET_ATTR_SIZE) && takes_bits(bridge);
+    setting->mode = setting->wanted->st_mode & 07777;
+    if (asks(setting, FUSE_SET_ATTR_MODE) && is_cut)
+        setting->mode = without_bits(setting->mode);
+    bool is_all = bridge->kernel.tells_kills && !asks(setting, ~FUSE_SET_ATTR_CTIME);
+    if (asks(setting, FUSE_SET_ATTR_MODE) || !(is_cut || is_all || asks(setting, SET_OWNER)))
+        return 0;
+    return take_bits(bridge, node);
+}
+
 static void do_setattr(fuse_req_t request, fuse_ino_t number, struct stat *wanted, int what,
                        struct fuse_file_info *info)
 {
     struct bridge *bridge = bridge_of(request);
-    struct node *node = node_of(bridge, number);
+    const struct handle *handle = handle_of(bridge, info);
+    struct setting setting = {.node = node_of(bridge, number), .wanted = wanted, .what = what,
+                              .opened = handle ? handle->opened : NULL};
+    struct node *node = setting.node;
     struct stat stat;
-    int fault = node ? path_of(node, bridge->path) : ESTALE;
-    if (fault && fault != ENOENT) {
-        fuse_reply_err(request, fault);
-        return;
+    int fault = node ? take_owners(bridge, &setting) : ESTALE;
+    if (!fault)
+        fault = judge_bits(bridge, &setting);
+    if (!fault) {
+        int no_path = path_of(node, bridge->path);
+        setting.by_path = no_path == 0;
+        fault = no_path && no_path != ENOENT ? no_path : set(bridge, &setting);
     }
-    struct setting setting = {
-        .node = node, .wanted = wanted, .what = what, .by_path = fault == 0,
-        .handle = handle_of(bridge, info),
-        .uid = what & FUSE_SET_ATTR_UID ? wanted->st_uid : node->attr.uid,
-        .gid = what & FUSE_SET_ATTR_GID ? wanted->st_gid : node->attr.gid,
-    };
-    fault = set(bridge, &setting);
     if (fault) {
         fuse_reply_err(request, fault);
         return;

@@ -1,24 +1,91 @@
-/* The operations on user attributes. */
+/* The operations on attributes. Those of the classes `security.` and `trusted.` are kept under
+   names of the bridge's own among the user attributes, since the engine has no others. */
 #include "bridge.h"
 
 #include <errno.h>
 #include <string.h>
 #include <sys/xattr.h>
 
-enum { LIST_MAX = 64 * 256 };
+/* A value of another class is kept by two digits for each byte, within the engine's 1,024. */
+enum { LIST_MAX = 64 * 256, NAME_BYTES = 256, OTHER_BYTES = 512 };
 
-/* The kernel asks for many other names, which the server needn't refuse each time; the bridge's
-   own attribute is nobody else's. */
-static int begin(fuse_req_t request, fuse_ino_t number, const char *name, int at_meta)
+/* An attribute that is asked for. */
+struct asked {
+    struct node *node;
+    char name[NAME_BYTES];  /* as the engine has it */
+    bool is_other;
+};
+
+static bool begins(const char *text, const char *with)
 {
-    struct bridge *bridge = bridge_of(request);
-    const struct node *node = node_of(bridge, number);
-    if (!node)
-        return ESTALE;
-    if (name && strncmp(name, "user.", 5) != 0)
+    return strncmp(text, with, strlen(with)) == 0;
+}
+
+/* A mount has no labels: who asks for one, as `ls -l` of each file, is told so once for all. */
+static bool is_other(const char *name)
+{
+    bool is_label = strcmp(name, "security.selinux") == 0;
+    return (begins(name, "security.") && !is_label) || begins(name, "trusted.");
+}
+
+/* Access lists, and classes that nobody knows, are refused; what the bridge keeps for itself is
+   nobody else's, which is refused by `at_own`. */
+static int take_name(struct asked *asked, const char *name, int at_own)
+{
+    const char *prefix = is_other(name) ? OTHER : "";
+    if (!*prefix && !begins(name, "user."))
         return EOPNOTSUPP;
-    if (name && strcmp(name, META) == 0)
-        return at_meta;
+    if (begins(name, OWN))
+        return at_own;
+    if (strlen(prefix) + strlen(name) >= sizeof asked->name)
+        return at_own == EPERM ? ENOSPC : ENODATA;
+    strcpy(asked->name, prefix);
+    strcat(asked->name, name);
+    asked->is_other = *prefix;
+    return 0;
+}
+
+static void to_digits(const char *bytes, size_t length, char *digits)
+{
+    for (size_t i = 0; i < length; i++) {
+        digits[2 * i] = "0123456789abcdef"[(unsigned char)bytes[i] >> 4];
+        digits[2 * i + 1] = "0123456789abcdef"[bytes[i] & 15];
+    }
+}
+
+static int digit_of(char digit)
+{
+    if (digit >= '0' && digit <= '9')
+        return digit - '0';
+    return digit >= 'a' && digit <= 'f' ? digit - 'a' + 10 : -1;
+}
+
+/* A value of another form is as none. */
+static bool from_digits(const char *digits, size_t length, char *bytes)
+{
+    bool fits = length % 2 == 0 && length <= 2 * OTHER_BYTES;
+    for (size_t i = 0; fits && i < length / 2; i++) {
+        int high = digit_of(digits[2 * i]), low = digit_of(digits[2 * i + 1]);
+        fits = high >= 0 && low >= 0;
+        if (fits)
+            bytes[i] = (char)(high << 4 | low);
+    }
+    return fits;
+}
+
+/* Whether it is known that there is nothing to be shown, so that nobody has to be asked. */
+static bool is_bare(const struct bridge *bridge, const struct node *node)
+{
+    return node->bare == bridge->epoch && is_sure(bridge, node);
+}
+
+static bool is_nameless(const struct node *node)
+{
+    return !node->names && node->number != ROOT;
+}
+
+static int begin_batch(struct bridge *bridge, const struct node *node)
+{
     int fault = path_of(node, bridge->path);
     return fault ? fault : ask_any(bridge);
 }
@@ -29,56 +96,126 @@ static int as_xattr(int fault)
     return fault == EFBIG ? ENOSPC : fault;
 }
 
-static int must_be(struct bridge *bridge, const char *name, int flags)
+static void note_names(struct bridge *bridge, struct node *node, size_t list)
 {
-    size_t get = ask_two(&bridge->batch, OP_GETATTR, bridge->path, name);
-    int fault = ask_end(bridge);
+    const char *name;
+    size_t length;
+    struct names names = answer_names(&bridge->batch, list);
+    node->bare = bridge->epoch;
+    while ((name = next_name(&names, &length)))
+        if (length != strlen(META) || memcmp(name, META, length) != 0)
+            node->bare = 0;
+}
+
+/* A value, which stands until the next batch. All names are asked for with it, since mostly there
+   are none. */
+static int get(struct bridge *bridge, const struct asked *asked, const char **value,
+               size_t *length)
+{
+    struct node *node = asked->node;
+    if (is_nameless(node))
+        return kept_get(node->kept, asked->name, value, length);
+    if (node->attr.kind == KIND_LINK || is_bare(bridge, node))
+        return ENODATA;
+    int fault = begin_batch(bridge, node);
     if (fault)
         return fault;
-    fault = refused(bridge, get);
+    size_t get = ask_two(&bridge->batch, OP_GETATTR, bridge->path, asked->name);
+    size_t list = is_sure(bridge, node) ? ask_path(&bridge->batch, OP_ATTRS, bridge->path) : get;
+    fault = ask_end(bridge);
+    if (!fault && list != get && !refused(bridge, list))
+        note_names(bridge, node, list);
+    if (!fault)
+        fault = refused(bridge, get);
+    if (!fault)
+        *value = answer_text(&bridge->batch, get, length);
+    return fault;
+}
+
+static int must_be(struct bridge *bridge, const struct asked *asked, int flags)
+{
+    const char *value;
+    size_t length;
+    int fault = get(bridge, asked, &value, &length);
     if (fault && fault != ENODATA)
         return fault;
     if (fault ? flags & XATTR_REPLACE : flags & XATTR_CREATE)
         return fault ? ENODATA : EEXIST;
-    return ask_any(bridge);
+    return 0;
 }
 
-static int after_change(struct bridge *bridge, fuse_ino_t number, size_t change)
+static int set(struct bridge *bridge, const struct asked *asked, const char *value, size_t size)
 {
-    struct node *node = node_of(bridge, number);
-    int fault = ask_end(bridge);
-    if (!fault)
-        fault = refused(bridge, change);
+    struct node *node = asked->node;
+    if (is_nameless(node))
+        return kept_set(node, asked->name, value, size);
+    if (node->attr.kind == KIND_LINK && begins(asked->name, OTHER))
+        return EOPNOTSUPP;
+    int fault = begin_batch(bridge, node);
     if (fault)
         return fault;
+    size_t change = ask_setattr(&bridge->batch, bridge->path, asked->name, value, size);
+    node->bare = 0;
+    fault = ask_end(bridge);
+    return fault ? fault : refused(bridge, change);
+}
+
+static int drop(struct bridge *bridge, const struct asked *asked)
+{
+    struct node *node = asked->node;
+    if (is_nameless(node))
+        return kept_remove(node, asked->name);
+    if (is_bare(bridge, node))
+        return ENODATA;
+    int fault = begin_batch(bridge, node);
+    if (fault)
+        return fault;
+    size_t change = ask_two(&bridge->batch, OP_DELATTR, bridge->path, asked->name);
+    fault = ask_end(bridge);
+    return fault ? fault : refused(bridge, change);
+}
+
+static void note_change(struct bridge *bridge, struct node *node)
+{
     times_status(bridge, node);
+    if (is_nameless(node))
+        return;
     node_touched(bridge, node);
     keep_meta(bridge, node);
-    return 0;
 }
 
 static void do_setxattr(fuse_req_t request, fuse_ino_t number, const char *name,
                         const char *value, size_t size, int flags)
 {
     struct bridge *bridge = bridge_of(request);
-    int fault = begin(request, number, name, EPERM);
-    if (!fault && size > UINT16_MAX)
+    struct asked asked = {.node = node_of(bridge, number)};
+    char digits[2 * OTHER_BYTES];
+    int fault = asked.node ? take_name(&asked, name, EPERM) : ESTALE;
+    if (!fault && size > (asked.is_other ? OTHER_BYTES : UINT16_MAX))
         fault = ENOSPC;
+    if (!fault && asked.is_other) {
+        to_digits(value, size, digits);
+        value = digits;
+        size *= 2;
+    }
     if (!fault && flags)
-        fault = must_be(bridge, name, flags);
+        fault = must_be(bridge, &asked, flags);
     if (!fault)
-        fault = after_change(bridge, number,
-                             ask_setattr(&bridge->batch, bridge->path, name, value, size));
+        fault = set(bridge, &asked, value, size);
+    if (!fault)
+        note_change(bridge, asked.node);
     fuse_reply_err(request, as_xattr(fault));
 }
 
 static void do_removexattr(fuse_req_t request, fuse_ino_t number, const char *name)
 {
     struct bridge *bridge = bridge_of(request);
-    int fault = begin(request, number, name, ENODATA);
+    struct asked asked = {.node = node_of(bridge, number)};
+    int fault = asked.node ? take_name(&asked, name, ENODATA) : ESTALE;
     if (!fault)
-        fault = after_change(bridge, number,
-                             ask_two(&bridge->batch, OP_DELATTR, bridge->path, name));
+        fault = drop(bridge, &asked);
+    if (!fault)
+        note_change(bridge, asked.node);
     fuse_reply_err(request, as_xattr(fault));
 }
 
@@ -95,61 +232,86 @@ static void reply_bytes(fuse_req_t request, const char *bytes, size_t length, si
 static void do_getxattr(fuse_req_t request, fuse_ino_t number, const char *name, size_t size)
 {
     struct bridge *bridge = bridge_of(request);
-    size_t get = 0, length;
-    int fault = begin(request, number, name, ENODATA);
-    if (!fault) {
-        get = ask_two(&bridge->batch, OP_GETATTR, bridge->path, name);
-        fault = ask_end(bridge);
-    }
+    struct asked asked = {.node = node_of(bridge, number)};
+    const char *value;
+    size_t length;
+    char bytes[OTHER_BYTES];
+    int fault = asked.node ? take_name(&asked, name, ENODATA) : ESTALE;
     if (!fault)
-        fault = refused(bridge, get);
-    if (fault) {
+        fault = get(bridge, &asked, &value, &length);
+    if (!fault && asked.is_other) {
+        fault = from_digits(value, length, bytes) ? 0 : ENODATA;
+        value = bytes;
+        length /= 2;
+    }
+    if (fault)
         fuse_reply_err(request, fault);
-        return;
-    }
-    const char *value = answer_text(&bridge->batch, get, &length);
-    reply_bytes(request, value, length, size);
+    else
+        reply_bytes(request, value, length, size);
 }
 
-static void reply_names(fuse_req_t request, struct bridge *bridge, size_t list, size_t size)
-{
+/* Names as programs see them. Those of `trusted.` are root's alone. */
+struct shown {
     char text[LIST_MAX];
-    size_t length, at = 0;
-    const char *name;
-    struct names names = answer_names(&bridge->batch, list);
-    while ((name = next_name(&names, &length))) {
-        bool is_meta = length == strlen(META) && memcmp(name, META, length) == 0;
-        if (is_meta)
-            continue;
-        if (length + 1 > sizeof text - at) {
-            fuse_reply_err(request, E2BIG);
-            return;
-        }
-        memcpy(text + at, name, length);
-        at += length;
-        text[at++] = 0;
-    }
-    reply_bytes(request, text, at, size);
+    size_t length;
+    bool is_root, is_full;
+};
+
+static void show(struct shown *shown, const char *name, size_t length)
+{
+    char own[NAME_BYTES];
+    if (length >= sizeof own)
+        return;
+    memcpy(own, name, length);
+    own[length] = 0;
+    const char *at = begins(own, OTHER) ? own + strlen(OTHER) : own;
+    bool is_hidden = at == own ? begins(own, OWN)
+        : !is_other(at) || (begins(at, "trusted.") && !shown->is_root);
+    size_t count = strlen(at) + 1;
+    shown->is_full |= count > sizeof shown->text - shown->length;
+    if (is_hidden || shown->is_full)
+        return;
+    memcpy(shown->text + shown->length, at, count);
+    shown->length += count;
 }
 
-/* A link has no user attributes. */
+static int list(struct bridge *bridge, struct node *node, struct shown *shown)
+{
+    const char *name;
+    size_t length, at = 0;
+    if (is_nameless(node))
+        while ((name = kept_next(node->kept, &at)))
+            show(shown, name, strlen(name));
+    if (is_nameless(node) || node->attr.kind == KIND_LINK || is_bare(bridge, node))
+        return 0;
+    int fault = begin_batch(bridge, node);
+    if (fault)
+        return fault;
+    size_t list = ask_path(&bridge->batch, OP_ATTRS, bridge->path);
+    fault = ask_end(bridge);
+    if (!fault)
+        fault = refused(bridge, list);
+    if (fault)
+        return fault == ELOOP ? 0 : fault;
+    note_names(bridge, node, list);
+    struct names names = answer_names(&bridge->batch, list);
+    while ((name = next_name(&names, &length)))
+        show(shown, name, length);
+    return 0;
+}
+
 static void do_listxattr(fuse_req_t request, fuse_ino_t number, size_t size)
 {
     struct bridge *bridge = bridge_of(request);
-    size_t list = 0;
-    int fault = begin(request, number, NULL, 0);
-    if (!fault) {
-        list = ask_path(&bridge->batch, OP_ATTRS, bridge->path);
-        fault = ask_end(bridge);
-    }
-    if (!fault)
-        fault = refused(bridge, list);
-    if (fault == ELOOP)
-        reply_bytes(request, "", 0, size);
-    else if (fault)
+    struct node *node = node_of(bridge, number);
+    struct shown shown = {.is_root = bridge->kernel.caller == 0};
+    int fault = node ? list(bridge, node, &shown) : ESTALE;
+    if (!fault && shown.is_full)
+        fault = E2BIG;
+    if (fault)
         fuse_reply_err(request, fault);
     else
-        reply_names(request, bridge, list, size);
+        reply_bytes(request, shown.text, shown.length, size);
 }
 
 void xattr_operations(struct fuse_lowlevel_ops *operations)

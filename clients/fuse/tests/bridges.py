@@ -28,13 +28,13 @@ def run(*words):
 class Bridge:
     """A bridge that speaks to a kernel that the test plays; its end must be a good one."""
 
-    def __init__(self, path, *options, init=True):
+    def __init__(self, path, *options, init=True, environment=None):
         near, far = pair()
         self.process = subprocess.Popen(
             [PROGRAM, path, "--kernel", str(far.fileno()), "--verbose", "--wait", PATIENCE,
-             *options],
+             "--keep", "0", *options],
             pass_fds=[far.fileno()], stdin=subprocess.DEVNULL, stderr=subprocess.PIPE, text=True,
-            env=ENVIRONMENT)
+            env=environment or ENVIRONMENT)
         far.close()
         self.link = near
         self.kernel = Kernel(near)

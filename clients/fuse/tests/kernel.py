@@ -55,14 +55,16 @@ class Flag(enum.IntFlag):
     HANDLE_KILLPRIV = 1 << 19
     MAX_PAGES = 1 << 22
     CACHE_SYMLINKS = 1 << 23
+    HANDLE_KILLPRIV_V2 = 1 << 28
 
 
 # What a kernel of 2023 or later can do, but for splicing and for what it isn't asked here.
 CAPABLE = 0x1 | 0x2 | 0x20 | 0x40 | 0x400 | 0x8000 | 0x40000 | sum(Flag)
 
 SET_MODE, SET_UID, SET_GID, SET_SIZE, SET_ATIME, SET_MTIME, SET_FH = 1, 2, 4, 8, 16, 32, 64
-SET_CTIME = 1024
-WRITE_CACHE = 1
+SET_CTIME, SET_KILLS = 1024, 2048
+WRITE_CACHE, WRITE_KILLS = 1, 4
+OPEN_KILLS = 1
 OPEN_DIRECT, OPEN_KEEP_CACHE, OPEN_CACHE_DIR = 1, 2, 8
 
 
@@ -130,6 +132,7 @@ class Kernel:
         self.wire.settimeout(WAIT)
         self.uid, self.gid = uid, gid
         self.unique = 0
+        self.told = []
 
     def send(self, op, node, body=b""):
         self.unique += 2
@@ -149,6 +152,9 @@ class Kernel:
     def ask(self, op, node, body=b""):
         self.send(op, node, body)
         length, error, unique = struct.unpack("=IiQ", self.take(16))
+        while unique == 0:  # what the bridge tells by itself
+            self.told.append((error, self.take(length - 16)))
+            length, error, unique = struct.unpack("=IiQ", self.take(16))
         if unique != self.unique:
             raise AssertionError(f"a reply to {unique} instead of {self.unique}")
         data = self.take(length - 16)
@@ -227,8 +233,8 @@ class Kernel:
         body = struct.pack("=QII", to, flags, 0) + text(name) + text(new)
         self.ask(Op.RENAME2, parent, body)
 
-    def open(self, node, flags=os.O_RDONLY):
-        fh, how, _ = struct.unpack("=QII", self.ask(Op.OPEN, node, struct.pack("=II", flags, 0)))
+    def open(self, node, flags=os.O_RDONLY, how=0):
+        fh, how, _ = struct.unpack("=QII", self.ask(Op.OPEN, node, struct.pack("=II", flags, how)))
         return Opened(fh, how)
 
     def create(self, parent, name, flags=os.O_RDWR, mode=0o644):

@@ -91,6 +91,22 @@ class Caller:
     def removexattr(self, path, name):
         os.removexattr(self.at(path), name)
 
+    def fsetxattr(self, slot, name, value, flags):
+        os.setxattr(self.number(slot), name, value, flags)
+
+    def fgetxattr(self, slot, name):
+        return os.getxattr(self.number(slot), name)
+
+    def flistxattr(self, slot):
+        return sorted(name for name in os.listxattr(self.number(slot))
+                      if not name.startswith("trusted.overlay."))
+
+    def fremovexattr(self, slot, name):
+        os.removexattr(self.number(slot), name)
+
+    def fchown(self, slot, uid, gid):
+        os.fchown(self.number(slot), uid, gid)
+
     def mkfifo(self, path):
         os.mkfifo(self.at(path), 0o640)
 
@@ -167,7 +183,7 @@ class Calls:
     def next(self):
         pick = self.random
         size, place = pick.choice(SIZES), pick.choice(SIZES)
-        name = pick.choice(("user.a", "user.b", "trusted_.x"))
+        name = pick.choice(("user.a", "user.b", "trusted.t", "trusted_.x"))
         choices = [
             (4, "stat", self.path()), (2, "follow", self.path()), (2, "readlink", self.path()),
             (3, "listing", self.path()), (2, "chmod", self.path(), self.mode()),
@@ -178,6 +194,10 @@ class Calls:
             (3, "link", self.path(), self.path()), (5, "rename", self.path(), self.path()),
             (1, "setxattr", self.path(), name, self.data()[:50], pick.choice((0, 0, 1, 2))),
             (1, "getxattr", self.path(), name), (1, "removexattr", self.path(), name),
+            (2, "fsetxattr", self.slot(), name, self.data()[:500], pick.choice((0, 0, 1, 2))),
+            (2, "fgetxattr", self.slot(), name), (2, "flistxattr", self.slot()),
+            (1, "fremovexattr", self.slot(), name),
+            (1, "fchown", self.slot(), pick.choice((-1, 0, 5)), pick.choice((-1, 0, 6))),
             (1, "mkfifo", self.path()), (2, "truncate", self.path(), size),
             (10, "open", self.slot(), self.path(), self.flags(), self.mode()),
             (2, "close", self.slot()), (3, "pread", self.slot(), size, place),

@@ -5,6 +5,7 @@ import errno
 import mmap
 import os
 import shutil
+import struct
 import subprocess
 import sys
 import unittest
@@ -238,8 +239,10 @@ class Limits(AloneCase):
 
     def test_attributes_and_files_that_there_are_not(self):
         path = os.path.join(self.root(), "f")
-        for name in ("trusted.a", "security.a"):
-            self.refused(errno.EOPNOTSUPP, os.setxattr, path, name, b"x")
+        access_list = struct.pack("<I" + "HHI" * 3, 2, 1, 6, 0xffffffff, 4, 4, 0xffffffff, 32, 4,
+                                  0xffffffff)
+        for name, value in (("system.a", b"x"), ("system.posix_acl_access", access_list)):
+            self.refused(errno.EOPNOTSUPP, os.setxattr, path, name, value)
         self.refused(errno.EOPNOTSUPP, os.open, os.path.dirname(path),
                      os.O_TMPFILE | os.O_RDWR)
 

@@ -80,7 +80,7 @@ class Mounted:
 
     def mount(self):
         self.process = subprocess.Popen(
-            [PROGRAM, self.server.path, self.here, "--verbose", "--wait", PATIENCE,
+            [PROGRAM, self.server.path, self.here, "-f", "--verbose", "--wait", PATIENCE,
              *self.options],
             stdin=subprocess.DEVNULL, stderr=subprocess.PIPE, text=True, env=ENVIRONMENT)
         limit = time.monotonic() + WAIT

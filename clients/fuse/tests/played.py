@@ -75,11 +75,13 @@ class Session:
             self.server.answered.append(body)
 
     def answer(self, op, fields):
+        if op == STAT and fields == b"\0\1x":
+            return frame(b"\2\x16")
         if op in (STAT, FSTAT):
             is_root = op == STAT and fields == b"\0\1/"
             is_none = fields.endswith(b"/none")
             return refused(2) if is_none else made(attr(DIRECTORY, 0o755, size=0) if is_root
-                                                   else attr())
+                                                   else attr(mode=self.server.mode))
         if op == OPEN:
             number = min(set(range(64)) - self.open)
             self.open.add(number)
@@ -91,7 +93,7 @@ class Session:
         count = min(4, int.from_bytes(fields[4:8], "big"))
         answers = {READLINK: b"\0\2to", GETATTR: b"\0\3one", ATTRS: texts(b"user.a"),
                    READ: count.to_bytes(4, "big") + b"four"[:count], LIST: texts(b"f", b"g"),
-                   SEEK: fields[4:12], WRITE: (len(fields) - 8).to_bytes(4, "big")}
+                   SEEK: fields[4:12], WRITE: max(0, len(fields) - 8).to_bytes(4, "big")}
         return made(answers[op])
 
 
@@ -100,14 +102,15 @@ class Played:
 
     `lies` has, for an op, what is done in place of an answer the next time that it is asked:
     bytes that are sent, or a function of the session and the request that tells whether the
-    session goes on. Connections over the number of sessions are taken and never answered.
+    session goes on. Connections over the number of sessions are taken and never answered. All files
+    have the mode `mode`.
     """
 
     def __init__(self, sessions=1 << 20):
         self.folder = tempfile.TemporaryDirectory()
         self.path = os.path.join(self.folder.name, "s")
         self.lies, self.asked, self.answered, self.accepted = {}, [], [], 0
-        self.sessions = sessions
+        self.sessions, self.mode = sessions, 0o644
         self.socket = None
         self.listen()
 

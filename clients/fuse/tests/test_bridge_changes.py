@@ -105,13 +105,17 @@ class Makes(ServerCase):
                 self.assertEqual(kernel.listxattr(made.nodeid), [])
         self.assertTrue(stat.S_ISREG(self.client(server).stat("/p").st_mode))
         with Bridge(server.path, "--times") as kernel:
+            self.assertTrue(stat.S_ISREG(kernel.lookup(ROOT, "c").attr.mode))
+            self.assertTrue(stat.S_ISREG(kernel.lookup(ROOT, "b").attr.mode))
+            self.assertTrue(stat.S_ISSOCK(kernel.lookup(ROOT, "s").attr.mode))
+        with Bridge(server.path, "--times", "--devices") as kernel:
             found = {one.name.decode(): one.entry.attr for one in kernel.listing(ROOT)
                      if one.name.decode() in kinds}
             for name, kind in kinds.items():
                 self.assertEqual(kernel.lookup(ROOT, name).attr.mode, kind | 0o640)
                 self.assertEqual(found[name].mode, kind | 0o640)
             self.assertEqual(found["c"].rdev, 0x0103)
-        with Bridge(server.path, "--times", "--shared") as kernel:
+        with Bridge(server.path, "--times", "--devices", "--shared") as kernel:
             self.assertTrue(stat.S_ISFIFO(kernel.lookup(ROOT, "p").attr.mode))
             self.assertTrue(stat.S_ISREG(kernel.lookup(ROOT, "c").attr.mode))
 
@@ -155,8 +159,11 @@ class Removes(ServerCase):
         self.assertEqual((changed.mode, changed.uid, changed.gid), (stat.S_IFREG | 0o400, 3, 4))
         self.assertEqual(kernel.getattr(node, fh).size, 3)
         self.assertEqual(kernel.read(node, fh, 0, 10), b"abc")
-        self.refused(errno.ENOENT, kernel.open, node)
+        again = kernel.open(node).fh  # as by /proc/self/fd
+        self.assertEqual(kernel.read(node, again, 0, 10), b"abc")
+        kernel.release(node, again)
         kernel.release(node, fh)
+        self.refused(errno.ENOENT, kernel.open, node)
 
 
 class Moves(ServerCase):
@@ -240,12 +247,14 @@ class Sets(ServerCase):
                          stat.S_IFREG | 0o6755)
         changed = kernel.setattr(f, SET_UID, uid=11)
         self.assertEqual((changed.uid, changed.gid), (11, 0))
+        self.assertEqual(changed.mode, stat.S_IFREG | 0o755)  # as chown(2) of Linux takes them
+        kernel.setattr(f, SET_MODE, mode=0o2745)
         changed = kernel.setattr(f, SET_GID, gid=12)
         self.assertEqual((changed.uid, changed.gid), (11, 12))
         self.assertEqual(kernel.getattr(f), changed)
         told = self.client(server).stat("/d/f")
         self.assertEqual((told.st_mode, told.st_uid, told.st_gid),
-                         (stat.S_IFREG | 0o6755, 11, 12))
+                         (stat.S_IFREG | 0o2745, 11, 12))
 
     def test_the_owner_of_a_link(self):
         kernel = self.bridge(self.served())

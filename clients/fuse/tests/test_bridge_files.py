@@ -1,14 +1,13 @@
-"""Files through the bridge: reading, writing, many of them open, and user attributes."""
+"""Files through the bridge: reading, writing, and many of them open."""
 
 import errno
 import os
 import unittest
 
 from .bridges import Bridge, ServerCase
-from .kernel import (OPEN_DIRECT, OPEN_KEEP_CACHE, ROOT, SET_MODE, SET_SIZE, WRITE_CACHE)
+from .kernel import OPEN_DIRECT, OPEN_KEEP_CACHE, ROOT, SET_MODE, SET_SIZE, WRITE_CACHE
 
 LIMIT = 1048576
-CREATE, REPLACE = 1, 2
 TREE = """layer = [{}, { entry = [
 { path = "/f", kind = "file", text = "0123456789" },
 { path = "/z", kind = "file", zeros = 1048576 },
@@ -193,16 +192,74 @@ class ManyFiles(ServerCase):
         self.assertEqual(len(kernel.listing(ROOT)), 2 + 2 + 1000)
 
     def test_more_than_the_sessions_hold(self):
-        kernel = self.bridge(self.served(), "--sessions", "2")
+        """One descriptor of each session is kept back, so that all else goes on."""
+        kernel = self.bridge(self.served(), "--sessions", "2", "--max-sessions", "2")
         f = kernel.walk("/f").nodeid
-        opened = [kernel.open(f).fh for _ in range(128)]
-        self.refused(errno.ENFILE, kernel.open, f)
+        reader = kernel.open(f).fh
+        opened = []
+        for number in range(125):
+            entry, file = kernel.create(ROOT, f"n{number}")
+            opened.append((entry.nodeid, file.fh))
+        z = kernel.walk("/z").nodeid
+        self.refused(errno.ENFILE, kernel.open, z)
         self.refused(errno.ENFILE, kernel.create, ROOT, "n")
         self.assertEqual(kernel.lookup(ROOT, "n").nodeid, 0)
-        kernel.release(f, opened.pop())
-        opened.append(kernel.open(f).fh)
-        for fh in opened:
-            self.assertEqual(kernel.read(f, fh, 9, 1), b"9")
+        self.assertEqual(len(kernel.listing(ROOT)), 2 + 2 + 125)
+        self.assertEqual(kernel.setattr(z, SET_SIZE, size=5).size, 5)
+        kernel.setattr(f, SET_MODE, mode=0o600)  # copied up, it is opened anew
+        self.assertEqual(kernel.read(f, reader, 0, 99), b"0123456789")
+        kernel.mknod(ROOT, "p", 0o010600)
+        kernel.release(*opened.pop())
+        self.assertEqual(kernel.read(z, kernel.open(z).fh, 0, 99), bytes(5))
+
+    def test_handles_on_a_file_share_a_descriptor(self):
+        server = self.served()
+        kernel = self.bridge(server, "--sessions", "1", "--max-sessions", "1")
+        f = kernel.walk("/f").nodeid
+        readers = [kernel.open(f).fh for _ in range(500)]
+        writers = [kernel.open(f, os.O_RDWR).fh for _ in range(500)]
+        self.assertEqual(kernel.write(f, writers[7], 2, b"new"), 3)
+        for fh in (readers + writers)[::99]:
+            self.assertEqual(kernel.read(f, fh, 0, 99), b"01new56789")
+        for fh in readers + writers[1:]:
+            kernel.release(f, fh)
+        self.assertEqual(kernel.write(f, writers[0], 0, b"X"), 1)
+        emptied = kernel.open(f, os.O_WRONLY | os.O_TRUNC).fh
+        self.assertEqual(kernel.read(f, writers[0], 0, 99), b"")
+        kernel.write(f, emptied, 0, b"end")
+        self.assertEqual(self.client(server).open("/f").read(), b"end")
+
+    def test_further_sessions_are_made_as_they_are_needed(self):
+        """Ten thousand handles, on more files than the first session holds."""
+        server = self.served()
+        kernel = self.bridge(server, "--sessions", "1", "--max-sessions", "8")
+        opened = []
+        for number in range(400):
+            entry, file = kernel.create(ROOT, f"n{number}")
+            kernel.write(entry.nodeid, file.fh, 0, b"%d" % number)
+            opened += [(entry.nodeid, file.fh)] + [(entry.nodeid, kernel.open(entry.nodeid).fh)
+                                                   for _ in range(24)]
+        self.assertEqual(len(opened), 10000)
+        for at in range(0, 10000, 625):
+            self.assertEqual(kernel.read(*opened[at], 0, 9), b"%d" % (at // 25))
+        for node, fh in opened:
+            kernel.release(node, fh)
+
+    def test_one_user_has_three_quarters(self):
+        """Who opens all that he can stops nobody else."""
+        kernel = self.bridge(self.served(), "--sessions", "2", "--max-sessions", "2")
+        kernel.uid = 1000
+        for number in range(94):
+            kernel.create(ROOT, f"n{number}")
+        self.refused(errno.ENFILE, kernel.create, ROOT, "n")
+        f = kernel.walk("/f").nodeid
+        self.refused(errno.ENFILE, kernel.open, f)
+        kernel.uid = 1001
+        self.assertEqual(kernel.read(f, kernel.open(f).fh, 0, 3), b"012")
+        self.assertEqual(len(kernel.listing(ROOT)), 2 + 2 + 94)
+        kernel.uid = 0
+        opened = [kernel.create(ROOT, f"root{number}") for number in range(31)]
+        self.assertEqual(len(opened), 31)
 
     def test_handles_of_directories_need_no_descriptor(self):
         kernel = self.bridge(self.served(), "--sessions", "1")
@@ -291,72 +348,6 @@ class Shared(ServerCase):
         client.arm(0, "/f", 0x8)
         kernel.release(f, fh)
         self.assertEqual([int(notice.mask) for notice in client.notices()], [0x8])
-
-
-class Attributes(ServerCase):
-    MANIFEST = TREE
-
-    def test_attributes(self):
-        server = self.served()
-        kernel = self.bridge(server)
-        f = kernel.walk("/f").nodeid
-        self.assertEqual(kernel.listxattr(f), [])
-        kernel.setxattr(f, "user.a", b"one")
-        kernel.setxattr(f, "user.b", b"")
-        self.assertEqual(kernel.listxattr(f), [b"user.a", b"user.b"])
-        self.assertEqual(kernel.getxattr(f, "user.a"), b"one")
-        self.assertEqual(kernel.getxattr(f, "user.a", 0), 3)
-        self.assertEqual(kernel.listxattr(f, 0), 14)
-        self.refused(errno.ERANGE, kernel.getxattr, f, "user.a", 2)
-        self.refused(errno.ERANGE, kernel.listxattr, f, 13)
-        self.refused(errno.ENODATA, kernel.getxattr, f, "user.c")
-        kernel.removexattr(f, "user.a")
-        self.refused(errno.ENODATA, kernel.removexattr, f, "user.a")
-        self.assertEqual(self.client(server).listxattr("/f"), ["user.b"])
-
-    def test_what_must_or_must_not_be_there(self):
-        kernel = self.bridge(self.served())
-        f = kernel.walk("/f").nodeid
-        self.refused(errno.ENODATA, kernel.setxattr, f, "user.a", b"x", REPLACE)
-        kernel.setxattr(f, "user.a", b"one", CREATE)
-        self.refused(errno.EEXIST, kernel.setxattr, f, "user.a", b"x", CREATE)
-        kernel.setxattr(f, "user.a", b"two", REPLACE)
-        self.assertEqual(kernel.getxattr(f, "user.a"), b"two")
-
-    def test_what_has_no_room(self):
-        kernel = self.bridge(self.served())
-        f = kernel.walk("/f").nodeid
-        kernel.setxattr(f, "user.a", bytes(1024))
-        self.refused(errno.ENOSPC, kernel.setxattr, f, "user.b", bytes(1025))
-        self.refused(errno.ENOSPC, kernel.setxattr, f, "user.b", bytes(65536))
-        for number in range(63):
-            kernel.setxattr(f, f"user.{number:0250}", b"")
-        self.refused(errno.ENOSPC, kernel.setxattr, f, "user.b", b"")
-        self.assertEqual(len(kernel.listxattr(f)), 64)
-
-    def test_other_names(self):
-        kernel = self.bridge(self.served())
-        f = kernel.walk("/f").nodeid
-        for name in ("security.capability", "trusted.a", "system.posix_acl_access", "a"):
-            self.refused(errno.EOPNOTSUPP, kernel.getxattr, f, name)
-            self.refused(errno.EOPNOTSUPP, kernel.setxattr, f, name, b"x")
-            self.refused(errno.EOPNOTSUPP, kernel.removexattr, f, name)
-
-    def test_a_link_has_none(self):
-        kernel = self.bridge(self.served())
-        link = kernel.symlink(ROOT, "l", "f").nodeid
-        self.assertEqual(kernel.listxattr(link), [])
-
-    def test_the_bridges_own_attribute_is_nobody_elses(self):
-        server = self.served()
-        kernel = self.bridge(server, "--times")
-        f = kernel.walk("/f").nodeid
-        kernel.setattr(f, 32, mtime=(5, 0))
-        self.assertEqual(self.client(server).listxattr("/f"), ["user.overlayd.meta"])
-        self.assertEqual(kernel.listxattr(f), [])
-        self.refused(errno.ENODATA, kernel.getxattr, f, "user.overlayd.meta")
-        self.refused(errno.EPERM, kernel.setxattr, f, "user.overlayd.meta", b"")
-        self.refused(errno.ENODATA, kernel.removexattr, f, "user.overlayd.meta")
 
 
 class RoundTrips(ServerCase):

@@ -20,6 +20,9 @@ def u32(number):
     return fill(number, 4)
 
 
+# How a wrong command line is told.
+ONE_LINE = r"\Aoverlayd-fuse: [^\n]*; overlayd-fuse --help tells more\n\Z"
+
 # Those of the table in docs/FORMATS.md.
 ERROR_NUMBERS = (1, 2, 9, 12, 16, 17, 18, 20, 21, 22, 23, 24, 27, 28, 30, 36, 39, 40, 61, 75, 95)
 
@@ -47,7 +50,7 @@ LIES = [
     ("readlink", lambda k, f, fh: k.readlink(f), played.READLINK,
      [b"\0\0", b"\0\2a\0", b"\0\3to", b"\0\2to\0", b"\0", fill(4096, 2) + b"x" * 4096]),
     ("mkdir", lambda k, f, fh: k.mkdir(ROOT, "d"), played.MKDIR, [b"\0"]),
-    ("open", lambda k, f, fh: k.open(f, os.O_RDWR), played.OPEN,
+    ("open", lambda k, f, fh: k.open(k.lookup(ROOT, "g").nodeid, os.O_RDWR), played.OPEN,
      [u32(0), u32(2), u32(64), b"\0\0\0", u32(1) + b"\0"]),
     ("read", lambda k, f, fh: k.read(f, fh, 0, 9), played.READ,
      [u32(10) + bytes(10), u32(3) + bytes(2), u32(3) + bytes(4), b"\0\0", u32(2 ** 32 - 1)]),
@@ -202,11 +205,11 @@ class Losses(PlayedCase):
 
     def test_other_connections_keep_what_is_open_on_them(self):
         kernel = self.bridge(sessions=2)
-        node = kernel.lookup(ROOT, "f").nodeid
-        first, second = (kernel.open(node, os.O_RDWR).fh for _ in range(2))
+        nodes = [kernel.lookup(ROOT, name).nodeid for name in ("f", "g")]
+        opened = [(node, kernel.open(node, os.O_RDWR).fh) for node in nodes]
         self.server.links[0].shutdown(2)
         reads = []
-        for fh in (first, second):
+        for node, fh in opened:
             try:
                 reads.append(kernel.read(node, fh, 0, 9))
             except OSError as error:
@@ -315,11 +318,20 @@ class Beginnings(PlayedCase):
     def test_command_lines(self):
         for words in ((), ("s",), ("s", "m", "x"), ("s", "m", "--sessions", "0"),
                       ("s", "m", "--sessions", "65"), ("s", "m", "--wait", "x"),
-                      ("s", "m", "--wait", "0"), ("s", "m", "--unknown"),
-                      ("s", "m", "--kernel", "3")):
+                      ("s", "m", "--wait", "0"), ("s", "m", "--unknown"), ("s", "m", "--wait"),
+                      ("s", "m", "--kernel", "3"), ("s", "m", "--keep", "-1"),
+                      ("s", "m", "--sessions", "5", "--max-sessions", "4"),
+                      ("s", "m", "--map-uids", "0:1"), ("s", "m", "--map-uids", "0:1:0"),
+                      ("s", "m", "--map-uids", "0:1:x"), ("s", "m", "--map-uids", "0:4294967290:9"),
+                      ("s", "m", "--map-gids", "0:0:9", "--map-gids", "8:20:1"),
+                      ("s", "m", "--map-gids", "0:0:9", "--map-gids", "20:8:1"),
+                      ("s", "m", "--map-uids", "0:0:9", "--squash")):
             done = run(*words)
             self.assertEqual(done.returncode, 2, words)
-            self.assertIn("usage: overlayd-fuse SOCKET MOUNTPOINT", done.stderr)
+            self.assertRegex(done.stderr, ONE_LINE)
+        done = run("--version")
+        self.assertEqual((done.returncode, done.stderr), (0, ""))
+        self.assertRegex(done.stdout, r"\Aoverlayd-fuse \d+\.\d+\.\d+\n\Z")
         done = run("--help")
         self.assertEqual((done.returncode, done.stderr), (0, ""))
         self.assertIn("usage: overlayd-fuse SOCKET MOUNTPOINT", done.stdout)

@@ -17,7 +17,7 @@ def described(entry: Entry) -> Entry:
     for name, value in entry.attrs:
         kept = shown_by(name, value)
         if kept is not None:
-            plain[kept[0]] = kept[1]
+            plain.setdefault(*kept)
         elif name == META:
             told = value
     entry = entry._replace(attrs=tuple(plain.items()))
