@@ -1,7 +1,7 @@
 // A whole session of a core's client.
 ghost use Rattle.std.specs.Prelude.{◌≡◌, ◌+◌, ◌<◌, ◌≤◌, ◌^◌, [], false, true, vec_len};
 ghost use Rattle.std.specs.Vec.{vec_capacity};
-ghost use Rattle.overlay_core.specs.Views.{core_finished, has_client};
+ghost use Rattle.overlay_core.specs.Views.{CoreKeeps, core_finished, has_client};
 ghost use Rattle.ov_session.specs.Devices.{InputAt, OutputAt};
 ghost use Rattle.ov_session.specs.Sessions.{IsSession};
 ghost use Rattle.core_door.specs.Rooms.{IsServed};
@@ -16,7 +16,8 @@ use watch_table::{Callback, Rule};
 
 /// Runs a session of a client of a core, and hands the core back, from which the client is detached
 /// then. What it wrote is the frames of the answers to what it read, and what was asked and
-/// answered, told behind what the session told, is a run of the client.
+/// answered, told behind what the session told, is a run of the client. The lower layers and the
+/// options stay as they were.
 pub fn run_session<F, R, S, K>(
     alloc: Global,
     core: Core<F, R>,
@@ -40,6 +41,7 @@ where
         (K.contents output.old.sink) (K.contents output.new.sink)
         session.exchanges.items result.1.exchanges.items core result.2 result.0 }
     ensures detached { has_client result.2 client ≡ false }
+    ensures kept { CoreKeeps core result.2 }
     ensures input { InputAt (S.failures input.old) (S.failures input.new) (S.reads input.new)
         result.0 }
     ensures reads { (S.reads input.old ≤ S.reads input.new)

@@ -4,6 +4,8 @@
 
 mod door;
 mod running;
+mod shared;
 
 pub use door::EndlessDoor;
 pub use running::{Departure, run_session};
+pub use shared::SharedMount;

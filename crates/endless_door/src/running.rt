@@ -1,13 +1,14 @@
 // A whole session of a mount's client.
-ghost use Rattle.std.specs.Prelude.{◌≡◌, ◌+◌, ◌<◌, ◌≤◌, List, []};
-ghost use mathlib.Core.List.{IsPrefix};
+ghost use Rattle.std.specs.Prelude.{◌≡◌, ◌+◌, ◌<◌, ◌≤◌, ◌↔◌, IsSome, List, [], false, is_some};
 ghost use Rattle.ov_session.specs.Devices.{InputAt, OutputAt};
 ghost use Rattle.ov_session.specs.Sessions.{IsSession};
 ghost use Rattle.ov_session.specs.declared.exchange.Exchange.{Exchange};
+ghost use Rattle.mount_door.specs.GoingOn.{IsReply};
 ghost use Rattle.endless_door.specs.Advancing.{Advances, standing};
 
 use crate::door::EndlessDoor;
-use endless_mount::{BookName, EndlessMount, Front};
+use crate::shared::SharedMount;
+use endless_mount::{BookName, Front};
 use locked_history::{Gate, Session};
 use mount_door::ClientSession;
 use ov_devices::{Sink, Source};
@@ -29,11 +30,13 @@ pub struct Departure<N: BookName, F: Callback, R: Rule> {
 
 /// Runs the session of a client that was just attached, which has this front. What it wrote is the
 /// frames of the answers to what it read, and each reply among them stands in the history of the
-/// mount, at the place that is told, as the front that is left has it.
-pub fn run_session<N, F, R, G, H, S, K>(
+/// mount, at the place that is told, as the front that is left has it. A call is held back only where
+/// the gate may stop it, and the client is detached, so that its hooks are handed back, unless the
+/// mount refused that.
+pub fn run_session<N, F, R, M, G, H, S, K>(
     rt: &H,
     alloc: Global,
-    mount: &EndlessMount<N, F, R>,
+    mount: &M,
     gate: &G,
     session: Session,
     seen: Front<N>,
@@ -44,17 +47,20 @@ where
     N: BookName,
     F: Callback + Drop,
     R: Rule,
+    M: SharedMount<N, F, R>,
     G: Gate,
     H: Wait,
     S: Source,
     K: Sink,
     requires few { K.failures output.old.sink < 4294967295 }
     requires held { output.old.held.items ≡ [] }
-    ensures session { (told : List Exchange) × IsSession Advances
+    ensures session { (told : List Exchange)
+        × (s : IsSession (Advances (G.may_stop gate.now) M.may_refuse)
         (S.remaining input.old) (S.remaining input.new)
         (K.contents output.old.sink) (K.contents output.new.sink)
-        [] told (standing session seen)
-        (standing result.session result.seen) result.ending }
+        [] told (standing session seen false)
+        (standing result.session result.seen (is_some result.hooks)) result.ending)
+        × (IsSome result.hooks ↔ IsReply s.farewell) }
     ensures input { InputAt (S.failures input.old) (S.failures input.new) (S.reads input.new)
         result.ending }
     ensures reads { (S.reads input.old ≤ S.reads input.new)

@@ -1,14 +1,16 @@
 // A whole session of a mount's client.
-ghost use Rattle.std.specs.Prelude.{◌≡◌, ◌+◌, ◌<◌, ◌≤◌, List, []};
+ghost use Rattle.std.specs.Prelude.{◌≡◌, ◌+◌, ◌<◌, ◌≤◌, ◌↔◌, IsSome, List, [], false, is_some};
 ghost use Rattle.std.specs.Vec.{vec_capacity, vec_len};
 ghost use Rattle.ov_session.specs.Devices.{InputAt, OutputAt};
 ghost use Rattle.ov_session.specs.Sessions.{IsSession};
 ghost use Rattle.ov_session.specs.declared.exchange.Exchange.{Exchange};
 ghost use Rattle.mount_door.specs.Advancing.{Advances, standing};
+ghost use Rattle.mount_door.specs.GoingOn.{IsReply};
 
 use crate::door::MountDoor;
 use crate::session::ClientSession;
-use locked_history::{Gate, Mount, MountName, Receipt, Session};
+use crate::shared::SharedMount;
+use locked_history::{Gate, MountName, Receipt, Session};
 use ov_devices::{Sink, Source};
 use ov_session::{Ending, SessionOutput, session_run};
 use std::alloc::Global;
@@ -28,11 +30,12 @@ pub struct Departure<N: MountName, F: Callback, R: Rule> {
 
 /// Runs the session of a client that was just attached, whose receipts go behind these. What it
 /// wrote is the frames of the answers to what it read, and a receipt claims that each reply among
-/// them stands in the history of the mount.
-pub fn run_session<N, F, R, G, H, S, K>(
+/// them stands in the history of the mount. A call is held back only where the gate may stop it, and
+/// the client is detached, so that its hooks are handed back, unless the mount refused that.
+pub fn run_session<N, F, R, M, G, H, S, K>(
     rt: &H,
     alloc: Global,
-    mount: &Mount<N, F, R>,
+    mount: &M,
     gate: &G,
     session: Session,
     receipts: Vec<Receipt<N>>,
@@ -43,6 +46,7 @@ where
     N: MountName,
     F: Callback + Drop,
     R: Rule,
+    M: SharedMount<N, F, R>,
     G: Gate,
     H: Wait,
     S: Source,
@@ -50,11 +54,13 @@ where
     requires few { K.failures output.old.sink < 4294967295 }
     requires held { output.old.held.items ≡ [] }
     requires room { vec_len receipts < vec_capacity receipts }
-    ensures session { (told : List Exchange) × IsSession Advances
+    ensures session { (told : List Exchange)
+        × (s : IsSession (Advances (G.may_stop gate.now) M.may_refuse)
         (S.remaining input.old) (S.remaining input.new)
         (K.contents output.old.sink) (K.contents output.new.sink)
-        [] told (standing session receipts.items)
-        (standing result.session result.receipts.items) result.ending }
+        [] told (standing session receipts.items false)
+        (standing result.session result.receipts.items (is_some result.hooks)) result.ending)
+        × (IsSome result.hooks ↔ IsReply s.farewell) }
     ensures input { InputAt (S.failures input.old) (S.failures input.new) (S.reads input.new)
         result.ending }
     ensures reads { (S.reads input.old ≤ S.reads input.new)

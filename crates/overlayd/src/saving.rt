@@ -54,6 +54,13 @@ fn target_of<'a, R: Files + AllocGlobal>(
 }
 
 impl<R: Files + AllocGlobal + Eprint> Keeper for Saver<'_, R> {
+    ghost use Rattle.std.specs.Prelude.{is_none};
+
+    // It saves the upper of any mount, and nothing is left to be saved then.
+    ghost takes = { λ saver mounted. Unit {0} };
+
+    ghost kept = { λ saver. is_none saver.target };
+
     fn keep<F: Callback, H: Rule>(&mut self, core: &Core<F, H>) {
         if let Some(target) = self.target.take() {
             self.outcome = save(self.rt, target, core.layers());

@@ -1,12 +1,15 @@
 -- What the clients of a mount saw whose history is kept nowhere.
-use Rattle.std.specs.Prelude.{◌≡◌, ℕ, List, [], ◌∷◌, ◌++◌, All, IsSomeAnd, length, slice_get}
+use Rattle.std.specs.Prelude.{◌≡◌, ℕ, Bool, true, false, List, [], ◌∷◌, ◌++◌, All, IsSomeAnd, length, refl, slice_get}
+use Rattle.std.proofs.lemmas.List.Elements.{All-weaker}
 use mathlib.Core.List.{IsPrefix}
 use Rattle.ov_frames.specs.declared.answer.Answer.{Answer}
 use Rattle.ov_session.specs.declared.exchange.Exchange.{Exchange}
 use Rattle.ov_session.specs.declared.exchange.Exchange.TheVariants.{Departed}
 use Rattle.locked_history.specs.Claims.{IsAttachOf}
 use Rattle.locked_history.specs.declared.entry.Entry.{Entry}
+use Rattle.mount_door.specs.GoingOn.{IsReply}
 use Rattle.endless_door.specs.Advancing.{Advances, Standing}
+use Rattle.socket_server.specs.Clients.{MayRefuse, MayStop}
 
 -- where a client stands that was just attached
 abbrev pub beginning : ℕ → List Entry → Standing
@@ -14,6 +17,7 @@ beginning client seen = record {
   client = client;
   number = 2;
   seen = seen;
+  detached = false;
 }
 
 -- a client was just attached with hooks of these tags, and saw that
@@ -23,18 +27,45 @@ pub record IsNew (tags : List ℕ) (client number : ℕ) (seen : List Entry) : T
   pub attached : IsSomeAnd (slice_get seen place) (λ entry. IsAttachOf entry client tags)
 
 -- THE CLIENT OF A CONNECTION was attached with hooks of these tags, and saw that; it went on as its
--- exchanges tell, of which the detach is the last, and so it stood then
-pub record IsClient (tags : List ℕ) (left : Standing) : Type 0 where
+-- exchanges tell, of which the detach is the last, and so it stood then; where it is known to have
+-- left, the detach was answered by a reply. No call was held back where nothing closes the server
+pub record IsClient (tags : List ℕ) (closes gone : Bool) (left : Standing) : Type 0 where
   pub client : ℕ
   pub first : List Entry
   pub place : ℕ
   pub attached : IsSomeAnd (slice_get first place) (λ entry. IsAttachOf entry client tags)
   pub told : List Exchange
   pub farewell : Answer
-  pub went : Advances (beginning client first) (told ++ Departed farewell ∷ []) left
+  pub went : Advances (MayStop closes) MayRefuse (beginning client first) (told ++ Departed farewell ∷ []) left
+  pub detached : gone ≡ true → IsReply farewell
 
 -- so many clients were attached with hooks of these tags, and what each saw begins this front
-pub record AreClientsIn (tags : List ℕ) (count : ℕ) (front : List Entry) : Type 0 where
+pub record AreClientsIn (tags : List ℕ) (closes gone : Bool) (count : ℕ) (front : List Entry) : Type 0 where
   pub clients : List Standing
   pub many : length clients ≡ count
-  pub each : All (λ left. IsClient tags left × IsPrefix left.seen front) clients
+  pub each : All (λ left. IsClient tags closes gone left × IsPrefix left.seen front) clients
+
+-- a client of whom it is known that it left is one of whom it isn't
+pub of_any_guest : (tags : List ℕ) (closes gone : Bool) (left : Standing) →
+    IsClient tags closes true left → IsClient tags closes gone left
+of_any_guest tags closes gone left c = record {
+  client = c.client;
+  first = c.first;
+  place = c.place;
+  attached = c.attached;
+  told = c.told;
+  farewell = c.farewell;
+  went = c.went;
+  detached = λ _. c.detached refl;
+}
+
+-- so of all
+pub of_any_guests : (tags : List ℕ) (closes : Bool) (count : ℕ) (front : List Entry) →
+    AreClientsIn tags closes true count front → AreClientsIn tags closes false count front
+of_any_guests tags closes count front were = record {
+  clients = were.clients;
+  many = were.many;
+  each = All-weaker (λ left. IsClient tags closes true left × IsPrefix left.seen front)
+      (λ left. IsClient tags closes false left × IsPrefix left.seen front)
+      (λ left c. (of_any_guest tags closes false left c.0, c.1)) were.clients were.each;
+}

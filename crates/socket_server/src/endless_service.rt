@@ -1,6 +1,6 @@
 // The service of a mount whose history is kept nowhere: of all clients together the longest front is
 // kept that one of them has seen.
-ghost use Rattle.std.specs.Prelude.{ℕ, List};
+ghost use Rattle.std.specs.Prelude.{◌≡◌, ℕ, Bool, List, is_some, true};
 ghost use Rattle.endless_door.specs.Advancing.{standing};
 ghost use Rattle.socket_server.specs.EndlessClients.{IsClient, IsNew};
 
@@ -40,9 +40,11 @@ fn converse<N: BookName, F: Callback + Copy, R: Rule, G: Gate, H: Wait>(
     client: Guest<N>,
     connection: &Connection,
 ) -> Departure<N, F, R>
-    ensures { (tags : List ℕ) →
+    ensures { (tags : List ℕ) (closes : Bool) →
+        ((number step : ℕ) → G.may_stop gate.now number step → closes ≡ true) →
         IsNew tags client.session.client client.session.number client.seen →
-        IsClient tags (standing result.session result.seen) }
+        IsClient tags closes (is_some result.hooks)
+        (standing result.session result.seen (is_some result.hooks)) }
 {
     let mut input = CountedReader::new(connection);
     let mut output = SessionOutput::new(alloc, CountedWriter::new(connection));
@@ -77,7 +79,7 @@ where
 
     type Kept = Front<N>;
 
-    ghost use Rattle.socket_server.specs.EndlessClients.{AreClientsIn, IsNew};
+    ghost use Rattle.socket_server.specs.EndlessClients.{AreClientsIn, IsNew, of_any_guests};
 
     ghost tag = { λ h. h.tag };
 
@@ -86,6 +88,8 @@ where
     ghost keeps = { AreClientsIn };
 
     ghost has_room = { λ kept. Unit {0} };
+
+    ghost of_any = { of_any_guests };
 
     fn kept_of_none(&self, _alloc: Global) -> Front<N> {
         self.unseen.again()

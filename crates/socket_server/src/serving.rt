@@ -1,10 +1,10 @@
 // The server of a mount whose history is kept.
-ghost use Rattle.std.specs.Prelude.{◌≡◌, ◌≢◌, ◌++◌, ◌≤◌, All, IfOk, List, None, OnOk, filter, length, map};
+ghost use Rattle.std.specs.Prelude.{◌≡◌, ◌≢◌, ◌++◌, ◌≤◌, All, IfOk, List, None, OnOk, filter, length, map, true};
 ghost use Rattle.std.specs.List.{flat_map};
 ghost use Rattle.locked_history.specs.Claims.{Claim, StandsIn, is_past_end, uncounted};
 ghost use Rattle.locked_history.specs.Entries.{history_of};
-ghost use Rattle.overlay_core.specs.LegalHistories.{Legally};
-ghost use Rattle.locked_history.specs.Names.{IsNamed};
+ghost use Rattle.overlay_core.specs.LegalHistories.{Legally, opening_of};
+ghost use Rattle.locked_history.specs.Names.{IsNamed, blank_core};
 ghost use Rattle.locked_history.specs.Views.{core_past, entries_past};
 ghost use Rattle.socket_server.specs.Working.{Serves, receipts_in};
 
@@ -69,8 +69,7 @@ fn gathered<N: MountName>(
     for worked in workers {
         let Worked {
             kept,
-            served: _,
-            refused: _,
+            tally: _,
             failed: _,
             stopped: _,
         } = worked;
@@ -97,8 +96,8 @@ where
     F: Callback + Copy + Send + Sync,
     R: Rule + Send + Sync,
     H: Threads + Wait + Eprint + Sync,
-    ensures served { IfOk result (λ r. Serves (map (λ h. h.tag) hooks.now)
-        options.now.workers options.now.sessions r.0.items r.1) }
+    ensures served { IfOk result (λ r. Serves (map (λ h. h.tag) hooks.now) options.now
+        r.0.items r.1) }
     ensures stopped { IfOk result (λ r. options.now.closing ≡ None → r.1 ≢ Served.Stopped) }
 {
     let (workers, end) = serve_all(rt, alloc, listener, mount, hooks, reports, options)?;
@@ -130,8 +129,7 @@ where
     ensures past { IfOk result (λ r. All (λ receipt. length (entries_past r.0) ≤ receipt.place)
         r.1.items) }
     ensures served { IfOk result (λ r. (receipts : List Claim)
-        × Serves (map (λ h. h.tag) hooks.now)
-        options.now.workers options.now.sessions receipts r.2
+        × Serves (map (λ h. h.tag) hooks.now) options.now receipts r.2
         × All (StandsIn (entries_past r.0)) receipts
         × (r.1.items ≡ filter (is_past_end (entries_past r.0)) (map uncounted receipts))) }
     ensures stopped { IfOk result (λ r. options.now.closing ≡ None → r.2 ≢ Served.Stopped) }
@@ -159,7 +157,12 @@ where
     R: Rule + Send + Sync,
     H: Threads + Wait + Eprint + Sync,
     K: Keeper,
-    requires { IsNamed N.cells N.name N.parts N.opening blank }
+    requires named { IsNamed N.cells N.name N.parts N.opening blank }
+    requires taken { K.takes keeper.old N.opening }
+    ensures kept { OnOk result (K.kept keeper.new ≡ true) }
+    ensures served { IfOk result (λ end. (receipts : List Claim)
+        × Serves (map (λ h. h.tag) hooks.now) options.now receipts end) }
+    ensures stopped { IfOk result (λ end. options.now.closing ≡ None → end ≢ Served.Stopped) }
 {
     let reports = Reports::new(rt, alloc, options.verbose)?;
     let (past, _, end) = serve_blank::<N, F, R, H>(
@@ -172,7 +175,7 @@ where
 
 /// Serves the clients of a blank mount on a socket, each with copies of these hooks, until all
 /// workers have ended. What they did is one legal history, which ends in the state of the core that
-/// the keeper is lent then.
+/// the keeper is lent then. How the server ends is told as by [`serve_mount`].
 pub fn serve_on<F, R, H, K>(
     rt: &H,
     alloc: Global,
@@ -187,6 +190,11 @@ where
     R: Rule + Send + Sync,
     H: Threads + Wait + Eprint + Sync,
     K: Keeper,
+    requires { K.takes keeper.old (opening_of (blank_core blank)) }
+    ensures kept { OnOk result (K.kept keeper.new ≡ true) }
+    ensures served { IfOk result (λ end. (receipts : List Claim)
+        × Serves (map (λ h. h.tag) hooks.now) options.now receipts end) }
+    ensures stopped { IfOk result (λ end. options.now.closing ≡ None → end ≢ Served.Stopped) }
 {
     serve_named::<Brand, F, R, H, K>(rt, alloc, listener, blank, hooks, options, keeper)
 }
