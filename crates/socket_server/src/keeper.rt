@@ -19,7 +19,7 @@ pub trait Keeper {
 
     /// Takes the core in which a legal history of what was mounted ended.
     fn keep<F: Callback, R: Rule>(&mut self, core: &Core<F, R>)
-        requires legal { (mounted : Opening) × (entries : List Entry)
+        requires { (mounted : Opening) × (entries : List Entry)
             × takes self.old mounted × ∥ Legally mounted entries core.now ∥₁ }
         ensures { kept self.new ≡ true };
 }

@@ -9,5 +9,8 @@ keep-requires g c = (
   c.in_ok-core.ensures.legal,
 )
 
+pub returns-clause-stopped : goal.returns-clause-stopped
+returns-clause-stopped g c = c.in_ok-core.ensures.stopped
+
 pub returns-clause-served : goal.returns-clause-served
 returns-clause-served g c = (c.in_ok-core.history, c.in_ok-core.ensures.served)

@@ -10,6 +10,9 @@ keep-requires g c = (
   rw c.core.ensures c.in_ok-past.ensures.legal,
 )
 
+pub returns-clause-stopped : goal.returns-clause-stopped
+returns-clause-stopped g c = c.in_ok-past.ensures.stopped
+
 pub returns-clause-served : goal.returns-clause-served
 returns-clause-served g c =
     let served = c.in_ok-past.ensures.served in (served.0, served.1)

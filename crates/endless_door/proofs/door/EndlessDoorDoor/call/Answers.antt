@@ -31,7 +31,7 @@ returns-in-Err-Stopped-clause-told g c =
         refl,
         went_held (ways (g.G.Gate.may_stop was.gate.now) g.M.SharedMount.may_refuse)
             (standing was.session was.seen gone) (standing c.call.new.session c.call.new.seen gone)
-            c.args.call (e.stopped refl) same,
+            c.args.call (e.stopped (cc)) same,
       ),
     )
 

@@ -1,4 +1,4 @@
-use Rattle.std.proofs.Common.{◌≡◌, ap, is_some, refl}
+use Rattle.std.proofs.Common.{◌≡◌, ◌∙◌, ap, is_some, refl}
 use Rattle.ov_base.specs.declared.errno.Errno.TheVariants.{ENOMEM}
 use Rattle.ov_frames.specs.declared.answer.Answer.TheVariants.{NotTaken}
 use Rattle.locked_history.specs.declared.session.Refused.TheVariants.{Memory}
@@ -21,6 +21,14 @@ returns-then-is_err-clause-told g c =
       ),
     )
 
+pub returns-in-Ok-clause-told : goal.returns-in-Ok-clause-told
+returns-in-Ok-clause-told g c =
+    let told = rw (c.of-asked.ensures, c.reserve.ensures.items) at c.settle.ensures.told in
+    (told.0, told.1, (c.settle.ensures.gate, told.2))
+
+pub returns-in-Ok-clause-admitted : goal.returns-in-Ok-clause-admitted
+returns-in-Ok-clause-admitted g c = (c.settle.ensures.spare, c.settle.ensures.hooks ∙ c.requires.1)
+
 pub returns-in-Err-Stopped-clause-told : goal.returns-in-Err-Stopped-clause-told
 returns-in-Err-Stopped-clause-told g c =
     let was = c.args.self.now in
@@ -31,7 +39,7 @@ returns-in-Err-Stopped-clause-told g c =
         went_held (ways (g.G.Gate.may_stop was.gate.now) g.M.SharedMount.may_refuse)
             (standing was.session was.receipts.items gone)
             (standing was.session c.reserve.new.self.items gone) c.args.call
-            (c.in-Err-Stopped.ensures.stopped refl)
+            (c.in-Err-Stopped.ensures.stopped (cc))
             (ap (λ items. standing was.session items gone) c.reserve.ensures.items),
       ),
     )
