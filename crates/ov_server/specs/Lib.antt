@@ -2,6 +2,7 @@ pub mod Answers
 pub mod Arguments
 pub mod Devices
 pub mod Faults
+pub mod GoingOn
 pub mod Histories
 pub mod Deeds
 pub mod Mounts

@@ -53,6 +53,7 @@ pub fn play_line<K: Sink, F: Callback + Copy, H: Rule>(
     if is_skipped(line) {
         Ok(())
     } else {
+        output.echo(line)?;
         play_command(alloc, stage, hooks, &command_of(line)?, output)
     }
 }

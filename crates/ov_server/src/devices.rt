@@ -6,7 +6,8 @@ ghost use Rattle.ov_server.specs.Devices.{IsInputFault, Marks};
 
 use crate::fault::DeviceFault;
 use ov_devices::{Fault, Sink, Source, write_all};
-use std::alloc::Global;
+use std::alloc::{AllocError, Global};
+use std::{fmt, mem};
 
 /// How many bytes of text are held at most before they are handed on.
 const HELD_MOST: usize = 65_536;
@@ -37,6 +38,8 @@ pub(crate) fn read_some<S: Source>(
 pub struct Output<K> {
     sink: K,
     pub(crate) text: String,
+    echoes: bool,
+    pub(crate) refused: Vec<u8>,
 }
 
 impl<K> Output<K> {
@@ -48,7 +51,58 @@ impl<K> Output<K> {
         Output {
             sink,
             text: String::new(alloc),
+            echoes: false,
+            refused: Vec::new(alloc),
         }
+    }
+
+    /// The same, which has each command before what it answers where that is asked for.
+    pub fn echoing(self, echoes: bool) -> Output<K>
+        ensures sink { result.sink ≡ self.sink }
+        ensures text { result.text ≡ self.text }
+    {
+        Output { echoes, ..self }
+    }
+
+    /// The line at which a play ended, as it was no command; empty where there was none.
+    pub fn refused(&self) -> &[u8] {
+        self.refused.as_slice()
+    }
+
+    /// Adds a command, if that is asked for.
+    pub(crate) fn echo(&mut self, command: &[u8]) -> Result<(), AllocError>
+        ensures sink { self.new.sink ≡ self.old.sink }
+    {
+        if !self.echoes {
+            return Ok(());
+        }
+        let command = Shown(command);
+        writeln!(self.text, "> {command}")
+    }
+
+    /// Keeps a line that is no command, in whose place it leaves what was kept before.
+    pub(crate) fn keep(&mut self, line: &mut Vec<u8>)
+        ensures sink { self.new.sink ≡ self.old.sink }
+    {
+        mem::swap(&mut self.refused, line);
+    }
+}
+
+// A line as it was written, but for bytes that a terminal might not print.
+#[derive(Clone, Copy)]
+struct Shown<'a>(&'a [u8]);
+
+impl fmt::Display for Shown<'_> {
+    fn fmt<W: fmt::Write>(&self, f: &mut fmt::Formatter<W>) -> fmt::Result {
+        for byte in self.0 {
+            if *byte >= b' ' && *byte < 0x7f {
+                f.write_char(*byte as char)?;
+            } else {
+                let byte = *byte;
+                write!(f, "\\x{byte:02x}")?;
+            }
+        }
+        Ok(())
     }
 }
 

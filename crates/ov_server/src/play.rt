@@ -272,12 +272,16 @@ impl<F: Callback + Copy, H: Rule> Script<'_, F, H> {
             self.pending.as_slice(),
             output,
         );
-        self.pending.clear();
-        match outcome {
+        let told = match outcome {
             Ok(()) => Ok(()),
-            Err(LineFault::BadCommand) => Err(PlayFault::BadLine { line: self.lines }),
+            Err(LineFault::BadCommand) => {
+                output.keep(&mut self.pending);
+                Err(PlayFault::BadLine { line: self.lines })
+            }
             Err(LineFault::Device(fault)) => Err(PlayFault::Device(fault)),
-        }
+        };
+        self.pending.clear();
+        told
     }
 
     // Gives up the calls that are on their way.
