@@ -30,7 +30,7 @@ show:
 	@tools/try show $(EXAMPLE).toml
 
 play:
-	@tools/try play $(EXAMPLE).toml < $(EXAMPLE).script
+	@tools/try play $(EXAMPLE).toml --echo < $(EXAMPLE).script
 
 try-serve:
 	@tools/try serve $(EXAMPLE).toml $(SOCKET) --verbose --unlink
