@@ -272,16 +272,13 @@ impl<F: Callback + Copy, H: Rule> Script<'_, F, H> {
             self.pending.as_slice(),
             output,
         );
-        let told = match outcome {
-            Ok(()) => Ok(()),
-            Err(LineFault::BadCommand) => {
-                output.keep(&mut self.pending);
-                Err(PlayFault::BadLine { line: self.lines })
-            }
-            Err(LineFault::Device(fault)) => Err(PlayFault::Device(fault)),
-        };
+        keep_bad(&outcome, &mut self.pending, output);
         self.pending.clear();
-        told
+        match outcome {
+            Ok(()) => Ok(()),
+            Err(LineFault::BadCommand) => Err(PlayFault::BadLine { line: self.lines }),
+            Err(LineFault::Device(fault)) => Err(PlayFault::Device(fault)),
+        }
     }
 
     // Gives up the calls that are on their way.
@@ -294,6 +291,19 @@ impl<F: Callback + Copy, H: Rule> Script<'_, F, H> {
             alloc: _,
         } = self;
         drop(stage.end());
+    }
+}
+
+// Keeps the line at which a play ends, as it is no command.
+fn keep_bad<K: Sink>(
+    outcome: &Result<(), LineFault>,
+    line: &mut Vec<u8>,
+    output: &mut Output<K>,
+)
+    ensures sink { output.new.sink ≡ output.old.sink }
+{
+    if let Err(LineFault::BadCommand) = outcome {
+        output.keep(line);
     }
 }
 

@@ -39,8 +39,8 @@ returns-then-eq-2 c = record {
   rows = rows_of (found_of c.in_ok-name.inner.now);
   subcommand = subcommand_is c.args.matches.now (codes "play") (rows_of (found_of c.in_ok-name.inner.now))
       (sym c.in_ok-name.ensures.name ∙ ap (λ (n : List ℕ). Some n) (same_text c.in_ok-name.name.now (codes "play") c.eq-else-eq.result c.eq-else-eq.ensures c.if-eq-2.true)) (sym c.in_ok-name.ensures.rows);
-  source = rw c.playing_of.ensures.source c.in_ok-source.ensures;
-  more = c.playing_of.ensures.asks;
+  source = rw c.playing_of-playing.ensures.source c.in_ok-source.ensures;
+  more = c.playing_of-playing.ensures.asks;
 }
 
 pub returns-in_ok-serving : goal.returns-in_ok-serving
