@@ -16,10 +16,14 @@ abbrev pub alone : Items → Option Data
 alone (item d no_items) = Some d
 alone _ = None
 
+-- the one layer of the key that has them
+abbrev pub layer_in : List ℕ → Data → Option Data
+layer_in key value =
+    if bytes_eq key (codes "layer") then option_and_then alone (as_array value) else None
+
 -- THE LAYER OF A SAVED UPPER: the one item of `layer`, which is the only key
 abbrev pub layer_alone : Members → Option Data
-layer_alone (member key value no_members) =
-    if bytes_eq key (codes "layer") then option_and_then alone (as_array value) else None
+layer_alone (member key value no_members) = layer_in key value
 layer_alone _ = None
 
 -- members in the order of their keys, with this value at a key

@@ -295,11 +295,7 @@ impl<F: Callback + Copy, H: Rule> Script<'_, F, H> {
 }
 
 // Keeps the line at which a play ends, as it is no command.
-fn keep_bad<K: Sink>(
-    outcome: &Result<(), LineFault>,
-    line: &mut Vec<u8>,
-    output: &mut Output<K>,
-)
+fn keep_bad<K: Sink>(outcome: &Result<(), LineFault>, line: &mut Vec<u8>, output: &mut Output<K>)
     ensures sink { output.new.sink ≡ output.old.sink }
 {
     if let Err(LineFault::BadCommand) = outcome {
