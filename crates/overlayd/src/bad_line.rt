@@ -130,24 +130,34 @@ fn why_bad_call(alloc: Global, words: &[&str]) -> Result<String, AllocError> {
 
 // The form of a call with so many words, as it is told and as a good line has it.
 fn form_of(name: &str, count: usize) -> Option<(&'static str, &'static str)> {
-    CALLS.lines().filter_map(|form| form.split_once('|')).find(|form| is_named(form.0, name)
-        && form.0.split(' ').count() == count)
+    for line in CALLS.lines() {
+        let (told, good) = line.split_once('|').unwrap_or((line, ""));
+        if is_named(told, name) && words_in(told) == count {
+            return Some((told, good));
+        }
+    }
+    None
 }
 
 fn is_named(told: &str, name: &str) -> bool {
-    told.split(' ').next() == Some(name)
+    let (first, _) = told.split_once(' ').unwrap_or((told, ""));
+    first == name
 }
 
+fn words_in(told: &str) -> usize {
+    told.split(' ').count()
+}
+
+// A call of this name with other words than the line has, or none.
 fn no_form(alloc: Global, name: &str) -> Result<String, AllocError> {
-    let known = CALLS
-        .lines()
-        .filter_map(|form| form.split_once('|'))
-        .find(|form| is_named(form.0, name));
-    let name = Escaped(name.as_bytes());
-    match known {
-        Some((told, _)) => format!(in alloc; "{name}: its words are C {told}"),
-        None => format!(in alloc; "{name}: no such call; overlayd play --help has them all"),
+    let word = Escaped(name.as_bytes());
+    for line in CALLS.lines() {
+        let (told, _) = line.split_once('|').unwrap_or((line, ""));
+        if is_named(told, name) {
+            return format!(in alloc; "{word}: its words are C {told}");
+        }
     }
+    format!(in alloc; "{word}: no such call; overlayd play --help has them all")
 }
 
 // A line of a good call, with another word at a place.
@@ -162,15 +172,29 @@ fn with_word(alloc: Global, good: &str, place: usize, word: &str) -> Result<Stri
 
 // A word at a place of a call is none that may stand there.
 fn not_of_kind(alloc: Global, told: &str, place: usize, word: &str) -> Result<String, AllocError> {
-    let kind = told.split(' ').nth(place).unwrap_or("P");
-    let may_be = KINDS
-        .lines()
-        .filter_map(|line| line.split_once('|'))
-        .find(|line| line.0 == kind);
-    let what = match may_be {
-        Some((_, what)) => what,
-        None => TEXT,
-    };
+    let kind = kind_at(told, place);
+    let what = allowed_of(kind);
     let word = Escaped(word.as_bytes());
     format!(in alloc; "{word}: {kind} is {what}; the line is C {told}")
+}
+
+// The word at a place of a form.
+fn kind_at<'a>(told: &'a str, place: usize) -> &'a str {
+    for (at, kind) in told.split(' ').enumerate() {
+        if at == place {
+            return kind;
+        }
+    }
+    told
+}
+
+// What may stand for a word of this kind.
+fn allowed_of(kind: &str) -> &'static str {
+    for line in KINDS.lines() {
+        let (name, what) = line.split_once('|').unwrap_or((line, ""));
+        if name == kind {
+            return what;
+        }
+    }
+    TEXT
 }
