@@ -61,7 +61,18 @@ impl<K> Output<K> {
         ensures sink { result.sink ≡ self.sink }
         ensures text { result.text ≡ self.text }
     {
-        Output { echoes, ..self }
+        let Output {
+            sink,
+            text,
+            echoes: _,
+            refused,
+        } = self;
+        Output {
+            sink,
+            text,
+            echoes,
+            refused,
+        }
     }
 
     /// The line at which a play ended, as it was no command; empty where there was none.
@@ -95,10 +106,11 @@ struct Shown<'a>(&'a [u8]);
 impl fmt::Display for Shown<'_> {
     fn fmt<W: fmt::Write>(&self, f: &mut fmt::Formatter<W>) -> fmt::Result {
         for byte in self.0 {
-            if *byte >= b' ' && *byte < 0x7f {
-                f.write_char(*byte as char)?;
+            let byte = *byte;
+            if byte >= b' ' && byte < 0x7f {
+                let plain = byte as char;
+                write!(f, "{plain}")?;
             } else {
-                let byte = *byte;
                 write!(f, "\\x{byte:02x}")?;
             }
         }

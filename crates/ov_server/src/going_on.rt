@@ -1,5 +1,5 @@
 // A mount that goes on: a saved upper over the lower layers of a manifest.
-ghost use Rattle.std.specs.Prelude.{◌≡◌, ◌×◌, codes, Some, IfErr, IfOk, OnOk, option_map, string_bytes};
+ghost use Rattle.std.specs.Prelude.{◌≡◌, codes, Some, IfErr, IfOk, OnOk, option_map, string_bytes};
 ghost use Rattle.std.specs.Option.{option_and_then, unwrap_or};
 ghost use Rattle.toml.specs.Data.{Data, as_array, get_member, item, no_items};
 ghost use Rattle.toml.specs.View.{array_view, table_view, view};
@@ -124,9 +124,10 @@ fn array_in(alloc: Global, value: Option<Value>) -> Vec<Value>
 fn lowers_in(has_upper: bool, mut layers: Vec<Value>) -> Vec<Value>
     ensures { array_view result ≡ spec.lowers_in has_upper (array_view layers) }
 {
-    if has_upper && !layers.is_empty() {
-        drop(layers.remove(0));
+    if !has_upper || layers.is_empty() {
+        return layers;
     }
+    drop(layers.remove(0));
     layers
 }
 

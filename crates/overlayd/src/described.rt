@@ -51,7 +51,12 @@ fn read_own<R: Files + Input + AllocGlobal>(
     let left = limit - manifest.len() as u64;
     let table = match table_of(rt.alloc(), manifest.as_slice()) {
         Ok(table) => table,
-        Err(fault) => return Err(no_table(rt.alloc(), Fault::from(fault), path, &manifest)),
+        Err(fault) => return Err(no_table(
+            rt.alloc(),
+            Fault::from(fault),
+            path,
+            manifest.as_slice(),
+        )),
     };
     let blobs = read_blobs(rt, path, &table, left)?;
     Ok(Described { table, blobs })
@@ -80,7 +85,7 @@ fn read_upper<R: Files + AllocGlobal>(rt: &R, path: &str, limit: u64) -> Result<
     };
     match table_of(rt.alloc(), saved.as_slice()) {
         Ok(table) => Ok(table),
-        Err(fault) => Err(no_table(rt.alloc(), fault_of_upper(fault), path, &saved)),
+        Err(fault) => Err(no_table(rt.alloc(), fault_of_upper(fault), path, saved.as_slice())),
     }
 }
 
@@ -105,14 +110,14 @@ fn fault_of_upper(fault: ManifestFault) -> Fault {
 }
 
 // Bytes that are no TOML: in which line, and why.
-fn no_table(alloc: Global, fault: Fault, path: &str, bytes: &Vec<u8>) -> Failure {
-    let Err(error) = toml::table_from_slice(alloc, bytes.as_slice()) else {
+fn no_table(alloc: Global, fault: Fault, path: &str, bytes: &[u8]) -> Failure {
+    let Err(error) = toml::table_from_slice(alloc, bytes) else {
         return Failure::from(fault);
     };
     let Some(place) = error.span() else {
         return Failure::from(Fault::Memory);
     };
-    let line = line_of(bytes.as_slice(), place.start);
+    let line = line_of(bytes, place.start);
     let message = error.message();
     Failure::because(alloc, fault, format_args!("{path}, line {line}: {message}"))
 }
