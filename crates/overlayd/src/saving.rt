@@ -25,7 +25,7 @@ struct Part<F> {
 #[derive(Drop)]
 pub(crate) struct Saver<'a, R: Files> {
     rt: &'a R,
-    path: Option<&'a str>,
+    target: Option<&'a str>,
     pub(crate) outcome: Result<(), Failure>,
 }
 
@@ -39,7 +39,7 @@ impl<'a, R: Files + AllocGlobal + Eprint> Saver<'a, R> {
         }
         Ok(Saver {
             rt,
-            path: serving.save,
+            target: serving.save,
             outcome: Ok(()),
         })
     }
@@ -47,8 +47,8 @@ impl<'a, R: Files + AllocGlobal + Eprint> Saver<'a, R> {
 
 impl<R: Files + AllocGlobal + Eprint> Keeper for Saver<'_, R> {
     fn keep<F: Callback, H: Rule>(&mut self, core: &Core<F, H>) {
-        if let Some(path) = self.path.take() {
-            self.outcome = save(self.rt, path, core.layers());
+        if let Some(target) = self.target.take() {
+            self.outcome = save(self.rt, target, core.layers());
         }
     }
 }
