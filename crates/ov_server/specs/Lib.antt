@@ -7,7 +7,6 @@ pub mod Deeds
 pub mod Mounts
 pub mod Objects
 pub mod Plays
-pub mod ProgramHooks
 pub mod Rosters
 pub mod Scripts
 pub mod Stages

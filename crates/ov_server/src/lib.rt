@@ -10,7 +10,6 @@ mod history_length;
 mod object_lines;
 mod play;
 mod print_tree;
-mod program_hooks;
 mod quoted;
 mod saved_bytes;
 mod saved_entries;
