@@ -1,6 +1,6 @@
 # What can be made; `make` alone lists it.
 .PHONY: help show play try-serve build serve test test-serve test-memory test-clients install \
-    clean build-fuse test-fuse test-fuse-mounted try-fuse
+    clean build-fuse test-fuse test-fuse-mounted try-fuse lib test-c
 
 EXAMPLE := examples/change-layer
 SOCKET := out/overlay.socket
@@ -19,6 +19,8 @@ help:
 	@echo "make test-memory   tests that program with its requests for memory refused (needs cc)"
 	@echo "make test-clients  tests the Python tools, with that program where it is built"
 	@echo "make try-fuse DIR=DIRECTORY  mount a copy of a directory, until it is unmounted"
+	@echo "make lib           prove the C library and leave it at out/liboverlayd.a and .so.0 (needs cc)"
+	@echo "make test-c        tests that library, from C and from Python (needs cc)"
 	@echo "make build-fuse    build the bridge to FUSE and leave it at out/overlayd-fuse"
 	@echo "make test-fuse     tests it, without FUSE or root; on the program where it is built"
 	@echo "make test-fuse-mounted  tests it as root, with real programs beside the kernel's overlayfs"
@@ -80,9 +82,26 @@ install:
 	    "$(DESTDIR)$(PREFIX)/share/man/man1/overlayd-fuse.1"; \
 	fi
 
+	if test -f out/liboverlayd.a; then \
+	  install -D -m 644 clients/c/include/overlayd.h "$(DESTDIR)$(PREFIX)/include/overlayd.h" && \
+	  install -D -m 644 out/liboverlayd.a "$(DESTDIR)$(PREFIX)/lib/liboverlayd.a" && \
+	  install -D -m 755 out/liboverlayd.so.0 "$(DESTDIR)$(PREFIX)/lib/liboverlayd.so.0" && \
+	  ln -sf liboverlayd.so.0 "$(DESTDIR)$(PREFIX)/lib/liboverlayd.so" && \
+	  mkdir -p "$(DESTDIR)$(PREFIX)/lib/pkgconfig" && \
+	  sed 's|^prefix=.*|prefix=$(PREFIX)|' out/overlayd.pc \
+	    > "$(DESTDIR)$(PREFIX)/lib/pkgconfig/overlayd.pc"; \
+	fi
+
 clean:
 	rm -rf out crates/*/out clients/python/build clients/python/*.egg-info
 	find clients/python tools bench -name __pycache__ -prune -exec rm -rf {} +
+
+lib:
+	@tools/need-kit && tools/build-lib
+
+# The library is what make lib left. Without a C compiler that is told, and no fault.
+test-c:
+	@$(MAKE) --no-print-directory -C clients/c test
 
 try-fuse:
 	@tools/try-fuse $(DIR)

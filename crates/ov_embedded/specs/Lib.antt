@@ -1,0 +1,5 @@
+pub mod Attending
+pub mod Calling
+pub mod Holding
+pub mod Mounting
+pub mod Through
