@@ -12,7 +12,8 @@
 
 static uint8_t request[OVL_REQUEST_MOST], reply[OVL_REPLY_MOST], manifest[1 << 20], fault[200];
 
-/* Makes a call: an op, some bytes of fields, and a path text behind them. Its error number, or 0. */
+/* Makes a call: an op, some bytes of fields, and a path text behind them. Its error number, or 0.
+ * */
 static int call(ovl_mount *mount, uint64_t client, int op, const char *fields, size_t count,
                 const char *path)
 {
@@ -36,16 +37,16 @@ int main(int argc, char **argv)
 {
     FILE *file = argc == 2 ? fopen(argv[1], "rb") : NULL;
     size_t size = file ? fread(manifest, 1, sizeof manifest, file) : 0, length = 0, none = 0;
-    uint8_t keys[16];
+    uint8_t keys[16], nothing = 0;
     ovl_mount mount = OVL_NONE;
     uint64_t client = 0;
     if (!file || size == sizeof manifest || getrandom(keys, sizeof keys, 0) != sizeof keys) {
         fprintf(stderr, "usage: embed MANIFEST, of less than 1 MiB and without blobs\n");
         return 2;
     }
-    if (ovl_mount_manifest(&mount, manifest, size, fault, 0, &none, 0, keys, fault, sizeof fault,
-                           &length) != OVL_OK
-        || ovl_attach(&mount, &client) != OVL_OK) {
+    if (ovl_mount_manifest(&mount, manifest, size, &nothing, 0, &none, 0, keys, fault, sizeof fault,
+                           &length) != OVL_OK ||
+        ovl_attach(&mount, &client) != OVL_OK) {
         fprintf(stderr, "embed: %.*s\n", (int)length, (char *)fault);
         return 1;
     }

@@ -4,8 +4,8 @@
 //!     out/embed-rs examples/change-layer.toml
 //!
 //! What `overlayd.h` asks of a caller is what the types here give: a mount is owned, moved and
-//! dropped, `&mut self` is one call at a time, and slices bring their lengths. So `Mount` is `Send`,
-//! and threads share it by a `Mutex`.
+//! dropped, `&mut self` is one call at a time, and slices bring their lengths. So `Mount` is
+//! `Send`, and threads share it by a `Mutex`.
 
 use std::io::Read;
 

@@ -1,5 +1,5 @@
-/* The engine as a C library: every function, each status, and calls that must change nothing. What is
- * wanted is that of docs/FORMATS.md. */
+/* The engine as a C library: every function, each status, and calls that must change nothing. What
+ * is wanted is that of docs/FORMATS.md. */
 #include "frames.h"
 #include "tests.h"
 
@@ -35,7 +35,8 @@ static void first_example(void)
     CHECK(mount_text(&mount, EMPTY) == OVL_OK);
     CHECK(ovl_attach(&mount, &client) == OVL_OK && client == 0);
     CHECK(replies(&mount, 0, from_hex(STAT_ROOT), "00000022 00 0000000000000001" ROOT));
-    CHECK(replies(&mount, 0, from_hex("00000009 09 000001ed 0002 2f61"), "00000009 00 0000000000000002"));
+    CHECK(replies(&mount, 0, from_hex("00000009 09 000001ed 0002 2f61"),
+                  "00000009 00 0000000000000002"));
     CHECK(replies(&mount, 0, from_hex("00000005 01 0002 2f78"), "0000000a 01 0000000000000003 02"));
     CHECK(replies(&mount, 0, from_hex("00000004 01 0001 78"), "00000002 02 16"));
     CHECK(ovl_detach(&mount, 0, &place) == OVL_OK && place == 4);
@@ -48,7 +49,8 @@ static void second_example(void)
 {
     ovl_mount mount = OVL_NONE;
     uint64_t a = 99, b = 99, place = 99;
-    CHECK(mount_text(&mount, "layer = [{}, { entry = [{ path = \"/f\", kind = \"file\" }] }]") == OVL_OK);
+    CHECK(mount_text(&mount, "layer = [{}, { entry = [{ path = \"/f\", kind = \"file\" }] }]") ==
+          OVL_OK);
     CHECK(ovl_attach(&mount, &a) == OVL_OK && a == 0);
     CHECK(replies(&mount, a, from_hex("0000000a 17 00 00000018 0002 2f66"),
                   "0000000d 00 0000000000000001 00000001"));
@@ -82,9 +84,17 @@ static void nothing_mounted(void)
 /* Bytes that are no request of an attached client are answered by a status, and have no place. */
 static void refused_frames(void)
 {
-    static const char *const none[] = {"", "00", "000000", "00000004 01 0001", "00000000", "00011171",
-                                       "00000001 1b", "00000005 01 0001 2f 00", "00000004 01 0002 2f",
-                                       STAT_ROOT "00", STAT_ROOT STAT_ROOT};
+    static const char *const none[] = {"",
+                                       "00",
+                                       "000000",
+                                       "00000004 01 0001",
+                                       "00000000",
+                                       "00011171",
+                                       "00000001 1b",
+                                       "00000005 01 0001 2f 00",
+                                       "00000004 01 0002 2f",
+                                       STAT_ROOT "00",
+                                       STAT_ROOT STAT_ROOT};
     ovl_mount mount = OVL_NONE;
     uint64_t client;
     uint8_t reply[64] = "left alone";
@@ -93,13 +103,16 @@ static void refused_frames(void)
     for (size_t i = 0; i < sizeof none / sizeof *none; i++) {
         struct frame *frame = from_hex(none[i]);
         length = 9;
-        CHECK(ovl_call(&mount, client, frame->bytes, frame->length, reply, 64, &length) == OVL_NO_FRAME);
+        CHECK(ovl_call(&mount, client, frame->bytes, frame->length, reply, 64, &length) ==
+              OVL_NO_FRAME);
         CHECK(length == 0 && memcmp(reply, "left alone", 11) == 0);
     }
     struct frame *detach = from_hex("00000001 1a");
-    CHECK(ovl_call(&mount, client, detach->bytes, detach->length, reply, 64, &length) == OVL_DETACH);
+    CHECK(ovl_call(&mount, client, detach->bytes, detach->length, reply, 64, &length) ==
+          OVL_DETACH);
     struct frame *stat = from_hex(STAT_ROOT);
-    CHECK(ovl_call(&mount, client + 1, stat->bytes, stat->length, reply, 64, &length) == OVL_NO_CLIENT);
+    CHECK(ovl_call(&mount, client + 1, stat->bytes, stat->length, reply, 64, &length) ==
+          OVL_NO_CLIENT);
     CHECK(length == 0 && memcmp(reply, "left alone", 11) == 0);
     CHECK(replies(&mount, client, from_hex(STAT_ROOT), "00000022 00 0000000000000001" ROOT));
     ovl_unmount(&mount);
@@ -116,9 +129,11 @@ static void small_room(void)
     CHECK(mount_text(&mount, EMPTY) == OVL_OK && ovl_attach(&mount, &client) == OVL_OK);
     CHECK(ovl_reply(&mount, reply, 64, &length) == OVL_OK && length == 0);
     memset(reply, 0xee, 64);
-    CHECK(ovl_call(&mount, client, stat.bytes, stat.length, reply, 5, &length) == OVL_OK && length == 38);
+    CHECK(ovl_call(&mount, client, stat.bytes, stat.length, reply, 5, &length) == OVL_OK &&
+          length == 38);
     CHECK(memcmp(reply, from_hex("00000022 00 ee")->bytes, 6) == 0);
-    CHECK(ovl_call(&mount, client, stat.bytes, stat.length, reply, 0, &length) == OVL_OK && length == 38);
+    CHECK(ovl_call(&mount, client, stat.bytes, stat.length, reply, 0, &length) == OVL_OK &&
+          length == 38);
     CHECK(ovl_reply(&mount, reply, 64, &length) == OVL_OK && length == 38);
     CHECK(memcmp(reply, from_hex("00000022 00 0000000000000002" ROOT "eeee")->bytes, 40) == 0);
     CHECK(mount_text(&mount, EMPTY) == OVL_MOUNTED);
@@ -144,7 +159,9 @@ static void many_clients(void)
 /* Faults are told as the program tells them. */
 static void faults(void)
 {
-    static const struct { const char *manifest, *fault; } rows[] = {
+    static const struct {
+        const char *manifest, *fault;
+    } rows[] = {
         {"", "manifest: layers"},
         {"layer", "manifest: not TOML"},
         {"layer = [{}, {}]\nfoo = 1", "manifest: key"},
@@ -178,10 +195,14 @@ static void blobs(void)
     CHECK(ovl_mount_manifest(&mount, (const uint8_t *)manifest, strlen(manifest), bytes, 6,
                              (size_t[2]){3, 3}, 2, KEYS, (uint8_t *)text, 64, &length) == OVL_OK);
     CHECK(ovl_attach(&mount, &client) == OVL_OK);
-    CHECK(replies(&mount, client, request_of(11, "but", 0, 0, "/a"), "0000000d 00 0000000000000001 00000000"));
-    CHECK(replies(&mount, client, request_of(16, "uu", 0, 9), "0000000f 00 0000000000000002 00000002 6263"));
-    CHECK(replies(&mount, client, request_of(11, "but", 0, 0, "/b"), "0000000d 00 0000000000000003 00000001"));
-    CHECK(replies(&mount, client, request_of(16, "uu", 1, 9), "00000010 00 0000000000000004 00000003 78797a"));
+    CHECK(replies(&mount, client, request_of(11, "but", 0, 0, "/a"),
+                  "0000000d 00 0000000000000001 00000000"));
+    CHECK(replies(&mount, client, request_of(16, "uu", 0, 9),
+                  "0000000f 00 0000000000000002 00000002 6263"));
+    CHECK(replies(&mount, client, request_of(11, "but", 0, 0, "/b"),
+                  "0000000d 00 0000000000000003 00000001"));
+    CHECK(replies(&mount, client, request_of(16, "uu", 1, 9),
+                  "00000010 00 0000000000000004 00000003 78797a"));
     ovl_unmount(&mount);
     CHECK(told_fault(manifest, "abcxyz", (size_t[2]){3, 4}, 2, text, 64) == OVL_FAULT);
     CHECK(strcmp(text, "cannot read blob 1") == 0);
@@ -189,7 +210,11 @@ static void blobs(void)
     CHECK(told_fault(manifest, "abcxyz", (size_t[2]){(size_t)-1, 7}, 2, text, 64) == OVL_FAULT);
     CHECK(strcmp(text, "cannot read blob 0") == 0);
     CHECK(told_fault(manifest, "abc", (size_t[1]){3}, 1, text, 64) == OVL_FAULT);
-    CHECK(strcmp(text, "layer 1 entry 1: value") == 0);
+    CHECK(strcmp(text, "cannot read blob 1") == 0);
+    CHECK(told_fault(manifest, "abcxyz", (size_t[3]){3, 2, 1}, 3, text, 64) == OVL_FAULT);
+    CHECK(strcmp(text, "cannot read blob 2") == 0);
+    CHECK(told_fault(manifest, "ab", (size_t[2]){2, 0}, 2, text, 64) == OVL_FAULT);
+    CHECK(strcmp(text, "layer 1 entry 0: value") == 0);
 }
 
 /* Bytes that nobody meant: each is a status, and the mount shows what it showed. */
@@ -215,7 +240,8 @@ static void hostile_frames(long rounds)
         if (status == OVL_OK ? length < 6 || length > sizeof reply : length != 0)
             CHECK(!"a length of a reply");
     }
-    CHECK(ovl_call(&mount, client, request_of(1, "t", "/f")->bytes, 9, reply, 64, &(size_t){0}) == OVL_OK);
+    CHECK(ovl_call(&mount, client, request_of(1, "t", "/f")->bytes, 9, reply, 64, &(size_t){0}) ==
+          OVL_OK);
     CHECK(reply[4] == 0 && reply[13] == 2);
     ovl_unmount(&mount);
 }

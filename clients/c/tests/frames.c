@@ -95,8 +95,8 @@ int32_t mount_text(ovl_mount *mount, const char *manifest)
     static const uint8_t keys[16] = "not to be known";
     uint8_t nothing = 0, fault[200];
     size_t none = 0, length = 0;
-    return ovl_mount_manifest(mount, (const uint8_t *)manifest, strlen(manifest), &nothing, 0, &none,
-                              0, keys, fault, sizeof fault, &length);
+    return ovl_mount_manifest(mount, (const uint8_t *)manifest, strlen(manifest), &nothing, 0,
+                              &none, 0, keys, fault, sizeof fault, &length);
 }
 
 uint32_t next_random(void)

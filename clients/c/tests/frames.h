@@ -1,4 +1,5 @@
-/* Requests from hexadecimal text, as docs/FORMATS.md shows them, and checks that say where they are. */
+/* Requests from hexadecimal text, as docs/FORMATS.md shows them, and checks that say where they
+ * are. */
 #ifndef FRAMES_H
 #define FRAMES_H
 

@@ -1,5 +1,5 @@
-/* Each request for memory refused in turn: a status, and nothing lost; and memory that doesn't grow.
- * The library's requests are counted where the linker wraps malloc, realloc and free. */
+/* Each request for memory refused in turn: a status, and nothing lost; and memory that doesn't
+ * grow. The library's requests are counted where the linker wraps malloc, realloc and free. */
 #include "frames.h"
 #include "tests.h"
 
@@ -43,7 +43,8 @@ static const char layers[] =
 
 static uint8_t reply[OVL_REPLY_MOST];
 
-/* A call's status in its reply, and its error number where there is one; -1 where there is no reply. */
+/* A call's status in its reply, and its error number where there is one; -1 where there is no
+ * reply. */
 static int asked_for(ovl_mount *mount, uint64_t client, struct frame *request, int *error)
 {
     size_t length;
@@ -63,7 +64,7 @@ static int session(long number)
     asked = 0;
     refused_at = number;
     int32_t status = mount_text(&mount, layers);
-    CHECK(status == OVL_OK || status == OVL_NO_MEMORY || status == OVL_FAULT);
+    CHECK(status == OVL_OK || status == OVL_NO_MEMORY);
     CHECK((status == OVL_OK) == (mount.at != NULL));
     if (status == OVL_OK) {
         status = ovl_attach(&mount, &client);

@@ -72,6 +72,7 @@ class Mount:
         self._library = _loaded(library)
         self._lock = threading.Lock()
         self._handle = _Handle()
+        self._room = ctypes.create_string_buffer(_REPLY_MOST)
         text = manifest.encode() if isinstance(manifest, str) else bytes(manifest)
         lengths = (ctypes.c_size_t * max(1, len(blobs)))(*map(len, blobs))
         joined, fault = b"".join(blobs), ctypes.create_string_buffer(_TEXT_MOST)
@@ -114,14 +115,13 @@ class Mount:
         """The frame of the reply to a client's request; None where there can be none."""
         if frame == _DETACH:
             return self._detached(client)
-        room = ctypes.create_string_buffer(_REPLY_MOST)
         length = ctypes.c_size_t()
         with self._lock:
             status = self._library.ovl_call(
-                self._handle, client, frame, len(frame), room, _REPLY_MOST, length)
-        if status == _NO_MEMORY:
-            return _NOT_TAKEN
-        return ctypes.string_at(room, length.value) if status == _OK else None
+                self._handle, client, frame, len(frame), self._room, _REPLY_MOST, length)
+            if status == _OK:
+                return ctypes.string_at(self._room, length.value)
+        return _NOT_TAKEN if status == _NO_MEMORY else None
 
     def _detached(self, client: int) -> Optional[bytes]:
         place = ctypes.c_uint64()

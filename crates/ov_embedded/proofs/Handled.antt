@@ -4,7 +4,8 @@ use Rattle.std.specs.declared.option.Option.TheVariants.{None, Some}
 use Rattle.ov_embedded.specs.Through.{Through}
 use Rattle.ov_embedded.specs.declared.mounted.Mounted.{Mounted}
 
-module _ {R : Type 0} (none : R) (Does : Mounted → Mounted → R → Type 0) (old new : Option Mounted) where
+module _ {R : Type 0} (none : R) (Does : Mounted → Mounted → R → Type 0)
+    (old new : Option Mounted) where
   -- the mount that a handle held, to which this was done, and which it holds again
   pub through_some : (was now after kept : Mounted) (result : R) → old ≡ Some was → now ≡ was →
       Does now after result → kept ≡ after → new ≡ Some kept → Through none Does old new result

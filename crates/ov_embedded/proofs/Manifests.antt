@@ -16,7 +16,8 @@ use Rattle.ov_embedded.specs.Mounting.{IsMountOf, IsMounted, IsUnmountable, laye
 pub told_fault : (blobs : List (List ℕ)) (m : Members) (f : ManifestFault) →
     IsTold (fault_of (manifest_of blobs m)) f → IsUnmountable blobs m (of_manifest f)
 told_fault blobs m f =
-    elim f as (λ x. IsTold (fault_of (manifest_of blobs m)) x → IsUnmountable blobs m (of_manifest x)) [
+    elim f as (λ x.
+    IsTold (fault_of (manifest_of blobs m)) x → IsUnmountable blobs m (of_manifest x)) [
       | manifest.Memory e ↦ λ told. tt
       | _ ↦ λ told. told
     ]

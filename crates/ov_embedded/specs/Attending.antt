@@ -11,7 +11,8 @@ use Rattle.ov_embedded.specs.declared.mounted.Mounted.{Mounted}
 use Rattle.ov_embedded.specs.declared.outcome.Outcome.{Outcome}
 use Rattle.ov_embedded.specs.declared.outcome.Outcome.TheVariants as outcome
 
--- why nobody is attached: 64 clients are, or so much was done that nothing more is, or memory ran out
+-- why nobody is attached: 64 clients are, or so much was done that nothing more is, or memory ran
+-- out
 abbrev pub IsUnattached : {F G : Type 0} {asks : Callback F} {rule : Rule G} →
     Core F G asks rule → Outcome → Type 0
 IsUnattached core outcome.Full = 64 ≤ client_count core

@@ -30,8 +30,8 @@ abbrev pub layers_told : Bool → Layers → List Layer
 layers_told upper l = cond upper (layer_of l.upper ∷ lowers_of l) (lowers_of l)
 
 -- THE MOUNT OF A MANIFEST whose blobs have these bytes: its layers hold what the entries say, its
--- options are those that are told, it may be written to where there is an upper, and nothing was done
--- on it
+-- options are those that are told, it may be written to where there is an upper, and nothing was
+-- done on it
 pub record IsMountOf {F G : Type 0} {asks : Callback F} {rule : Rule G} (blobs : List (List ℕ))
     (m : Members) (core : Core F G asks rule) : Type 0 where
   pub options : manifest_of blobs m ≡ Ok (core_options core)

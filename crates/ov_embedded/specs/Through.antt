@@ -3,8 +3,8 @@ use Rattle.std.specs.Prelude.{◌≡◌, Option}
 use Rattle.std.specs.declared.option.Option.TheVariants.{None, Some}
 use Rattle.ov_embedded.specs.declared.mounted.Mounted.{Mounted}
 
--- A HANDLE HOLDS ITS MOUNT STILL, to which this was done; where it holds none it holds none, and this
--- is answered
+-- A HANDLE HOLDS ITS MOUNT STILL, to which this was done; where it holds none it holds none, and
+-- this is answered
 abbrev pub Through : {R : Type 0} → R → (Mounted → Mounted → R → Type 0) →
     Option Mounted → Option Mounted → R → Type 0
 Through none Does None new result = (new ≡ None) × (result ≡ none)

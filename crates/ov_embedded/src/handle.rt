@@ -49,7 +49,7 @@ impl Handle {
 
     // What was a box, if there is one.
     fn into_unboxed(self) -> Option<Unboxed<Mounted, Global>>
-        ensures { MatchOption result (self.mounted ≡ None) (λ mounted. self.mounted ≡ Some mounted.value) }
+        ensures { MatchOption result (self.mounted ≡ None) (λ it. self.mounted ≡ Some it.value) }
     {
         let Handle { at, alloc } = self;
         if at.is_null() {
@@ -71,7 +71,7 @@ impl Handle {
 
     /// The mount, if there is one.
     fn into_box(self) -> Option<Box<Mounted>>
-        ensures { MatchOption result (self.mounted ≡ None) (λ mounted. self.mounted ≡ Some mounted.value) }
+        ensures { MatchOption result (self.mounted ≡ None) (λ it. self.mounted ≡ Some it.value) }
     {
         match self.into_unboxed() {
             Some(mounted) => Some(mounted.into_box()),
@@ -82,7 +82,8 @@ impl Handle {
     /// The mount of a handle, which has none then.
     pub(crate) fn take(&mut self, alloc: Global) -> Option<Box<Mounted>>
         ensures gone { self.new.mounted ≡ None }
-        ensures mounted { MatchOption result (self.old.mounted ≡ None) (λ mounted. self.old.mounted ≡ Some mounted.value) }
+        ensures mounted { MatchOption result (self.old.mounted ≡ None)
+            (λ it. self.old.mounted ≡ Some it.value) }
     {
         mem::replace(self, Handle::empty(alloc)).into_box()
     }

@@ -7,7 +7,7 @@ ghost use Rattle.ov_embedded.specs.Mounting.{IsMountOf, IsMounted, IsRefusal, Is
 use crate::mounted::Mounted;
 use crate::outcome::Outcome;
 use ov_base::Bytes;
-use ov_wire::{ManifestFault, layers_of, table_of};
+use ov_wire::{ManifestFault, blobs_of, layers_of, table_of};
 use overlay_core::{Core, Unmounted};
 use program_hooks::{ByTag, ProgramRule};
 use std::alloc::{AllocError, AllocFailed, Global};
@@ -19,17 +19,26 @@ use toml::Table;
 pub(crate) enum Unmountable {
     /// The manifest is at fault.
     Manifest(ManifestFault),
-    /// There are fewer bytes than this blob's, counted from 0, or more than those of so many.
+    /// The bytes are not those of the blobs that the manifest names: this one, counted from 0,
+    /// lacks some, or they are more than those of so many.
     Blob(usize),
     /// What the manifest tells is no mount.
     Layers,
     Memory,
 }
 
-// The parts of some bytes that have these lengths, which are all of them.
-fn blobs_in(alloc: Global, bytes: &[u8], lengths: &[usize]) -> Result<Vec<Bytes>, Unmountable>
+// The parts of some bytes that have these lengths, which are all of them, and are to be so many.
+fn blobs_in(
+    alloc: Global,
+    bytes: &[u8],
+    lengths: &[usize],
+    count: usize,
+) -> Result<Vec<Bytes>, Unmountable>
     ensures { IfOk result (λ blobs. blobs.items ≡ pieces_of lengths.now bytes.now) }
 {
+    if lengths.len() != count {
+        return Err(Unmountable::Blob(count.min(lengths.len())));
+    }
     let mut blobs = Vec::with_capacity(alloc, lengths.len())?;
     let mut rest = bytes;
     for length in lengths {
@@ -67,8 +76,8 @@ fn core_of(
 
 impl Mounted {
     #[tactic(auto, using(crate::proofs::Manifests::mounted_of))]
-    /// The mount of a manifest, without a client. The bytes of its blobs stand one behind the other,
-    /// and have these lengths.
+    /// The mount of a manifest, without a client. The bytes of its blobs stand one behind the
+    /// other, and have these lengths.
     pub(crate) fn new(
         alloc: Global,
         keys: RandomState,
@@ -78,8 +87,9 @@ impl Mounted {
     ) -> Result<Mounted, Unmountable>
         ensures { IfOk result (λ m. IsMounted manifest.now blobs.now lengths.now m.core) }
     {
-        let blobs = blobs_in(alloc, blobs, lengths)?;
         let table = table_of(alloc, manifest)?;
+        let count = blobs_of(alloc, &table)?.len();
+        let blobs = blobs_in(alloc, blobs, lengths, count)?;
         let core = core_of(alloc, keys, &table, blobs.as_slice())?;
         Ok(Mounted {
             core,

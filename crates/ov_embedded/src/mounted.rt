@@ -16,8 +16,8 @@ use std::alloc::Global;
 /// counted.
 pub(crate) const FINISHED_MAX: u64 = 1 << 62;
 
-/// A mount whose clients come with the program's hooks, and the frame of the last answer. It keeps no
-/// history, and answers calls without end.
+/// A mount whose clients come with the program's hooks, and the frame of the last answer. It keeps
+/// no history, and answers calls without end.
 #[derive(Drop)]
 pub struct Mounted {
     pub(crate) core: Core<ByTag, ProgramRule>,

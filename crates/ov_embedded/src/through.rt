@@ -42,9 +42,9 @@ fn told(alloc: Global, why: &Unmountable, room: &mut [u8]) -> (Outcome, usize)
     }
 }
 
-/// Mounts what a manifest tells, whose blobs' bytes stand one behind the other and have these lengths;
-/// directories hash names by these keys. Where it is at fault a text of that goes into some room, as
-/// far as that goes, and its length is told. A handle that holds a mount keeps it.
+/// Mounts what a manifest tells, whose blobs' bytes stand one behind the other and have these
+/// lengths; directories hash names by these keys. Where it is at fault a text of that goes into
+/// some room, as far as that goes, and its length is told. A handle that holds a mount keeps it.
 pub fn mount_through(
     alloc: Global,
     handle: &mut Handle,
@@ -79,7 +79,8 @@ pub fn unmount_through(alloc: Global, handle: &mut Handle)
 
 /// Attaches a client with the program's hooks, and gives its number.
 pub fn attach_through(alloc: Global, handle: &mut Handle) -> Result<u64, Outcome>
-    ensures { Through (Err outcome.NotMounted) Attends handle.old.mounted handle.new.mounted result }
+    ensures { Through (Err outcome.NotMounted) Attends handle.old.mounted handle.new.mounted
+        result }
 {
     let Some(mut mounted) = handle.take(alloc) else {
         return Err(Outcome::NotMounted);
@@ -102,8 +103,8 @@ pub fn detach_through(alloc: Global, handle: &mut Handle, client: u64) -> Result
     detached
 }
 
-/// Makes a call on what a handle holds, and copies the frame of the answer into some room, as far as
-/// that goes. Its length is told in any case.
+/// Makes a call on what a handle holds, and copies the frame of the answer into some room, as far
+/// as that goes. Its length is told in any case.
 pub fn call_through(
     alloc: Global,
     handle: &mut Handle,
@@ -124,9 +125,11 @@ pub fn call_through(
     (outcome, length)
 }
 
-/// Copies the frame of the last answer into some room once more; there is none before the first call.
+/// Copies the frame of the last answer into some room once more; there is none before the first
+/// call.
 pub fn reply_through(alloc: Global, handle: &mut Handle, room: &mut [u8]) -> (Outcome, usize)
-    ensures same { Through outcome.NotMounted IsAgain handle.old.mounted handle.new.mounted result.0 }
+    ensures same { Through outcome.NotMounted IsAgain handle.old.mounted handle.new.mounted
+        result.0 }
     ensures shown { IsShown result.0 handle.new.mounted room.old room.new result.1 }
 {
     let Some(mounted) = handle.take(alloc) else {

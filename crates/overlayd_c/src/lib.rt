@@ -1,5 +1,5 @@
-//! The engine for C: one function for each call of `overlayd.h`, each of which does what the function
-//! of `ov_embedded` that it calls promises.
+//! The engine for C: one function for each call of `overlayd.h`, each of which does what the
+//! function of `ov_embedded` that it calls promises.
 #![tactic(auto)]
 
 use ov_embedded::{
@@ -45,8 +45,8 @@ pub extern "C" fn ovl_version() -> u32 {
     VERSION
 }
 
-/// Mounts what a manifest tells, whose blobs' bytes stand one behind the other and have these lengths.
-/// The text of a fault goes into the room, as far as that goes, and its length is told.
+/// Mounts what a manifest tells, whose blobs' bytes stand one behind the other and have these
+/// lengths. The text of a fault goes into the room, as far as that goes, and its length is told.
 #[unsafe(no_mangle)]
 pub extern "C" fn ovl_mount_manifest(
     alloc: Global,
@@ -86,8 +86,8 @@ pub extern "C" fn ovl_detach(
     told(detach_through(alloc, mount, client), place)
 }
 
-/// Makes the call of a client that the frame of a request asks for. The frame of the answer goes into
-/// the room, as far as that goes, and its length is told.
+/// Makes the call of a client that the frame of a request asks for. The frame of the answer goes
+/// into the room, as far as that goes, and its length is told.
 #[unsafe(no_mangle)]
 pub extern "C" fn ovl_call(
     alloc: Global,
