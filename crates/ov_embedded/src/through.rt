@@ -42,6 +42,7 @@ fn told(alloc: Global, why: &Unmountable, room: &mut [u8]) -> (Outcome, usize)
     }
 }
 
+#[tactic(auto, using(crate::proofs::Handled::mounts_kept, crate::proofs::Handled::mounts_made, crate::proofs::Handled::mounts_nothing))]
 /// Mounts what a manifest tells, whose blobs' bytes stand one behind the other and have these
 /// lengths; directories hash names by these keys. Where it is at fault a text of that goes into
 /// some room, as far as that goes, and its length is told. A handle that holds a mount keeps it.
@@ -103,6 +104,7 @@ pub fn detach_through(alloc: Global, handle: &mut Handle, client: u64) -> Result
     detached
 }
 
+#[tactic(auto, using(crate::proofs::Handled::shown_some, crate::proofs::Handled::shown_none))]
 /// Makes a call on what a handle holds, and copies the frame of the answer into some room, as far
 /// as that goes. Its length is told in any case.
 pub fn call_through(
@@ -125,6 +127,7 @@ pub fn call_through(
     (outcome, length)
 }
 
+#[tactic(auto, using(crate::proofs::Handled::shown_some, crate::proofs::Handled::shown_none))]
 /// Copies the frame of the last answer into some room once more; there is none before the first
 /// call.
 pub fn reply_through(alloc: Global, handle: &mut Handle, room: &mut [u8]) -> (Outcome, usize)
