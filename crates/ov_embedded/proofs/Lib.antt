@@ -5,3 +5,4 @@ pub mod Copies
 pub mod Handled
 pub mod Held
 pub mod Manifests
+pub mod Pieces

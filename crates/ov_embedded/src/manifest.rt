@@ -27,6 +27,7 @@ pub(crate) enum Unmountable {
     Memory,
 }
 
+#[tactic(auto, using(crate::proofs::Pieces::pieces_more, crate::proofs::Pieces::pieces_all))]
 // The parts of some bytes that have these lengths, which are all of them, and are to be so many.
 fn blobs_in(
     alloc: Global,

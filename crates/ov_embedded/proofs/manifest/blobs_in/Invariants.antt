@@ -5,5 +5,5 @@ use Rattle.ov_embedded.proofs.manifest.blobs_in.Given as goal
 -- what is taken, with the parts that the rest is to give, are those of all
 abbrev pub invariant-loop-length : goal.invariant-loop-length
 invariant-loop-length l =
-    l.blobs.items ++ pieces_of (drop l.length-index l.length-items) l.rest.now
-    ≡ pieces_of l.args.lengths.now l.args.bytes.now
+    l.blobs.items ++ pieces_of (drop l.length-index l.lengths) l.rest
+    ≡ pieces_of l.lengths l.bytes
