@@ -5,6 +5,7 @@ pub mod Raising
 pub mod Keeping
 pub mod Needing
 pub mod Copying
+pub mod Texts
 pub mod OtherAttributes
 pub mod OwnBytes
 pub mod OwnAttributes

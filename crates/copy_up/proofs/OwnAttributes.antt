@@ -1,5 +1,6 @@
 -- Other attributes of an object of the upper that is shown, changed where they stand.
 use Rattle.std.proofs.Common.{◌≡◌, ◌⊎◌, ℕ, Bool, true, false, List, [], ◌∷◌, slice_get, Ok, Err, IfOk, Option, None, Some, IsSome, Result, OnOk, refl, ap, ◌∙◌, sym, subst, inl, inr, arith}
+use Rattle.std.specs.Prelude.{option_map}
 use Rattle.std.specs.declared.alloc.AllocError.{AllocError}
 use Rattle.slab.specs.Slab.{get}
 use Rattle.ov_base.specs.AttributeChanges.{changed}
@@ -25,9 +26,11 @@ use Rattle.merged_lookup.proofs.Filled.{inode-filled}
 use Rattle.merged_lookup.proofs.Folders.{held-node}
 use Rattle.copy_up.specs.Altering.{AltersObject, AltersAs, AltersObjectAs}
 use Rattle.copy_up.specs.Showing.{number_of, StaysThin}
+use Rattle.copy_up.specs.Texts.{KeepsTexts}
 use Rattle.copy_up.proofs.AlteredObjects.{object-inode, object-directory}
 use Rattle.copy_up.proofs.Frames.{gains-self}
 use Rattle.copy_up.proofs.Nodes.{table-some}
+use Rattle.copy_up.proofs.Texts.{mark_of, marks-but, marks-same}
 use Rattle.merged_lookup.proofs.Inodes.{IsNamed, inode-stands-in}
 use Rattle.copy_up.proofs.OtherAttributes.{StandsAt, under-key, shown-from, raw-named, inode-there, shown-folder, shown-inode, thin-directory, thin-inode, alters-directory, alters-inode}
 
@@ -112,6 +115,14 @@ module _ (old new : Layers) (p : Path) (d : Place) (low : new.lowers ≡ old.low
   pub own-thin : IsOwn old p d → StaysThin old new
   own-thin (inl o) = thin-directory old new low p d.key (changed x o.attributes) (sets-directory o)
   own-thin (inr o) = thin-inode old new low d.key (changed x o.inode.attributes) (sets-inode o)
+
+  -- gains no mark
+  pub own-texts : (m : Option Path) → IsOwn old p d → KeepsTexts old new m
+  own-texts m (inl o) = marks-same (layer_of old.upper) (layer_of new.upper) (option_map (below (layer_of old.upper)) m) (sets-directory o).inodes
+  own-texts m (inr o) =
+      let s = sets-inode o in
+      marks-but (layer_of old.upper) (layer_of new.upper) (option_map (below (layer_of old.upper)) m) d.key s.inodes
+      (λ q is. inl (ap mark_of s.before ∙ sym (ap mark_of s.now) ∙ is))
 
   -- shows the changed attributes
   pub own-alters : (marked : Bool) → (IsLayer (layer_of old.upper) → IsLayer (layer_of new.upper)) → IsOwn old p d → AltersAs old new marked p x

@@ -12,6 +12,7 @@ ghost use Rattle.merged_lookup.specs.Merged.{upper_of, layers_of, lowers_of, par
 ghost use Rattle.copy_up.specs.Showing.{number_of, ShowsSame, ChangesNoSight, GainsParents, Stays, StaysSound};
 ghost use Rattle.copy_up.specs.Leaves.{CopiesLeaf, copy_mark};
 ghost use Rattle.copy_up.specs.Altering.{AltersObject, AltersAs, AltersObjectAs};
+ghost use Rattle.copy_up.specs.Texts.{KeepsTexts};
 
 use crate::leaves::{all_at_once, mark_of, place_meta};
 use crate::parents::{place_parent, place_parents, placed_or};
@@ -41,6 +42,7 @@ pub fn alter(
     ensures key { IfOk result (λ key.
         number_of (held (layer_of layers.new.upper) path.now) ≡ Some key) }
     ensures lowers { layers.new.lowers ≡ layers.old.lowers }
+    ensures texts { KeepsTexts layers.old layers.new (Some path.now) }
     ensures nameless { (k : ℕ) → IsNameless layers.old.upper k → IsNameless layers.new.upper k }
     ensures no_memory { OnErr result
         (ChangesNoSight layers.old layers.new (GainsParents layers.old layers.new path.now)) }
@@ -78,6 +80,7 @@ fn place_changed(
     ensures key { IfOk result (λ key.
         number_of (held (layer_of layers.new.upper) path.now) ≡ Some key) }
     ensures lowers { layers.new.lowers ≡ layers.old.lowers }
+    ensures texts { OnOk result (KeepsTexts layers.old layers.new (Some path.now)) }
     ensures nameless { (k : ℕ) → IsNameless layers.old.upper k → IsNameless layers.new.upper k }
     ensures no_memory { OnErr result
         (ChangesNoSight layers.old layers.new (GainsParents layers.old layers.new path.now)) }
@@ -120,6 +123,7 @@ fn place_with(
     ensures key { IfOk result (λ key.
         number_of (held (layer_of layers.new.upper) path.now) ≡ Some key) }
     ensures lowers { layers.new.lowers ≡ layers.old.lowers }
+    ensures texts { OnOk result (KeepsTexts layers.old layers.new (Some path.now)) }
     ensures nameless { (k : ℕ) → IsNameless layers.old.upper k → IsNameless layers.new.upper k }
     ensures no_memory { OnErr result
         (ChangesNoSight layers.old layers.new (GainsParents layers.old layers.new path.now)) }
@@ -172,6 +176,7 @@ fn copy_changed(
     ensures key { IfOk result (λ key.
         number_of (held (layer_of layers.new.upper) path.now) ≡ Some key) }
     ensures lowers { layers.new.lowers ≡ layers.old.lowers }
+    ensures texts { OnOk result (KeepsTexts layers.old layers.new (Some path.now)) }
     ensures nameless { (k : ℕ) → IsNameless layers.old.upper k → IsNameless layers.new.upper k }
     ensures no_memory { OnErr result
         (ChangesNoSight layers.old layers.new (GainsParents layers.old layers.new path.now)) }

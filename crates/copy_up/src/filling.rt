@@ -9,6 +9,7 @@ ghost use Rattle.layer_tree.specs.Tree.{layer_of, bytes_at, own_at, mark_at, Sam
 ghost use Rattle.merged_lookup.specs.Marking.{file_place};
 ghost use Rattle.merged_lookup.specs.Merged.{upper_of, lowers_of};
 ghost use Rattle.copy_up.specs.Showing.{StaysSound};
+ghost use Rattle.copy_up.specs.Texts.{KeepsTexts};
 
 use layer_tree::{Layer, Node};
 use merged_lookup::{Layers, Place};
@@ -27,6 +28,7 @@ pub fn fill(layers: &mut Layers, key: usize, source: Option<Place>) -> Result<()
         (upper_of layers.old).inodes key ≡ Some i → i.content ≡ File b →
         ChangesFile (upper_of layers.old) (upper_of layers.new) key b None) }
     ensures own { OnOk result (IsSome (own_at layers.new.upper key)) }
+    ensures texts { KeepsTexts layers.old layers.new None }
     ensures lowers { layers.new.lowers ≡ layers.old.lowers }
     ensures objects { SameObjects (layer_of layers.old.upper) (layer_of layers.new.upper) }
     ensures nameless { (k : ℕ) → IsNameless layers.old.upper k → IsNameless layers.new.upper k }

@@ -1,8 +1,9 @@
 // Freeing what has no name any more.
-ghost use Rattle.std.specs.Prelude.{◌≢◌, ℕ};
+ghost use Rattle.std.specs.Prelude.{◌≢◌, ℕ, None};
 ghost use Rattle.layer_tree.specs.Tree.{layer_of, Frees, SameObjects};
 ghost use Rattle.layer_tree.specs.Nameless.{IsNameless};
 ghost use Rattle.copy_up.specs.Showing.{ShowsSame, StaysMount, StaysSound};
+ghost use Rattle.copy_up.specs.Texts.{KeepsTexts};
 
 use merged_lookup::Layers;
 
@@ -14,6 +15,7 @@ pub fn free(layers: &mut Layers, key: usize)
     ensures same { ShowsSame layers.old layers.new }
     ensures mounts { StaysMount layers.old layers.new }
     ensures sound { StaysSound layers.old layers.new }
+    ensures texts { KeepsTexts layers.old layers.new None }
     ensures nameless { (k : ℕ) → k ≢ key → IsNameless layers.old.upper k →
         IsNameless layers.new.upper k }
 {

@@ -23,10 +23,10 @@ alter-made m new p x (Ok (Ok key)) y c =
     makes-done c (call_at p x) m new
     (λ s st. altered-done m s st new c p x key y)
     (λ s st fine. keeps-named m.layers new m.metacopy (call_at p x) y.live s st.layers st.metacopy c)
-    (layers-asked m.layers new p x y.around) y.lowers y.sound.thin
+    (layers-asked m.layers new p x y.around y.texts) y.lowers y.sound.thin
 alter-made m new p x (Ok (Err e)) y c =
     makes-unmade c (call_at p x) m new e (λ s. ap is_refused (answers-asked s c p x))
     (λ s st. refusal-asked (the_upper m) (the_lowers m) s st.layers c p x ∙ y.refused) y.unchanged
 alter-made m new p x (Err e) y c =
     makes-unshown c (call_at p x) m new (Err e) refl y.no_memory.mount y.no_memory.beneath
-    (layers-asked m.layers new p x y.around) y.lowers y.sound.thin
+    (layers-asked m.layers new p x y.around y.texts) y.lowers y.sound.thin

@@ -22,7 +22,9 @@ use Rattle.mount_laws.specs.Altered.{Alters, AltersState}
 use Rattle.mount_laws.specs.StayOpen.{AltersNamed}
 use Rattle.copy_up.specs.Altering.{AltersAs, AltersObjectAs}
 use Rattle.copy_up.specs.Showing.{number_of, ChangesNoSight, GainsParents, StaysSound}
+use Rattle.copy_up.specs.Texts.{KeepsTexts}
 use Rattle.copy_up.proofs.Frames.{gains-self}
+use Rattle.copy_up.proofs.Texts.{texts-gained}
 use Rattle.copy_up.proofs.Keeping.{lowers-same, same-self, sound-self}
 use Rattle.mount_calls.specs.declared.attribute_changes.AttributeCall.{AttributeCall}
 use Rattle.mount_calls.specs.Altering.{AltersUnless, IsOpenTo, IsTarget, ShowsAttributes}
@@ -54,8 +56,8 @@ module _
       l
 
   -- ends so with the attributes that the call gives
-  pub alters-done : IsTree old.upper → AltersObjectAs old new p made → (key : ℕ) → number_of (held (upper_of new) p) ≡ Some key → AltersUnless x old new metacopy p (Ok (Ok key))
-  alters-done tree object key there = record {
+  pub alters-done : IsTree old.upper → AltersObjectAs old new p made → (key : ℕ) → number_of (held (upper_of new) p) ≡ Some key → KeepsTexts old new (Some p) → AltersUnless x old new metacopy p (Ok (Ok key))
+  alters-done tree object key there texts = record {
     refused = tt;
     unchanged = tt;
     allowed = h.allowed;
@@ -63,6 +65,7 @@ module _
     key = there;
     lowers = low;
     around = around-paths old new p (object h.attributes h.shown).paths;
+    texts = texts;
     live = live-altered tree object;
     no_memory = tt;
     sound = sound;
@@ -81,6 +84,7 @@ alters-wanted x old new metacopy p (Err e) wrong kept sound = record {
   key = tt;
   lowers = kept.beneath.lowers;
   around = around-parents old new p kept.beneath;
+  texts = texts-gained old new p (Some p) kept.beneath;
   live = tt;
   no_memory = record { shown = kept.shown; mount = kept.mount; beneath = parents-live old new p kept.beneath };
   sound = sound;
@@ -100,6 +104,7 @@ alters-refused x l metacopy p e fault = record {
   key = tt;
   lowers = refl;
   around = around-parents l l p (gains-self l p);
+  texts = texts-gained l l p (Some p) (gains-self l p);
   live = tt;
   no_memory = tt;
   sound = sound-self l;

@@ -27,6 +27,7 @@ use Rattle.mount_calls.specs.declared.look.Look.{Look}
 use Rattle.mount_calls.specs.Altering.{target_in, target_of}
 use Rattle.mount_calls.specs.Looking.{IsLook}
 use Rattle.mount_calls.specs.AttributeCalls.{call_at, asked, asking_fault, user_fault, asked_fault}
+use Rattle.copy_up.specs.Texts.{KeepsTexts}
 use Rattle.mount_calls.specs.Keeping.{KeepsAround, KeepsLayers}
 use Rattle.mount_calls.proofs.Carrying.{KeepsLeaves}
 use Rattle.mount_calls.proofs.Leaves.{chmod-leaves, chown-leaves, set-leaves, delete-leaves}
@@ -100,11 +101,11 @@ answers-asked s c p (asks.Set name value) = refl
 answers-asked s c p (asks.Delete name) = refl
 
 -- what each leaves of the layers
-pub layers-asked : (old new : Layers) (p : Path) (x : AttributeCall) → KeepsAround old new p → KeepsLayers (call_at p x) old new
-layers-asked old new p (asks.Mode mode) around = around
-layers-asked old new p (asks.Owner uid gid) around = around
-layers-asked old new p (asks.Set name value) around = around
-layers-asked old new p (asks.Delete name) around = around
+pub layers-asked : (old new : Layers) (p : Path) (x : AttributeCall) → KeepsAround old new p → KeepsTexts old new (Some p) → KeepsLayers (call_at p x) old new
+layers-asked old new p (asks.Mode mode) around texts = record { paths = around; texts = texts }
+layers-asked old new p (asks.Owner uid gid) around texts = record { paths = around; texts = texts }
+layers-asked old new p (asks.Set name value) around texts = record { paths = around; texts = texts }
+layers-asked old new p (asks.Delete name) around texts = record { paths = around; texts = texts }
 
 -- what it asks for is judged first
 pub asking-first : (Ls : List Layer) (p : Path) (x : AttributeCall) (e : Errno) → asking_fault x ≡ Some e → asked_fault Ls p x ≡ Some e

@@ -14,7 +14,7 @@ use Rattle.merged_lookup.specs.Merged.{upper_of, layers_of}
 use Rattle.copy_up.specs.Showing.{KeepsPath, PlacedParent}
 use Rattle.rename_redirect.specs.Renaming.{KeepsMoved}
 use Rattle.mount_calls.specs.ComingUp.{own_directory, BringsUp, ComesUp, IsParentOf}
-use Rattle.mount_calls.specs.Keeping.{BringsNone, HoldsNoDirectory, KeepsAround, KeepsBut, KeepsEither, KeepsLayers, KeepsRenamed, LosesNoObject, MovesAlong}
+use Rattle.mount_calls.specs.Keeping.{BringsNone, HoldsNoDirectory, KeepsAround, KeepsBut, KeepsEither, KeepsLayers, KeepsRenamed, LosesNoObject, MovesAlong, LeavesPaths}
 use Rattle.mount_calls.specs.Lacks.{path_of_call}
 use Rattle.mount_calls.proofs.Frames.{no-parent}
 
@@ -145,29 +145,33 @@ module _ (old new : Layers) (x : Path) (up : ComesUp old new x) where
     open-up false p is e = same-up e
 
 -- WHICH DIRECTORIES COME UP WITH A CALL, where the layers are layers before and after it
+brings-by : (k : Call) (old new : Layers) → ∥ AreLayers (layers_of old) ∥₁ → ∥ AreLayers (layers_of new) ∥₁ → LeavesPaths k old new → BringsUp k old new
+brings-by (call.Stat p) old new before after e x up = same-up old new x up (call.Stat p) e
+brings-by (call.Readlink p) old new before after e x up = same-up old new x up (call.Readlink p) e
+brings-by (call.Chmod p mode) old new before after kept x up = own-up old new x up (call.Chmod p mode) p refl refl kept
+brings-by (call.Chown p uid gid) old new before after kept x up = own-up old new x up (call.Chown p uid gid) p refl refl kept
+brings-by (call.SetAttribute p n v) old new before after kept x up = own-up old new x up (call.SetAttribute p n v) p refl refl kept
+brings-by (call.GetAttribute p n) old new before after e x up = same-up old new x up (call.GetAttribute p n) e
+brings-by (call.DeleteAttribute p n) old new before after kept x up = own-up old new x up (call.DeleteAttribute p n) p refl refl kept
+brings-by (call.ListAttributes p) old new before after e x up = same-up old new x up (call.ListAttributes p) e
+brings-by (call.Mkdir p mode) old new before after kept x up = own-up old new x up (call.Mkdir p mode) p refl refl kept
+brings-by (call.Symlink target p) old new before after kept x up = none-up old new x up (call.Symlink target p) p refl kept
+brings-by (call.Unlink p) old new before after kept x up = none-up old new x up (call.Unlink p) p refl kept
+brings-by (call.Rmdir p) old new before after kept x up = none-up old new x up (call.Rmdir p) p refl kept
+brings-by (call.Hardlink p q) old new before after kept x up = but-up old new x up (call.Hardlink p q) p q refl refl before kept
+brings-by (call.Rename p q) old new before after kept x up = rename-up old new x up (call.Rename p q) p q after refl refl refl kept
+brings-by (call.Open p f mode) old new before after kept x up = open-up old new x up (call.Open p f mode) (f.writes || (f.create && is_none (shows 0 (layers_of old) p))) p refl kept
+brings-by (call.Read d n) old new before after e x up = same-up old new x up (call.Read d n) e
+brings-by (call.Write d bytes) old new before after same x up = objects-up old new x up (call.Write d bytes) same
+brings-by (call.Seek d offset whence) old new before after e x up = same-up old new x up (call.Seek d offset whence) e
+brings-by (call.Truncate d size) old new before after same x up = objects-up old new x up (call.Truncate d size) same
+brings-by (call.Fstat d) old new before after e x up = same-up old new x up (call.Fstat d) e
+brings-by (call.ListNames d n) old new before after e x up = same-up old new x up (call.ListNames d n) e
+brings-by (call.Close d) old new before after kept x up = objects-up old new x up (call.Close d) kept.objects
+brings-by (call.Arm slot p mask) old new before after e x up = same-up old new x up (call.Arm slot p mask) e
+brings-by (call.Disarm watch) old new before after e x up = same-up old new x up (call.Disarm watch) e
+brings-by (call.TakeNotices n) old new before after e x up = same-up old new x up (call.TakeNotices n) e
+
+-- by what it leaves of the layers
 pub brings-up : (k : Call) (old new : Layers) → ∥ AreLayers (layers_of old) ∥₁ → ∥ AreLayers (layers_of new) ∥₁ → KeepsLayers k old new → BringsUp k old new
-brings-up (call.Stat p) old new before after e x up = same-up old new x up (call.Stat p) e
-brings-up (call.Readlink p) old new before after e x up = same-up old new x up (call.Readlink p) e
-brings-up (call.Chmod p mode) old new before after kept x up = own-up old new x up (call.Chmod p mode) p refl refl kept
-brings-up (call.Chown p uid gid) old new before after kept x up = own-up old new x up (call.Chown p uid gid) p refl refl kept
-brings-up (call.SetAttribute p n v) old new before after kept x up = own-up old new x up (call.SetAttribute p n v) p refl refl kept
-brings-up (call.GetAttribute p n) old new before after e x up = same-up old new x up (call.GetAttribute p n) e
-brings-up (call.DeleteAttribute p n) old new before after kept x up = own-up old new x up (call.DeleteAttribute p n) p refl refl kept
-brings-up (call.ListAttributes p) old new before after e x up = same-up old new x up (call.ListAttributes p) e
-brings-up (call.Mkdir p mode) old new before after kept x up = own-up old new x up (call.Mkdir p mode) p refl refl kept
-brings-up (call.Symlink target p) old new before after kept x up = none-up old new x up (call.Symlink target p) p refl kept
-brings-up (call.Unlink p) old new before after kept x up = none-up old new x up (call.Unlink p) p refl kept
-brings-up (call.Rmdir p) old new before after kept x up = none-up old new x up (call.Rmdir p) p refl kept
-brings-up (call.Hardlink p q) old new before after kept x up = but-up old new x up (call.Hardlink p q) p q refl refl before kept
-brings-up (call.Rename p q) old new before after kept x up = rename-up old new x up (call.Rename p q) p q after refl refl refl kept
-brings-up (call.Open p f mode) old new before after kept x up = open-up old new x up (call.Open p f mode) (f.writes || (f.create && is_none (shows 0 (layers_of old) p))) p refl kept
-brings-up (call.Read d n) old new before after e x up = same-up old new x up (call.Read d n) e
-brings-up (call.Write d bytes) old new before after same x up = objects-up old new x up (call.Write d bytes) same
-brings-up (call.Seek d offset whence) old new before after e x up = same-up old new x up (call.Seek d offset whence) e
-brings-up (call.Truncate d size) old new before after same x up = objects-up old new x up (call.Truncate d size) same
-brings-up (call.Fstat d) old new before after e x up = same-up old new x up (call.Fstat d) e
-brings-up (call.ListNames d n) old new before after e x up = same-up old new x up (call.ListNames d n) e
-brings-up (call.Close d) old new before after kept x up = objects-up old new x up (call.Close d) kept.objects
-brings-up (call.Arm slot p mask) old new before after e x up = same-up old new x up (call.Arm slot p mask) e
-brings-up (call.Disarm watch) old new before after e x up = same-up old new x up (call.Disarm watch) e
-brings-up (call.TakeNotices n) old new before after e x up = same-up old new x up (call.TakeNotices n) e
+brings-up k old new before after kept = brings-by k old new before after kept.paths

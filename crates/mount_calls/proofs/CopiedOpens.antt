@@ -1,6 +1,9 @@
 -- Opens that copy a file up: the states that the mount stands for on the way.
 use Rattle.std.proofs.Common.{◌≡◌, ◌≢◌, ◌↔◌, ℕ, zero, suc, ◌<◌, true, false, cond, List, [], Option, None, Some, Result, Ok, Err, IfOk, OnErr, refl, sym, ap, ◌∙◌, subst, inl, inr, is_some, arith}
 use Rattle.merged_lookup.specs.Merged.{upper_of}
+use Rattle.copy_up.specs.Texts.{KeepsTexts}
+use Rattle.copy_up.proofs.Texts.{texts-gained}
+use Rattle.mount_calls.proofs.Texts.{texts-whole}
 use Rattle.mount_calls.proofs.Words.{after, AllocError, Attributes, bad_flags, base, Call, change, Contents, EINVAL, false≢true, File, Handle, Inode, inode_of, IsLive, IsMountOf, Layer, Layers, layers_of, Leaf, live_handle, lowers_of, lowest_free, MountOptions, Node, node_at, NodeId, OpenFile, OpenFlags, opening_fault, option_and_then, option_map, or_else, over_node, Own, parents_fault, Path, Place, put, refusal, rewritten, see, shows, shows_link, ShowsInode, sized, State, StaysLayers, Tree, Upper, way_of, when, with_bytes, with_handle}
 use Rattle.layer_tree.specs.Tree.{own_at}
 use Rattle.slab.specs.Slab.{get}
@@ -83,6 +86,14 @@ pub copied-around :
     IfOk r (Copied old new q d (λ i. a)) → OnErr r (ChangesNoSight old new (GainsParents old new q)) → BringsNone old new q
 copied-around old new q d a i shown (Ok key) h kept = let copy = h i shown in none-named old new q copy.0.number copy.0.held_there copy.0.others
 copied-around old new q d a i shown (Err e) h kept = none-parents old new q kept.beneath
+
+-- and no mark comes
+pub copied-texts :
+    (old new : Layers) (q : Path) (d : Place) (a : Attributes) (i : Inode) →
+    shows 0 (layers_of old) q ≡ Some (Contents d.layer d.key (Some i)) → (r : Result ℕ AllocError) →
+    IfOk r (Copied old new q d (λ i. a)) → OnErr r (ChangesNoSight old new (GainsParents old new q)) → KeepsTexts old new None
+copied-texts old new q d a i shown (Ok key) h kept = texts-whole old new q _ _ (h i shown).0
+copied-texts old new q d a i shown (Err e) h kept = texts-gained old new q None kept.beneath
 
 -- a node that is put at an identity twice is put there once
 put-again : (t : Tree) (d : NodeId) (o q : Option Node) → put (put t d o) d q ≡ put t d q

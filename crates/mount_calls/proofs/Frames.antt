@@ -17,7 +17,7 @@ use Rattle.make_remove.specs.Removing.{TakesName}
 use Rattle.rename_redirect.specs.Linking.{GainsBoth, GivesName}
 use Rattle.rename_redirect.specs.Renaming.{is_one, KeepsMoved, Moves}
 use Rattle.rename_redirect.proofs.Gained.{gains-paths}
-use Rattle.mount_calls.specs.Keeping.{BringsNone, HoldsNoDirectory, KeepsAround, KeepsBut, KeepsLayers, KeepsRenamed}
+use Rattle.mount_calls.specs.Keeping.{BringsNone, HoldsNoDirectory, KeepsAround, KeepsBut, KeepsLayers, KeepsRenamed, LeavesPaths}
 
 -- a path at p or below it is no parent of p
 pub no-parent : (p r : Path) → IsParent (r ++ p) p → ⊥
@@ -171,30 +171,34 @@ renames-moved a b c metacopy p q directory released moves same = record {
     by x y (inr (inl g)) = inr (inl (parent-then a b c p x x refl (same x) g))
     by x y (inr (inr g)) = inr (inr (parent-then a b c q x x refl (same x) g))
 
--- layers that stay the very same are kept so by each call
+-- layers that stay the very same hold what each call leaves
+same-paths : (k : Call) (l : Layers) → LeavesPaths k l l
+same-paths (call.Stat p) l = refl
+same-paths (call.Readlink p) l = refl
+same-paths (call.Chmod p mode) l = around-same l l p refl
+same-paths (call.Chown p uid gid) l = around-same l l p refl
+same-paths (call.SetAttribute p n v) l = around-same l l p refl
+same-paths (call.GetAttribute p n) l = refl
+same-paths (call.DeleteAttribute p n) l = around-same l l p refl
+same-paths (call.ListAttributes p) l = refl
+same-paths (call.Mkdir p mode) l = around-same l l p refl
+same-paths (call.Symlink target p) l = none-same l l p refl
+same-paths (call.Unlink p) l = none-same l l p refl
+same-paths (call.Rmdir p) l = none-same l l p refl
+same-paths (call.Hardlink p q) l = but-same l l p q refl
+same-paths (call.Rename p q) l = renames-same l l p q refl
+same-paths (call.Open p f mode) l = either (f.writes || (f.create && is_none (shows 0 (layers_of l) p))) (BringsNone l l p) (l ≡ l) (none-same l l p refl) refl
+same-paths (call.Read d n) l = refl
+same-paths (call.Write d bytes) l = λ x. refl
+same-paths (call.Seek d offset whence) l = refl
+same-paths (call.Truncate d size) l = λ x. refl
+same-paths (call.Fstat d) l = refl
+same-paths (call.ListNames d n) l = refl
+same-paths (call.Close d) l = record { lowers = refl; objects = λ x. refl; inodes = λ x k h. refl }
+same-paths (call.Arm slot p mask) l = refl
+same-paths (call.Disarm watch) l = refl
+same-paths (call.TakeNotices n) l = refl
+
+-- and are kept so by it
 pub same-layers : (k : Call) (l : Layers) → KeepsLayers k l l
-same-layers (call.Stat p) l = refl
-same-layers (call.Readlink p) l = refl
-same-layers (call.Chmod p mode) l = around-same l l p refl
-same-layers (call.Chown p uid gid) l = around-same l l p refl
-same-layers (call.SetAttribute p n v) l = around-same l l p refl
-same-layers (call.GetAttribute p n) l = refl
-same-layers (call.DeleteAttribute p n) l = around-same l l p refl
-same-layers (call.ListAttributes p) l = refl
-same-layers (call.Mkdir p mode) l = around-same l l p refl
-same-layers (call.Symlink target p) l = none-same l l p refl
-same-layers (call.Unlink p) l = none-same l l p refl
-same-layers (call.Rmdir p) l = none-same l l p refl
-same-layers (call.Hardlink p q) l = but-same l l p q refl
-same-layers (call.Rename p q) l = renames-same l l p q refl
-same-layers (call.Open p f mode) l = either (f.writes || (f.create && is_none (shows 0 (layers_of l) p))) (BringsNone l l p) (l ≡ l) (none-same l l p refl) refl
-same-layers (call.Read d n) l = refl
-same-layers (call.Write d bytes) l = λ x. refl
-same-layers (call.Seek d offset whence) l = refl
-same-layers (call.Truncate d size) l = λ x. refl
-same-layers (call.Fstat d) l = refl
-same-layers (call.ListNames d n) l = refl
-same-layers (call.Close d) l = record { lowers = refl; objects = λ x. refl; inodes = λ x k h. refl }
-same-layers (call.Arm slot p mask) l = refl
-same-layers (call.Disarm watch) l = refl
-same-layers (call.TakeNotices n) l = refl
+same-layers k l = record { paths = same-paths k l; texts = λ n q is. inl is }

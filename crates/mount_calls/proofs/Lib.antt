@@ -1,6 +1,7 @@
 pub mod Words
 pub mod Marks
 pub mod LeftMarks
+pub mod Texts
 pub mod Shown
 pub mod Objects
 pub mod Counting

@@ -18,10 +18,11 @@ use Rattle.mount_laws.specs.Renaming.{is_one}
 use Rattle.mount_laws.proofs.Links.{first-none, second-none}
 use Rattle.mount_laws.proofs.Opening.{law_of_open_refusal}
 use Rattle.copy_up.specs.Showing.{GainsParents, KeepsPath}
+use Rattle.copy_up.proofs.Texts.{texts-gained}
 use Rattle.rename_redirect.specs.Renaming.{KeepsMoved}
 use Rattle.work_dir.specs.declared.next.Lack.TheVariants as lack
 use Rattle.ov_base.specs.declared.source.Source.{Source}
-use Rattle.mount_calls.specs.Keeping.{BringsNone, KeepsAround, KeepsLayers, KeepsRenamed}
+use Rattle.mount_calls.specs.Keeping.{BringsNone, KeepsAround, KeepsLayers, KeepsRenamed, LeavesPaths, marked_path}
 use Rattle.mount_calls.specs.Lacks.{file_lack, lack_among, lack_of, lacking, lacking_to, copied_file, data_at, parent_lack, path_of_call, CanBeHad, OpensToChange}
 use Rattle.mount_calls.specs.declared.mount.Mount.{Mount}
 use Rattle.mount_calls.specs.States.{IsStateOf}
@@ -58,47 +59,53 @@ module _ (old new : Layers) where
     paths = inr (λ x. moved-path a b x (either-path a b p second at g x));
   }
 
+  -- placing a lacking parent of a call leaves what the call leaves of what is held
+  place-paths : (metacopy : Bool) (k : Call) (second : Bool) (count : ℕ) (p : Path) → lack_of (upper_of old) (lowers_of old) metacopy k ≡ lack.Parent second count →
+      path_of_call k second ≡ Some p → OpensToChange (layers_of old) k → GainsParents old new p → LeavesPaths k old new
+  place-paths metacopy (call.Stat a) second count p is at opens g = cc
+  place-paths metacopy (call.Readlink a) second count p is at opens g = cc
+  place-paths metacopy (call.Chmod a mode) true count p is at opens g = cc
+  place-paths metacopy (call.Chmod a mode) false count p is at opens g = around-path a p at g
+  place-paths metacopy (call.Chown a uid gid) true count p is at opens g = cc
+  place-paths metacopy (call.Chown a uid gid) false count p is at opens g = around-path a p at g
+  place-paths metacopy (call.SetAttribute a n v) true count p is at opens g = cc
+  place-paths metacopy (call.SetAttribute a n v) false count p is at opens g = around-path a p at g
+  place-paths metacopy (call.GetAttribute a n) second count p is at opens g = cc
+  place-paths metacopy (call.DeleteAttribute a n) true count p is at opens g = cc
+  place-paths metacopy (call.DeleteAttribute a n) false count p is at opens g = around-path a p at g
+  place-paths metacopy (call.ListAttributes a) second count p is at opens g = cc
+  place-paths metacopy (call.Mkdir a mode) true count p is at opens g = cc
+  place-paths metacopy (call.Mkdir a mode) false count p is at opens g = around-path a p at g
+  place-paths metacopy (call.Symlink target a) true count p is at opens g = cc
+  place-paths metacopy (call.Symlink target a) false count p is at opens g = none-path a p at g
+  place-paths metacopy (call.Unlink a) true count p is at opens g = cc
+  place-paths metacopy (call.Unlink a) false count p is at opens g = none-path a p at g
+  place-paths metacopy (call.Rmdir a) true count p is at opens g = cc
+  place-paths metacopy (call.Rmdir a) false count p is at opens g = none-path a p at g
+  place-paths metacopy (call.Hardlink a b) second count p is at opens g =
+      record { others = λ x off away. either-path a b p second at g x; ends = inl (either-path a b p second at g) }
+  place-paths metacopy (call.Rename a b) second count p is at opens g =
+      renames-path a b p second
+      (apart-lacking (upper_of old) a b (is_one (upper_of old) a b) (copied_file metacopy (shows 0 (layers_of old) a)) second count is) at g
+  place-paths metacopy (call.Open a f mode) true count p is at opens g = cc
+  place-paths metacopy (call.Open a f mode) false count p is at opens g =
+      subst (λ b. cond b (BringsNone old new a) (new ≡ old)) (sym opens) (none-path a p at g)
+  place-paths metacopy (call.Read d n) second count p is at opens g = cc
+  place-paths metacopy (call.Write d bytes) second count p is at opens g = cc
+  place-paths metacopy (call.Seek d offset whence) second count p is at opens g = cc
+  place-paths metacopy (call.Truncate d size) second count p is at opens g = cc
+  place-paths metacopy (call.Fstat d) second count p is at opens g = cc
+  place-paths metacopy (call.ListNames d n) second count p is at opens g = cc
+  place-paths metacopy (call.Close d) second count p is at opens g = cc
+  place-paths metacopy (call.Arm slot a mask) second count p is at opens g = cc
+  place-paths metacopy (call.Disarm watch) second count p is at opens g = cc
+  place-paths metacopy (call.TakeNotices n) second count p is at opens g = cc
+
   -- PLACING A LACKING PARENT OF A CALL KEEPS THE LAYERS AS THE CALL DOES
   pub place-keeps : (metacopy : Bool) (k : Call) (second : Bool) (count : ℕ) (p : Path) → lack_of (upper_of old) (lowers_of old) metacopy k ≡ lack.Parent second count →
       path_of_call k second ≡ Some p → OpensToChange (layers_of old) k → GainsParents old new p → KeepsLayers k old new
-  place-keeps metacopy (call.Stat a) second count p is at opens g = cc
-  place-keeps metacopy (call.Readlink a) second count p is at opens g = cc
-  place-keeps metacopy (call.Chmod a mode) true count p is at opens g = cc
-  place-keeps metacopy (call.Chmod a mode) false count p is at opens g = around-path a p at g
-  place-keeps metacopy (call.Chown a uid gid) true count p is at opens g = cc
-  place-keeps metacopy (call.Chown a uid gid) false count p is at opens g = around-path a p at g
-  place-keeps metacopy (call.SetAttribute a n v) true count p is at opens g = cc
-  place-keeps metacopy (call.SetAttribute a n v) false count p is at opens g = around-path a p at g
-  place-keeps metacopy (call.GetAttribute a n) second count p is at opens g = cc
-  place-keeps metacopy (call.DeleteAttribute a n) true count p is at opens g = cc
-  place-keeps metacopy (call.DeleteAttribute a n) false count p is at opens g = around-path a p at g
-  place-keeps metacopy (call.ListAttributes a) second count p is at opens g = cc
-  place-keeps metacopy (call.Mkdir a mode) true count p is at opens g = cc
-  place-keeps metacopy (call.Mkdir a mode) false count p is at opens g = around-path a p at g
-  place-keeps metacopy (call.Symlink target a) true count p is at opens g = cc
-  place-keeps metacopy (call.Symlink target a) false count p is at opens g = none-path a p at g
-  place-keeps metacopy (call.Unlink a) true count p is at opens g = cc
-  place-keeps metacopy (call.Unlink a) false count p is at opens g = none-path a p at g
-  place-keeps metacopy (call.Rmdir a) true count p is at opens g = cc
-  place-keeps metacopy (call.Rmdir a) false count p is at opens g = none-path a p at g
-  place-keeps metacopy (call.Hardlink a b) second count p is at opens g =
-      record { others = λ x off away. either-path a b p second at g x; ends = inl (either-path a b p second at g) }
-  place-keeps metacopy (call.Rename a b) second count p is at opens g =
-      renames-path a b p second
-      (apart-lacking (upper_of old) a b (is_one (upper_of old) a b) (copied_file metacopy (shows 0 (layers_of old) a)) second count is) at g
-  place-keeps metacopy (call.Open a f mode) true count p is at opens g = cc
-  place-keeps metacopy (call.Open a f mode) false count p is at opens g =
-      subst (λ b. cond b (BringsNone old new a) (new ≡ old)) (sym opens) (none-path a p at g)
-  place-keeps metacopy (call.Read d n) second count p is at opens g = cc
-  place-keeps metacopy (call.Write d bytes) second count p is at opens g = cc
-  place-keeps metacopy (call.Seek d offset whence) second count p is at opens g = cc
-  place-keeps metacopy (call.Truncate d size) second count p is at opens g = cc
-  place-keeps metacopy (call.Fstat d) second count p is at opens g = cc
-  place-keeps metacopy (call.ListNames d n) second count p is at opens g = cc
-  place-keeps metacopy (call.Close d) second count p is at opens g = cc
-  place-keeps metacopy (call.Arm slot a mask) second count p is at opens g = cc
-  place-keeps metacopy (call.Disarm watch) second count p is at opens g = cc
-  place-keeps metacopy (call.TakeNotices n) second count p is at opens g = cc
+  place-keeps metacopy k second count p is at opens g =
+      record { paths = place-paths metacopy k second count p is at opens g; texts = texts-gained old new p (marked_path k) g }
 
 directory-some : (o : Option Object) → holds_directory o ≡ true → is_some o ≡ true
 directory-some None h = cc

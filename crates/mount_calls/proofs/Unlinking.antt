@@ -12,6 +12,7 @@ use Rattle.mount_laws.specs.Looks.{IsMountOf}
 use Rattle.mount_laws.specs.Removals.{Removes, unlink_fault}
 use Rattle.mount_laws.proofs.Refusing.{law_of_unlink}
 use Rattle.copy_up.specs.Showing.{StaysThin}
+use Rattle.copy_up.specs.Texts.{KeepsTexts}
 use Rattle.make_remove.specs.Removing.{TakesName}
 use Rattle.notice_laws.specs.declared.object.Object.{Object}
 use Rattle.mount_calls.specs.declared.mount.Mount.{Mount}
@@ -34,14 +35,14 @@ module _ (m : Mount) (new : Layers) (p : Path) where
   pub unlink-made : (outcome : Result Object Errno) (c : ℕ) → AreCounted m.clients →
       IfErr outcome (λ e. unlink_fault (layers_of m.layers) p ≡ Some e) → OnErr outcome (new ≡ m.layers) →
       OnOk outcome (unlink_fault (layers_of m.layers) p ≡ None) → OnOk outcome (TakesName m.layers new p) → OnOk outcome RemovalSteps →
-      OnOk outcome (KeepsHeld m.clients m.layers new (call.Unlink p)) → BringsNone m.layers new p → StaysThin m.layers new →
+      OnOk outcome (KeepsHeld m.clients m.layers new (call.Unlink p)) → BringsNone m.layers new p → KeepsTexts m.layers new None → StaysThin m.layers new →
       MakesCall c (call.Unlink p) m (record m { layers = new }) (Ok (outcome_reply outcome))
-  unlink-made (Ok object) c counted fault same allowed takes steps live around thin =
+  unlink-made (Ok object) c counted fault same allowed takes steps live around texts thin =
       makes-done c (call.Unlink p) m new
       (λ s st. unlink-done m s st new c p allowed takes.lowers (steps s st.layers c) counted live (unlink-leaves p))
       (λ s st fine. removes-named m.layers new s c p (call.Unlink p) (lowers_of m.layers) (takes.loses st.layers.layers) (steps s st.layers c))
-      around takes.lowers thin
-  unlink-made (Err e) c counted fault same allowed takes steps live around thin =
+      (record { paths = around; texts = texts }) takes.lowers thin
+  unlink-made (Err e) c counted fault same allowed takes steps live around texts thin =
       makes-unmade c (call.Unlink p) m new e (λ s. refl)
       (λ s st. law_of_unlink (upper_of m.layers) (lowers_of m.layers) s st.layers c p ∙ fault) same
 

@@ -17,6 +17,7 @@ use Rattle.mount_laws.specs.Looks.{shows_link, IsMountOf}
 use Rattle.mount_laws.specs.Attributes.{shown_attributes, chown_fault}
 use Rattle.mount_laws.specs.Altered.{AltersState}
 use Rattle.copy_up.specs.Showing.{number_of, ChangesNoSight, StaysSound}
+use Rattle.copy_up.specs.Texts.{KeepsTexts}
 use Rattle.mount_calls.specs.declared.attribute_changes.AttributeCall.{AttributeCall}
 use Rattle.mount_calls.specs.AttributeCalls.{call_at, asked_fault}
 use Rattle.mount_calls.specs.Keeping.{KeepsAround}
@@ -41,7 +42,7 @@ AltersStates old new metacopy p k =
 -- changes nothing then; else each state with this option is altered as the call alters it, and the key is that under
 -- which the upper has what the path shows. Files that are open stay live. An allocation failure
 -- leaves all that is shown, and no call changes a lower layer, nor what the upper holds around the
--- path, but for missing parents of it that it gains.
+-- path, but for missing parents of it that it gains, and no mark but for one of the path's spelling.
 pub record AltersUnless (x : AttributeCall) (old new : Layers) (metacopy : Bool) (p : Path) (result : Result (Result ℕ Errno) AllocError) : Type 0 where
   pub refused : IfOk result (λ r. IfErr r (λ e. asked_fault (layers_of old) p x ≡ Some e))
   pub unchanged : IfOk result (λ r. OnErr r (new ≡ old))
@@ -50,6 +51,7 @@ pub record AltersUnless (x : AttributeCall) (old new : Layers) (metacopy : Bool)
   pub key : IfOk result (λ r. IfOk r (λ k. number_of (held (layer_of new.upper) p) ≡ Some k))
   pub lowers : new.lowers ≡ old.lowers
   pub around : KeepsAround old new p
+  pub texts : KeepsTexts old new (Some p)
   pub live : IfOk result (λ r. OnOk r (KeepsLive old new metacopy (call_at p x)))
   pub no_memory : OnErr result (ChangesNoSight old new (StaysLive old new))
   pub sound : StaysSound old new

@@ -1,6 +1,6 @@
 -- What calls leave alone.
 use Rattle.std.specs.Prelude.{◌≡◌, ◌≢◌, ◌⊎◌, Bool, true, false, cond, ◌||◌, ◌&&◌, ◌∷◌, ◌++◌}
-use Rattle.std.specs.Prelude.{None, is_none}
+use Rattle.std.specs.Prelude.{Option, None, Some, is_none}
 use Rattle.ov_base.specs.declared.call.Call.{Call}
 use Rattle.ov_base.specs.declared.call.Call.TheVariants as call
 use Rattle.plain_model.specs.Layers.{Name, Path, held, holds_directory, shows, AreLayers}
@@ -10,6 +10,7 @@ use Rattle.layer_tree.specs.Tree.{layer_of, SameObjects}
 use Rattle.merged_lookup.specs.declared.layers.Layers.{Layers}
 use Rattle.merged_lookup.specs.Merged.{layers_of}
 use Rattle.copy_up.specs.Showing.{is_object, KeepsPath}
+use Rattle.copy_up.specs.Texts.{KeepsTexts}
 use Rattle.rename_redirect.specs.Renaming.{is_one, KeepsMoved}
 use Rattle.mount_calls.specs.Living.{KeepsPaths}
 
@@ -68,27 +69,45 @@ pub record KeepsRenamed (old new : Layers) (p q : Path) : Type 0 where
   pub one : is_one (layer_of old.upper) p q ≡ true → new ≡ old
   pub paths : MovesAlong old new p q ⊎ ((x : Path) → KeepsMoved old new p q x x)
 
--- What a call leaves of the layers. One that changes something at a path leaves what the upper holds
+-- What a call leaves of what the upper holds at its paths. One that changes something at a path leaves what the upper holds
 -- around it, but for missing parents of the path that it gained; so does an open that writes, or that
 -- makes the file where nothing is shown. A link does so with its two paths, and a rename too, but what
 -- the upper holds below the old path goes along. Where the call's own object is no directory that
 -- stays, none comes at its path. A write and a truncate leave what every path holds, and a close may
 -- free a file without a name. Every other call leaves the layers the very same.
-abbrev pub KeepsLayers : Call → Layers → Layers → Type 0
-KeepsLayers (call.Chmod p mode) old new = KeepsAround old new p
-KeepsLayers (call.Chown p uid gid) old new = KeepsAround old new p
-KeepsLayers (call.SetAttribute p n v) old new = KeepsAround old new p
-KeepsLayers (call.DeleteAttribute p n) old new = KeepsAround old new p
-KeepsLayers (call.Mkdir p mode) old new = KeepsAround old new p
-KeepsLayers (call.Symlink target p) old new = BringsNone old new p
-KeepsLayers (call.Unlink p) old new = BringsNone old new p
-KeepsLayers (call.Rmdir p) old new = BringsNone old new p
-KeepsLayers (call.Hardlink p q) old new = KeepsBut old new p q
-KeepsLayers (call.Rename p q) old new = KeepsRenamed old new p q
-KeepsLayers (call.Open p f mode) old new =
+abbrev pub LeavesPaths : Call → Layers → Layers → Type 0
+LeavesPaths (call.Chmod p mode) old new = KeepsAround old new p
+LeavesPaths (call.Chown p uid gid) old new = KeepsAround old new p
+LeavesPaths (call.SetAttribute p n v) old new = KeepsAround old new p
+LeavesPaths (call.DeleteAttribute p n) old new = KeepsAround old new p
+LeavesPaths (call.Mkdir p mode) old new = KeepsAround old new p
+LeavesPaths (call.Symlink target p) old new = BringsNone old new p
+LeavesPaths (call.Unlink p) old new = BringsNone old new p
+LeavesPaths (call.Rmdir p) old new = BringsNone old new p
+LeavesPaths (call.Hardlink p q) old new = KeepsBut old new p q
+LeavesPaths (call.Rename p q) old new = KeepsRenamed old new p q
+LeavesPaths (call.Open p f mode) old new =
     cond (f.writes || (f.create && is_none (shows 0 (layers_of old) p)))
     (BringsNone old new p) (new ≡ old)
-KeepsLayers (call.Write d bytes) old new = SameObjects (layer_of old.upper) (layer_of new.upper)
-KeepsLayers (call.Truncate d size) old new = SameObjects (layer_of old.upper) (layer_of new.upper)
-KeepsLayers (call.Close d) old new = KeepsPaths old new
-KeepsLayers _ old new = new ≡ old
+LeavesPaths (call.Write d bytes) old new = SameObjects (layer_of old.upper) (layer_of new.upper)
+LeavesPaths (call.Truncate d size) old new = SameObjects (layer_of old.upper) (layer_of new.upper)
+LeavesPaths (call.Close d) old new = KeepsPaths old new
+LeavesPaths _ old new = new ≡ old
+
+-- the path at which a call may mark a file, so that its bytes stay in the lower layers: the first
+-- of those calls that change attributes, or give or change a name
+abbrev pub marked_path : Call → Option Path
+marked_path (call.Chmod p mode) = Some p
+marked_path (call.Chown p uid gid) = Some p
+marked_path (call.SetAttribute p n v) = Some p
+marked_path (call.DeleteAttribute p n) = Some p
+marked_path (call.Hardlink p q) = Some p
+marked_path (call.Rename p q) = Some p
+marked_path _ = None
+
+-- WHAT A CALL LEAVES OF THE LAYERS: of what the upper holds at its paths, and of the marks of files.
+-- Each mark of the upper is one that its inode had, or the spelling that the call's old path had for
+-- the layers below.
+pub record KeepsLayers (call : Call) (old new : Layers) : Type 0 where
+  pub paths : LeavesPaths call old new
+  pub texts : KeepsTexts old new (marked_path call)

@@ -3,6 +3,7 @@ ghost use Rattle.std.specs.Prelude.{◌≡◌, ◌+◌, ◌<◌, ◌^◌, ℕ, L
 ghost use Rattle.plain_model.specs.Changes.{sized};
 ghost use Rattle.layer_tree.specs.Tree.{own_at, layer_of, written, SameObjects};
 ghost use Rattle.copy_up.specs.Showing.{StaysMount, StaysSound};
+ghost use Rattle.copy_up.specs.Texts.{KeepsTexts};
 ghost use Rattle.open_handles.specs.declared.open_file.FileSource.TheVariants as sources;
 ghost use Rattle.mount_calls.specs.Living.{KeepsFiles, SetsFile, StaysLive};
 
@@ -24,6 +25,7 @@ pub(crate) fn write_file(
         SetsFile layers.old layers.new k (written old start bytes.now)) }
     ensures files { KeepsFiles layers.old layers.new }
     ensures objects { SameObjects (layer_of layers.old.upper) (layer_of layers.new.upper) }
+    ensures texts { KeepsTexts layers.old layers.new None }
     ensures lowers { layers.new.lowers ≡ layers.old.lowers }
     ensures sound { StaysSound layers.old layers.new }
     ensures mounts { OnErr result (StaysMount layers.old layers.new) }
@@ -51,6 +53,7 @@ pub(crate) fn resize_file(
     ensures empties { size ≡ 0 → IsOk result }
     ensures files { KeepsFiles layers.old layers.new }
     ensures objects { SameObjects (layer_of layers.old.upper) (layer_of layers.new.upper) }
+    ensures texts { KeepsTexts layers.old layers.new None }
     ensures lowers { layers.new.lowers ≡ layers.old.lowers }
     ensures sound { StaysSound layers.old layers.new }
     ensures mounts { OnErr result (StaysMount layers.old layers.new) }

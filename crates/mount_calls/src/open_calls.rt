@@ -17,6 +17,7 @@ ghost use Rattle.mount_laws.specs.OpenFiles.{ChangesFile};
 ghost use Rattle.mount_laws.specs.Opening.{opening_fault, shown_fault};
 ghost use Rattle.copy_up.specs.Leaves.{CopiesLeaf};
 ghost use Rattle.copy_up.specs.Showing.{ChangesNoSight, GainsParents, StaysSound, StaysThin};
+ghost use Rattle.copy_up.specs.Texts.{KeepsTexts};
 ghost use Rattle.mount_calls.specs.Attaching.{KeepsAttached};
 ghost use Rattle.mount_calls.specs.Keeping.{BringsNone, KeepsLayers};
 ghost use Rattle.mount_calls.specs.FreeDescriptors.{IsLowestFree};
@@ -152,6 +153,7 @@ impl Mount {
         ensures clients { KeepsAttached self.old.clients self.new.clients }
         ensures layers { flags.truncate ≡ false → self.new.layers ≡ self.old.layers }
         ensures objects { SameObjects (layer_of self.old.layers.upper) (layer_of self.new.layers.upper) }
+        ensures texts { KeepsTexts self.old.layers self.new.layers None }
         ensures lowers { self.new.layers.lowers ≡ self.old.layers.lowers }
         ensures thin { StaysThin self.old.layers self.new.layers }
     {
@@ -192,6 +194,7 @@ impl Mount {
         ensures no_memory { OnErr result (RunsOut self.old self.new) }
         ensures clients { KeepsAttached self.old.clients self.new.clients }
         ensures around { BringsNone self.old.layers self.new.layers path.now }
+        ensures texts { KeepsTexts self.old.layers self.new.layers None }
         ensures lowers { self.new.layers.lowers ≡ self.old.layers.lowers }
         ensures thin { StaysThin self.old.layers self.new.layers }
     {
@@ -229,6 +232,7 @@ impl Mount {
         ensures no_memory { OnErr result (RunsOut self.old self.new) }
         ensures clients { KeepsAttached self.old.clients self.new.clients }
         ensures around { BringsNone self.old.layers self.new.layers path.now }
+        ensures texts { KeepsTexts self.old.layers self.new.layers None }
         ensures lowers { self.new.layers.lowers ≡ self.old.layers.lowers }
         ensures thin { StaysThin self.old.layers self.new.layers }
     {
@@ -264,6 +268,7 @@ impl Mount {
         ensures no_memory { OnErr result (RunsOut self.old self.new) }
         ensures clients { KeepsAttached self.old.clients self.new.clients }
         ensures around { BringsNone self.old.layers self.new.layers path.now }
+        ensures texts { KeepsTexts self.old.layers self.new.layers None }
         ensures lowers { self.new.layers.lowers ≡ self.old.layers.lowers }
         ensures thin { StaysThin self.old.layers self.new.layers }
     {
@@ -286,6 +291,7 @@ fn give_bytes(layers: &mut Layers, key: usize, flags: OpenFlags) -> Result<(), A
         ChangesFile (upper_of layers.old) (upper_of layers.new) key
         (cond flags.truncate [] b) None) }
     ensures objects { SameObjects (layer_of layers.old.upper) (layer_of layers.new.upper) }
+    ensures texts { KeepsTexts layers.old layers.new None }
     ensures lowers { layers.new.lowers ≡ layers.old.lowers }
     ensures sound { StaysSound layers.old layers.new }
     ensures no_memory { OnErr result (layers.new ≡ layers.old) }
@@ -376,6 +382,7 @@ fn bring_up(
         (leaf : CopiesLeaf layers.old layers.new path.now i.content None i.attributes) ×
         (leaf.number ≡ key)) }
     ensures around { BringsNone layers.old layers.new path.now }
+    ensures texts { KeepsTexts layers.old layers.new None }
     ensures lowers { layers.new.lowers ≡ layers.old.lowers }
     ensures no_memory { OnErr result
         (ChangesNoSight layers.old layers.new (GainsParents layers.old layers.new path.now)) }

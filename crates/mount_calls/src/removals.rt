@@ -10,6 +10,7 @@ ghost use Rattle.layer_tree.specs.Tree.{layer_of, SameObjects};
 ghost use Rattle.layer_tree.specs.Nameless.{IsNameless};
 ghost use Rattle.merged_lookup.specs.Merged.{upper_of, layers_of, lowers_of};
 ghost use Rattle.copy_up.specs.Showing.{ShowsSame, ChangesNoSight, StaysLayers, StaysMount, StaysSound, StaysThin};
+ghost use Rattle.copy_up.specs.Texts.{KeepsTexts};
 ghost use Rattle.make_remove.specs.Removing.{TakesName};
 ghost use Rattle.plain_model.specs.Layers.{AreLayers, Inode as HeldInode};
 ghost use Rattle.notice_laws.specs.Objects.{IsObject};
@@ -54,6 +55,7 @@ pub(crate) fn unlink_and_free(
     ensures around { BringsNone layers.old layers.new path.now }
     ensures live { IfOk result (λ r.
         OnOk r (KeepsHeld clients.now layers.old layers.new (call.Unlink path.now))) }
+    ensures texts { KeepsTexts layers.old layers.new None }
     ensures no_memory { OnErr result
         (ChangesNoSight layers.old layers.new (StaysLive layers.old layers.new)) }
     ensures sound { StaysSound layers.old layers.new }
@@ -94,6 +96,7 @@ pub(crate) fn rmdir_and_free(
     ensures around { BringsNone layers.old layers.new path.now }
     ensures live { IfOk result (λ r.
         OnOk r (KeepsHeld clients.now layers.old layers.new (call.Rmdir path.now))) }
+    ensures texts { KeepsTexts layers.old layers.new None }
     ensures no_memory { OnErr result
         (ChangesNoSight layers.old layers.new (StaysLive layers.old layers.new)) }
     ensures sound { StaysSound layers.old layers.new }
@@ -134,6 +137,7 @@ pub(crate) fn rename_and_free(
         old.now new.now)) }
     ensures key { IfOk result (λ r. IfOk r (λ moved. IfSome moved (IsKeyAt layers.new new.now))) }
     ensures paths { KeepsRenamed layers.old layers.new old.now new.now }
+    ensures texts { KeepsTexts layers.old layers.new (Some old.now) }
     ensures lowers { layers.new.lowers ≡ layers.old.lowers }
     ensures keeps { StaysLayers layers.old layers.new }
     ensures thin { AreLayers (layers_of layers.old) → StaysThin layers.old layers.new }
@@ -170,6 +174,7 @@ fn free_released(layers: &mut Layers, clients: &Clients, released: Option<usize>
     ensures same { ShowsSame layers.old layers.new }
     ensures mounts { StaysMount layers.old layers.new }
     ensures sound { StaysSound layers.old layers.new }
+    ensures texts { KeepsTexts layers.old layers.new None }
     ensures live { StaysHeld clients.now layers.old layers.new }
 {
     if let Some(key) = released {
@@ -183,6 +188,7 @@ fn free_released(layers: &mut Layers, clients: &Clients, released: Option<usize>
 pub(crate) fn free_closed(layers: &mut Layers, clients: &Clients, closed: Option<usize>)
     ensures freed { (key : ℕ) → closed ≡ Some key → FreesClosed clients.now layers.old layers.new key }
     ensures none { closed ≡ None → layers.new ≡ layers.old }
+    ensures texts { KeepsTexts layers.old layers.new None }
 {
     if let Some(key) = closed {
         if !clients.holds_file(key) && is_unlinked(layers, key) {

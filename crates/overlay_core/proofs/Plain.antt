@@ -70,7 +70,7 @@ module _ (b : Bool) (k : Call) (plain : b ≡ true → may_lack k ≡ false) whe
   pub blank-plain : (old new : Layers) → new.lowers ≡ old.lowers → KeepsLayers k old new →
       (b ≡ true → IsBlank (layer_of old.upper) (lowers_of old)) → b ≡ true → IsBlank (layer_of new.upper) (lowers_of new)
   blank-plain old new lowers keeps blank only =
-      blank-on b old new lowers (plain-held old new k (plain only) keeps) blank only
+      blank-on b old new lowers (plain-held old new k (plain only) keeps.paths) blank only
 
   -- and there is no open job still
   pub idle-plain : (work after : List (Option OpenJob)) (j : Job) → after ≡ without work j →

@@ -20,7 +20,7 @@ use Rattle.work_dir.specs.NextSteps.{next_of}
 use Rattle.work_dir.specs.declared.next.Lack.TheVariants.{Nothing}
 use Rattle.work_dir.specs.declared.next.Next.TheVariants.{Finish}
 use Rattle.mount_calls.specs.Attaching.{is_attached}
-use Rattle.mount_calls.specs.Keeping.{KeepsLayers}
+use Rattle.mount_calls.specs.Keeping.{LeavesPaths}
 use Rattle.mount_calls.specs.Lacks.{changed_paths, copied_file, data_at, lack_among, lack_of, lack_size, may_lack}
 use Rattle.mount_calls.specs.States.{IsStateOf}
 use Rattle.mount_calls.specs.declared.mount.Mount.{Mount}
@@ -73,7 +73,7 @@ module _ (old new : Layers) where
   same-held same = subst (λ (l : Layers). SameObjects (layer_of old.upper) (layer_of l.upper)) (sym same) (λ p. refl)
 
   -- it leaves what every path holds
-  pub plain-held : (k : Call) → may_lack k ≡ false → KeepsLayers k old new → SameObjects (layer_of old.upper) (layer_of new.upper)
+  pub plain-held : (k : Call) → may_lack k ≡ false → LeavesPaths k old new → SameObjects (layer_of old.upper) (layer_of new.upper)
   plain-held (call.Chmod p mode) h keeps = absurd (false≢true (sym h))
   plain-held (call.Chown p uid gid) h keeps = absurd (false≢true (sym h))
   plain-held (call.SetAttribute p n v) h keeps = absurd (false≢true (sym h))
@@ -117,7 +117,7 @@ rename-one true p q h = refl
 rename-one false p q h = absurd (no-empty p (q ∷ []) h)
 
 -- a call that changes no path leaves the layers the very same
-pub unchanged-same : (old new : Layers) (k : Call) → may_lack k ≡ true → changed_paths (upper_of old) (lowers_of old) k ≡ [] → KeepsLayers k old new → new ≡ old
+pub unchanged-same : (old new : Layers) (k : Call) → may_lack k ≡ true → changed_paths (upper_of old) (lowers_of old) k ≡ [] → LeavesPaths k old new → new ≡ old
 unchanged-same old new (call.Chmod p mode) may h keeps = absurd (no-empty _ _ h)
 unchanged-same old new (call.Chown p uid gid) may h keeps = absurd (no-empty _ _ h)
 unchanged-same old new (call.SetAttribute p n v) may h keeps = absurd (no-empty _ _ h)

@@ -13,6 +13,7 @@ ghost use Rattle.overlay_core.specs.Mounting.{machine_options};
 ghost use Rattle.overlay_core.specs.Performing.{Performs};
 ghost use Rattle.overlay_core.specs.Watching.{BeginsWith, Goes, HasState, Stays};
 ghost use Rattle.copy_up.specs.Showing.{StaysThin};
+ghost use Rattle.copy_up.specs.Texts.{KeepsTexts};
 
 use crate::watched::Watched;
 use merged_lookup::Layers;
@@ -114,6 +115,7 @@ impl<F: Callback, R: Rule> Watched<F, R> {
         ensures clients { KeepsAttached self.old.mount.clients self.new.mount.clients }
         ensures others { KeepsOthers self.old.mount.clients self.new.mount.clients client }
         ensures paths { KeepsPaths self.old.mount.layers self.new.mount.layers }
+        ensures texts { KeepsTexts self.old.mount.layers self.new.mount.layers None }
         ensures thin { StaysThin self.old.mount.layers self.new.mount.layers }
         ensures refused { (errno : Errno) → result ≡ Reply.Refused errno → self.new.mount.layers ≡ self.old.mount.layers }
     {

@@ -39,6 +39,15 @@ impl Id {
         }
     }
 
+    /// The names of the path at which the mount began with the node, the last first; none where it
+    /// was made.
+    pub fn began_at(&self) -> Option<&[Name]> {
+        match &self.key {
+            Key::At(names) => Some(names.as_slice()),
+            Key::New(_) => None,
+        }
+    }
+
     /// Whether two identities are the same.
     pub fn is(&self, other: &Id) -> bool {
         match (&self.key, &other.key) {

@@ -58,6 +58,19 @@ pub fn is_link(node: Option<&Node>) -> bool {
     }
 }
 
+/// Whether there is a file of the upper whose bytes are those of a lower one.
+pub fn has_low_bytes(node: Option<&Node>) -> bool {
+    match node {
+        Some(
+            Node::Leaf {
+                origin: Origin::Own(low),
+                ..
+            },
+        ) => *low,
+        _ => false,
+    }
+}
+
 /// Whether there is a directory with a name.
 pub fn has_names(node: Option<&Node>) -> bool {
     match node {

@@ -1,8 +1,8 @@
 // What the tree shows at a path, without a client.
 
-use crate::node::{bytes_of, names_in, stat_of};
+use crate::node::{bytes_of, has_low_bytes, names_in, stat_of};
 use crate::reference::Reference;
-use ov_base::{Bytes, NameList, Path, Reply};
+use ov_base::{Bytes, Name, NameList, Path, Reply, copy_names};
 use std::alloc::AllocError;
 
 impl Reference {
@@ -22,5 +22,23 @@ impl Reference {
     pub fn content(&self, path: &Path) -> Result<Bytes, AllocError> {
         let node = self.unwatched.node(path)?;
         bytes_of(self.unwatched.alloc, node)
+    }
+
+    /// Where the mount began with the file at a path that stands in the upper without bytes of its
+    /// own (overlayfs.rst, "Metadata only copy up"): the names from the last one up. That file isn't
+    /// written to, and a directory that moves leads where it led, so the layers below have it there
+    /// for ever. None for all else.
+    pub fn marked_from(&self, path: &Path) -> Result<Option<Vec<Name>>, AllocError> {
+        let unwatched = &self.unwatched;
+        let Some(id) = unwatched.tree.node_at(unwatched.alloc, path.names())? else {
+            return Ok(None);
+        };
+        if !has_low_bytes(unwatched.tree.node(&id)) {
+            return Ok(None);
+        }
+        match id.began_at() {
+            Some(names) => Ok(Some(copy_names(unwatched.alloc, names)?)),
+            None => Ok(None),
+        }
     }
 }

@@ -14,3 +14,4 @@ pub mod Given
 pub mod Shown
 pub mod Gained
 pub mod Sights
+pub mod Texts

@@ -4,6 +4,7 @@ ghost use Rattle.plain_model.specs.Layers.{Name as NameOf, Path as Names, Inode,
 ghost use Rattle.layer_tree.specs.Tree.{layer_of};
 ghost use Rattle.merged_lookup.specs.Merged.{layers_of, parents_fault, parent, IsStackOf, ShowsInode};
 ghost use Rattle.copy_up.specs.Showing.{ShowsSame, ChangesNoSight, HasPlace, Stays, StaysSound};
+ghost use Rattle.copy_up.specs.Texts.{KeepsTexts};
 ghost use Rattle.rename_redirect.specs.Linking.{GainsBoth, GivesName, CopiesInode};
 
 use crate::moves::place_ways;
@@ -35,6 +36,7 @@ pub(crate) fn link_copy(
     ensures linked { OnOk result (GivesName layers.old layers.new metacopy old.now new.now) }
     ensures key { IfOk result (λ key. held (layer_of layers.new.upper) old.now ≡ Some (Named key)) }
     ensures lowers { layers.new.lowers ≡ layers.old.lowers }
+    ensures texts { OnOk result (KeepsTexts layers.old layers.new (Some old.now)) }
     ensures no_memory { OnErr result
         (ChangesNoSight layers.old layers.new (GainsBoth layers.old layers.new old.now new.now)) }
     ensures sound { StaysSound layers.old layers.new }

@@ -6,6 +6,7 @@ ghost use Rattle.layer_tree.specs.Tree.{layer_of};
 ghost use Rattle.merged_lookup.specs.declared.layers.Layers.{Layers as LayersOf};
 ghost use Rattle.merged_lookup.specs.Merged.{layers_of, parents_fault, parent, IsStackOf, ShowsInode};
 ghost use Rattle.copy_up.specs.Showing.{ChangesNoSight, StaysSound};
+ghost use Rattle.copy_up.specs.Texts.{KeepsTexts};
 ghost use Rattle.rename_redirect.specs.Judging.{IsSeen, MayLink};
 ghost use Rattle.rename_redirect.specs.Linking.{GainsBoth, GivesName, LinkSteps};
 
@@ -45,6 +46,7 @@ pub fn link(
         held (layer_of layers.new.upper) old.now ≡ Some (Named key))) }
     ensures steps { IfOk result (λ r. OnOk r (LinkSteps layers.old layers.new metacopy old.now new.now)) }
     ensures lowers { layers.new.lowers ≡ layers.old.lowers }
+    ensures texts { KeepsTexts layers.old layers.new (Some old.now) }
     ensures no_memory { OnErr result
         (ChangesNoSight layers.old layers.new (GainsBoth layers.old layers.new old.now new.now)) }
     ensures sound { StaysSound layers.old layers.new }
@@ -100,6 +102,7 @@ fn give_name(
     ensures linked { OnOk result (GivesName layers.old layers.new metacopy old.now new.now) }
     ensures key { IfOk result (λ key. held (layer_of layers.new.upper) old.now ≡ Some (Named key)) }
     ensures lowers { layers.new.lowers ≡ layers.old.lowers }
+    ensures texts { OnOk result (KeepsTexts layers.old layers.new (Some old.now)) }
     ensures no_memory { OnErr result
         (ChangesNoSight layers.old layers.new (GainsBoth layers.old layers.new old.now new.now)) }
     ensures sound { StaysSound layers.old layers.new }
@@ -127,6 +130,7 @@ fn link_own(
         GivesName layers.old layers.new low old.now new.now) }
     ensures key { IfOk result (λ key. held (layer_of layers.new.upper) old.now ≡ Some (Named key)) }
     ensures lowers { layers.new.lowers ≡ layers.old.lowers }
+    ensures texts { OnOk result (KeepsTexts layers.old layers.new (Some old.now)) }
     ensures no_memory { OnErr result
         (ChangesNoSight layers.old layers.new (GainsBoth layers.old layers.new old.now new.now)) }
     ensures sound { StaysSound layers.old layers.new }

@@ -10,6 +10,7 @@ ghost use Rattle.layer_tree.specs.Nameless.{KeepsObjects};
 ghost use Rattle.layer_tree.specs.Tree.{layer_of, SameObjects};
 ghost use Rattle.merged_lookup.specs.Merged.{layers_of, lowers_of, parents_fault, parent, top_of, IsFound, IsStackOf, ShowsInode};
 ghost use Rattle.copy_up.specs.Showing.{ShowsSame, ChangesNoSight, Stays, StaysLayers, StaysThin};
+ghost use Rattle.copy_up.specs.Texts.{KeepsTexts};
 ghost use Rattle.rename_redirect.specs.Linking.{GainsBoth};
 ghost use Rattle.rename_redirect.specs.Renaming.{MovesOver, Replaces, DoesRename};
 ghost use Rattle.rename_redirect.specs.Routes.{IsMove, IsFolderMove};
@@ -48,6 +49,7 @@ pub(crate) fn move_object(
     requires within { IsOutside new.now old.now }
     ensures does { IfOk result (λ r. DoesRename layers.old layers.new metacopy old.now new.now r) }
     ensures lowers { layers.new.lowers ≡ layers.old.lowers }
+    ensures texts { OnOk result (KeepsTexts layers.old layers.new (Some old.now)) }
     ensures no_memory { OnErr result
         (ChangesNoSight layers.old layers.new (GainsBoth layers.old layers.new old.now new.now)) }
     ensures keeps { StaysLayers layers.old layers.new }
@@ -163,6 +165,7 @@ fn move_placed(
     requires within { IsOutside new.now old.now }
     ensures does { IfOk result (λ r. DoesRename layers.old layers.new metacopy old.now new.now r) }
     ensures lowers { layers.new.lowers ≡ layers.old.lowers }
+    ensures texts { OnOk result (KeepsTexts layers.old layers.new (Some old.now)) }
     ensures unchanged { OnErr result (SameObjects (layer_of layers.old.upper) (layer_of layers.new.upper)) }
     ensures same { OnErr result (KeepsObjects layers.old.upper layers.new.upper None) }
     ensures keeps { IsLayer (layer_of layers.old.upper) → IsLayer (layer_of layers.new.upper) }
@@ -231,6 +234,7 @@ fn move_directory(
     requires goes { (p q : Names) × IsMove layers.old p q route.now × IsFolderMove layers.old p q route.now top marks }
     ensures lowers { layers.new.lowers ≡ layers.old.lowers }
     ensures moved { IfOk result (λ released. (p q : Names) (low : Bool) → IsMove layers.old p q route.now → IsFolderMove layers.old p q route.now top marks → MovesOver layers.old layers.new low (route.now.name.now ∷ p) (route.now.further.now ∷ q) × Replaces layers.old layers.new (route.now.further.now ∷ q) released) }
+    ensures texts { OnOk result (KeepsTexts layers.old layers.new None) }
     ensures unchanged { OnErr result (SameObjects (layer_of layers.old.upper) (layer_of layers.new.upper)) }
     ensures same { OnErr result (KeepsObjects layers.old.upper layers.new.upper None) }
     ensures keeps { IsLayer (layer_of layers.old.upper) → IsLayer (layer_of layers.new.upper) }
@@ -268,6 +272,7 @@ fn move_inode(
     ensures lowers { layers.new.lowers ≡ layers.old.lowers }
     ensures moved { IfOk result (λ keys. (p q : Names) → IsMove layers.old p q route.now → ShowsInode layers.old (route.now.name.now ∷ p) place → old.now ≡ route.now.name.now ∷ p → MovesOver layers.old layers.new metacopy (route.now.name.now ∷ p) (route.now.further.now ∷ q) × Replaces layers.old layers.new (route.now.further.now ∷ q) keys.1) }
     ensures key { IfOk result (λ keys. (p q : Names) → IsMove layers.old p q route.now → ShowsInode layers.old (route.now.name.now ∷ p) place → old.now ≡ route.now.name.now ∷ p → held (layer_of layers.new.upper) (route.now.further.now ∷ q) ≡ Some (Named keys.0)) }
+    ensures texts { OnOk result (KeepsTexts layers.old layers.new (Some old.now)) }
     ensures unchanged { OnErr result (SameObjects (layer_of layers.old.upper) (layer_of layers.new.upper)) }
     ensures same { OnErr result (KeepsObjects layers.old.upper layers.new.upper None) }
     ensures keeps { IsLayer (layer_of layers.old.upper) → IsLayer (layer_of layers.new.upper) }

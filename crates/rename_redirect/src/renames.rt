@@ -12,6 +12,7 @@ ghost use Rattle.layer_tree.specs.Tree.{layer_of};
 ghost use Rattle.merged_lookup.specs.declared.layers.Layers.{Layers as LayersOf};
 ghost use Rattle.merged_lookup.specs.Merged.{upper_of, layers_of, lowers_of, IsFound, IsAnswer, IsStackOf, ShowsDirectory};
 ghost use Rattle.copy_up.specs.Showing.{ChangesNoSight, StaysLayers, StaysThin};
+ghost use Rattle.copy_up.specs.Texts.{KeepsTexts};
 ghost use Rattle.make_remove.specs.Removing.{TellsNames};
 ghost use Rattle.rename_redirect.specs.Linking.{GainsBoth};
 ghost use Rattle.rename_redirect.specs.Judging.{IsSeen, named_key, fit_fault, IsFaultOf, Fits, MayMove};
@@ -79,6 +80,7 @@ pub fn rename(
         OnOk r (is_one (layer_of layers.old.upper) old.now new.now ≡ false →
         RenameSteps layers.old layers.new redirects metacopy old.now new.now)) }
     ensures lowers { layers.new.lowers ≡ layers.old.lowers }
+    ensures texts { KeepsTexts layers.old layers.new (Some old.now) }
     ensures no_memory { OnErr result
         (ChangesNoSight layers.old layers.new (GainsBoth layers.old layers.new old.now new.now)) }
     ensures apart { OnErr result (is_one (layer_of layers.old.upper) old.now new.now ≡ false) }

@@ -5,9 +5,9 @@ use crate::history::History;
 use crate::layer_lines::push_layer;
 use crate::opening::reference_of;
 use crate::pending::Begun;
-use crate::plain_layer::PlainLayer;
+use crate::plain_layer::{PlainLayer, push_name};
 use crate::tree_lines::push_tree;
-use ov_base::{Call, Errno};
+use ov_base::{Call, Errno, Path};
 use plain_reference::{MountOptions, Reference};
 use std::alloc::{AllocError, Global};
 use std::collections::BTreeMap;
@@ -142,6 +142,28 @@ impl PlainMount {
             *first = upper;
         }
         Ok(layers)
+    }
+
+    /// The mark of what stands at a path of the upper: the path by which the layers below have the
+    /// file, as this upper of the manifest hands on where it was. None where its bytes are its own.
+    pub fn mark_at(
+        &self,
+        alloc: Global,
+        upper: &PlainLayer<'_>,
+        path: &[u8],
+    ) -> Result<Option<Vec<u8>>, AllocError> {
+        let Ok(path) = Path::parse(alloc, path)? else {
+            return Ok(None);
+        };
+        let Some(names) = self.reference.marked_from(&path)? else {
+            return Ok(None);
+        };
+        let mut began = Vec::new(alloc);
+        for name in names.iter().rev() {
+            push_name(&mut began, name.as_slice())?;
+        }
+        let handed = upper.hands_on(alloc, began.as_slice())?;
+        Ok(Some(handed.spelling))
     }
 
     /// The lines of a layer, as the manifest describes it. A lower layer stays so.

@@ -27,7 +27,7 @@ pub fn layer_difference(
     }
 }
 
-// The upper's lines are those of a layer, whose marks lead to files, which shows over the lower layers what the reference shows, and has no
+// The upper's lines are those of a layer, whose marks are those that the reference tells, which shows over the lower layers what the reference shows, and has no
 // needless whiteout.
 fn upper_difference(
     alloc: Global,
@@ -47,7 +47,7 @@ fn upper_difference(
         return Ok(Some(format!(in alloc; "these are no layer's lines\n{text}")?));
     }
     let mut layers = mount.layers_below(alloc, upper)?;
-    if let Some(found) = mark_difference(alloc, layers.as_slice())? {
+    if let Some(found) = mark_difference(alloc, mount, layers.as_slice())? {
         return Ok(Some(found));
     }
     match shown_difference(alloc, mount, layers.as_slice())? {
@@ -56,12 +56,23 @@ fn upper_difference(
     }
 }
 
-// A file of the upper without bytes of its own has the size of the file that the lower layers show at its mark.
-fn mark_difference(alloc: Global, layers: &[PlainLayer<'_>]) -> Result<Option<String>, AllocError> {
-    let Some((upper, lowers)) = layers.split_first() else {
+// What stands in the upper without bytes of its own is marked by the path that the reference tells, and all else by none; it has the size
+// of the file that the lower layers show at its mark.
+fn mark_difference(
+    alloc: Global,
+    mount: &PlainMount,
+    layers: &[PlainLayer<'_>],
+) -> Result<Option<String>, AllocError> {
+    let began = mount.layers(alloc)?;
+    let (Some((upper, lowers)), Some(first)) = (layers.split_first(), began.first()) else {
         return Ok(None);
     };
     for entry in upper.entries.as_slice() {
+        let wanted = mount.mark_at(alloc, first, entry.path)?;
+        if entry.metacopy != wanted.as_ref().map(|path| path.as_slice()) {
+            let path = Escaped(entry.path);
+            return Ok(Some(format!(in alloc; "another mark is at {path}\n")?));
+        }
         if let Some(mark) = entry.metacopy {
             if size_shown(alloc, lowers, mark)? != Some(size_of(entry.bytes)) {
                 let mark = Escaped(mark);

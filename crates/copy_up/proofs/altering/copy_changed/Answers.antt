@@ -11,6 +11,8 @@ use Rattle.copy_up.specs.Leaves.{copy_mark}
 use Rattle.copy_up.specs.Showing.{number_of}
 use Rattle.copy_up.proofs.AlteredObjects.{object-copied}
 use Rattle.copy_up.proofs.Copying.{marks-file}
+use Rattle.copy_up.specs.Texts.{KeepsTexts}
+use Rattle.copy_up.proofs.Texts.{texts-copied}
 use Rattle.copy_up.proofs.altering.copy_changed.Goals as goal
 
 pub copy_marked-requires-clause-shown : goal.copy_marked-requires-clause-shown
@@ -59,3 +61,13 @@ returns-clause-key c =
     let shown = sym (ap (shows 0 (layers_of c.args.layers.now)) c.in-Some.ensures) ∙ found.1 in
     let leaf = c.in_ok-key.ensures.copied found.0 shown in
     ap (λ (q : Path). number_of (held (layer_of c.copy_marked.new.layers.upper) q)) c.in-Some.ensures ∙ ap number_of leaf.0.held_there ∙ ap Some leaf.1
+
+pub returns-clause-texts : goal.returns-clause-texts
+returns-clause-texts c =
+    let old = c.args.layers.now in
+    let found = c.in_ok-attributes.ensures c.args.path.now c.requires.shown in
+    let shown = sym (ap (shows 0 (layers_of old)) c.in-Some.ensures) ∙ found.1 in
+    let leaf = (c.in_ok-key.ensures.copied found.0 shown).0 in
+    let told = c.in_ok-mark.ensures found.0 found.1 ∙ ap (λ (q : Path). copy_mark c.args.metacopy (layer_of old.upper) q found.0.content) c.in-Some.ensures in
+    subst (λ (q : Path). KeepsTexts old c.copy_marked.new.layers (Some q)) (sym c.in-Some.ensures)
+    (texts-copied old c.copy_marked.new.layers _ found.0.content _ _ leaf c.args.metacopy told)

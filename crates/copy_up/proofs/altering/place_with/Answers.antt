@@ -1,9 +1,11 @@
-use Rattle.std.proofs.Common.{[], ap}
+use Rattle.std.proofs.Common.{[], ap, ◌∙◌}
+use Rattle.layer_tree.specs.Tree.{layer_of}
 use Rattle.layer_tree.proofs.Changing.{directory_is_present}
 use Rattle.copy_up.specs.Showing.{number_of}
 use Rattle.copy_up.proofs.OtherAttributes.{StandsAt, stands-at, thin-directory, alters-placed}
 use Rattle.copy_up.proofs.AlteredObjects.{object-directory}
 use Rattle.copy_up.proofs.Keeping.{then-layers}
+use Rattle.copy_up.proofs.Texts.{marks-same}
 use Rattle.copy_up.proofs.altering.place_with.Goals as goal
 
 pub set_attributes-requires : goal.set_attributes-requires
@@ -42,3 +44,10 @@ returns-clause-sound c =
       layers = then-layers c.args.layers.now c.place_at.new.layers c.set_attributes.new.layers sound.layers c.set_attributes.ensures.lowers c.set_attributes.ensures.keeps;
       thin = λ h. thin-directory c.place_at.new.layers c.set_attributes.new.layers c.set_attributes.ensures.lowers c.args.path.now c.top-dir.result.key c.args.attributes (c.set_attributes.ensures.directory c.args.path.now at.key at.directory) (sound.thin h);
     }
+
+pub returns-clause-texts : goal.returns-clause-texts
+returns-clause-texts c =
+    let old = c.args.layers.now in
+    let new = c.set_attributes.new.layers in
+    let at : StandsAt c.place_at.new.layers.upper c.args.path.now c.top-dir.result.key = stands-at c.place_at.new.layers c.args.path.now c.in_ok-placed.placed c.top-dir.result c.lawful.ensures.tree c.in_ok-placed.ensures.stack c.in_ok-placed.ensures.upper c.top-dir.ensures in
+    marks-same (layer_of old.upper) (layer_of new.upper) _ (λ k. (c.set_attributes.ensures.directory c.args.path.now at.key at.directory).inodes k ∙ c.place_at.ensures.stays.inodes k)

@@ -44,4 +44,4 @@ returns c =
     let target : IsTarget c.args.layers.now c.args.path.now c.args.call.now (c.in-Ok.target.0.now, c.in-Ok.target.1) = rw c.in-Ok.is at c.judged.ensures c.args.path.now c.requires in
     let made = c.in_ok-key.ensures in
     alters-done c.args.call.now c.args.layers.now c.alter.new.layers c.args.metacopy c.args.path.now (c.in-Ok.target.0.now, c.in-Ok.target.1) target made.lowers made.sound c.in_ok-change.change c.in_ok-change.ensures made.altered
-    c.lawful.ensures.tree made.object c.in_ok-key.key made.key
+    c.lawful.ensures.tree made.object c.in_ok-key.key made.key made.texts

@@ -4,6 +4,7 @@ use Rattle.plain_model.specs.Changes.{sized}
 use Rattle.mount_calls.proofs.Named.{written-files}
 use Rattle.mount_calls.proofs.Marks.{sets-written}
 use Rattle.mount_calls.proofs.Writings.{upper-written}
+use Rattle.mount_calls.proofs.Texts.{texts-written}
 use Rattle.mount_calls.proofs.file_bytes.resize_file.Goals as goal
 
 pub returns-clause-sound : goal.returns-clause-sound
@@ -22,3 +23,9 @@ returns-clause-objects c = subst (λ (z : Tree). SameObjects (layer_of z) (layer
 
 pub returns-clause-sets : goal.returns-clause-sets
 returns-clause-sets c = sets-written c.args.layers.now c.upper_mut.result.now c.resize.new.self (sym c.upper_mut.ensures.value) c.args.source c.in-Upper.key c.in-Upper.is (λ old. sized old c.args.size) c.resize.result c.resize.ensures.sets
+
+pub returns-clause-texts : goal.returns-clause-texts
+returns-clause-texts c =
+    let there : IsSome (own_at c.upper_mut.result.now c.in-Upper.key) = search rules in
+    texts-written c.args.layers.now c.upper_mut.result.now c.resize.new.self c.in-Upper.key (λ old. sized old c.args.size) (sym c.upper_mut.ensures.value) there
+    c.resize.result c.resize.ensures.sets c.resize.ensures.err

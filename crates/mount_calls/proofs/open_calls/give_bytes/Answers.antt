@@ -7,6 +7,7 @@ use Rattle.mount_calls.specs.Files.{place_below}
 use Rattle.mount_calls.specs.Living.{SetsFile}
 use Rattle.mount_calls.proofs.OpeningWrites.{sized-none}
 use Rattle.mount_calls.proofs.Marks.{changed-written, own-there}
+use Rattle.copy_up.proofs.Texts.{texts-after}
 use Rattle.mount_calls.proofs.open_calls.give_bytes.Goals as goal
 
 pub fill-requires-clause-source : goal.fill-requires-clause-source
@@ -36,3 +37,7 @@ pub returns-else-flags-clause-gives : goal.returns-else-flags-clause-gives
 returns-else-flags-clause-gives c = λ i b is file.
     subst (λ t. ChangesFile (upper_of c.args.layers.now) (upper_of c.fill.new.layers) c.args.key (cond t [] b) None) (sym c.if-flags.false)
     (c.in_ok-fill.ensures.filled i b is file)
+
+pub returns-in_ok-resize_file-clause-texts : goal.returns-in_ok-resize_file-clause-texts
+returns-in_ok-resize_file-clause-texts c =
+    texts-after c.args.layers.now c.fill.new.layers c.resize_file.new.layers None c.fill.ensures.texts c.resize_file.ensures.texts

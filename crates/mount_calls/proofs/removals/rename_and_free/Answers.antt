@@ -1,9 +1,10 @@
-use Rattle.std.proofs.Common.{true, false, ◌∙◌}
+use Rattle.std.proofs.Common.{true, false, ◌∙◌, Some}
 use Rattle.mount_calls.proofs.Freed.{moves-then}
 use Rattle.mount_calls.proofs.Frames.{renames-moved, renames-parents, renames-same}
 use Rattle.mount_calls.proofs.Keys.{folder-key, look-seen, named-key}
 use Rattle.copy_up.proofs.Keeping.{on-err}
 use Rattle.mount_calls.proofs.Lasting.{both-live}
+use Rattle.copy_up.proofs.Texts.{texts-after}
 use Rattle.mount_calls.proofs.removals.rename_and_free.Goals as goal
 
 pub rename-requires-clause-from : goal.rename-requires-clause-from
@@ -75,3 +76,12 @@ pub returns-in_err-rename-clause-no_memory : goal.returns-in_err-rename-clause-n
 returns-in_err-rename-clause-no_memory c =
     let kept = c.in_err-rename.ensures.no_memory in
     on-err _ c.from_residual.result (record { shown = kept.shown; mount = kept.mount; beneath = both-live c.args.layers.now c.rename.new.layers c.args.old.now c.args.new.now kept.beneath })
+
+pub returns-in-Ok-Directory-clause-texts : goal.returns-in-Ok-Directory-clause-texts
+returns-in-Ok-Directory-clause-texts c =
+    texts-after c.args.layers.now c.rename.new.layers c.free_released.new.layers (Some c.args.old.now) c.rename.ensures.texts c.free_released.ensures.texts
+
+pub returns-in-Ok-Inode-clause-texts : goal.returns-in-Ok-Inode-clause-texts
+returns-in-Ok-Inode-clause-texts c =
+    texts-after c.args.layers.now c.rename.new.layers c.free_released-in-Ok-Inode.new.layers (Some c.args.old.now) c.rename.ensures.texts
+    c.free_released-in-Ok-Inode.ensures.texts

@@ -1,9 +1,12 @@
+use Rattle.std.proofs.Common.{None}
 use Rattle.ov_base.specs.declared.call.Call.TheVariants as call
 use Rattle.mount_calls.proofs.Freed.{takes-then, removes-then}
 use Rattle.mount_calls.proofs.Lasting.{parents-live, rmdir-held}
 use Rattle.mount_calls.proofs.Frames.{none-parents, none-same, none-taken}
 use Rattle.mount_calls.proofs.Keys.{look-seen}
 use Rattle.copy_up.proofs.Keeping.{on-err, sound-then}
+use Rattle.copy_up.proofs.Texts.{texts-after, texts-gained, texts-still}
+use Rattle.mount_calls.proofs.Texts.{texts-unnamed}
 use Rattle.mount_calls.proofs.removals.rmdir_and_free.Goals as goal
 
 pub rmdir-requires : goal.rmdir-requires
@@ -38,3 +41,14 @@ pub returns-in_err-key-clause-no_memory : goal.returns-in_err-key-clause-no_memo
 returns-in_err-key-clause-no_memory c =
     let kept = c.in_err-key.ensures.no_memory in
     on-err _ c.from_residual.result (record { shown = kept.shown; mount = kept.mount; beneath = parents-live c.args.layers.now c.rmdir.new.layers c.args.path.now kept.beneath })
+
+pub returns-in-Ok-clause-texts : goal.returns-in-Ok-clause-texts
+returns-in-Ok-clause-texts c =
+    texts-after c.args.layers.now c.rmdir.new.layers c.free_released.new.layers None
+    (texts-unnamed c.args.layers.now c.rmdir.new.layers c.args.path.now c.in-Ok.key (rw c.in-Ok.is at c.in_ok-key.ensures.unnames)) c.free_released.ensures.texts
+
+pub returns-in-Err-clause-texts : goal.returns-in-Err-clause-texts
+returns-in-Err-clause-texts c = texts-still c.args.layers.now c.rmdir.new.layers None (rw c.in-Err.is at c.in_ok-key.ensures.unchanged)
+
+pub returns-in_err-key-clause-texts : goal.returns-in_err-key-clause-texts
+returns-in_err-key-clause-texts c = texts-gained c.args.layers.now c.rmdir.new.layers c.args.path.now None c.in_err-key.ensures.no_memory.beneath

@@ -16,5 +16,5 @@ returns-in-None-clause-reads g c =
     reads-made g.R.Rule.shows old new j c.finish_seen.new.job c.finish_seen.result c.finish_seen.ensures.over
     (λ s a. (c.in-None.ensures.reads refl s a.0.stands).1)
     (unchanged-lacks (upper_of m.layers) (lowers_of m.layers) m.metacopy j.call none)
-    (same-held m.layers new.mount.layers (unchanged-same m.layers new.mount.layers j.call c.requires.may none made.layers))
+    (same-held m.layers new.mount.layers (unchanged-same m.layers new.mount.layers j.call c.requires.may none made.layers.paths))
     made

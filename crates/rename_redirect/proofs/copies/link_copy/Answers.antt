@@ -1,5 +1,5 @@
 use Rattle.std.proofs.Common.{[], ◌∷◌, List, Some, is_some, reverse, sym, ap, ◌∙◌, subst}
-use Rattle.plain_model.specs.Layers.{Path, Layer, Contents, content_over, held, shows}
+use Rattle.plain_model.specs.Layers.{Path, Layer, Contents, below, content_over, held, shows}
 use Rattle.layer_tree.specs.Tree.{layer_of}
 use Rattle.merged_lookup.specs.declared.layers.Layers.{Layers}
 use Rattle.merged_lookup.specs.Merged.{layers_of, parent, IsStackOf}
@@ -11,6 +11,8 @@ use Rattle.rename_redirect.specs.Linking.{GainsBoth, GivesName}
 use Rattle.rename_redirect.proofs.Gained.{beside-copy}
 use Rattle.rename_redirect.proofs.Given.{gains-first, gives-name, fails-both, copy-name, copy-links, copy-thin, follows}
 use Rattle.rename_redirect.proofs.Shown.{outside-split}
+use Rattle.copy_up.proofs.Texts.{mark_of, marks-same, marks-then}
+use Rattle.rename_redirect.proofs.Texts.{copy-spelled, marks-copied}
 use Rattle.rename_redirect.proofs.copies.link_copy.Goals as goal
 
 pub returns-in_err-copy-clause-no_memory : goal.returns-in_err-copy-clause-no_memory
@@ -129,3 +131,25 @@ returns-in_err-key-clause-sound c =
     let same = subst (λ (z : Layers). ShowsSame z c.place_both.new.layers) c.copy_of.ensures.same c.place_both.ensures.same in
     let stays = subst (λ (z : Layers). Stays z c.place_both.new.layers) c.copy_of.ensures.same c.place_both.ensures.stays in
     (failed-stays c.args.layers.now c.place_both.new.layers c.insert_in_upper.new.layers same stays c.insert_in_upper.ensures.lowers c.in_err-key.ensures.unchanged c.in_err-key.ensures.same c.insert_in_upper.ensures.keeps).sound
+
+pub returns-clause-texts : goal.returns-clause-texts
+returns-clause-texts c =
+    let l0 = c.args.layers.now in
+    let l1 = c.place_both.new.layers in
+    let l2 = c.insert_in_upper.new.layers in
+    let stays = subst (λ (z : Layers). Stays z c.place_both.new.layers) c.copy_of.ensures.same c.place_both.ensures.stays in
+    let n = c.in-Some.name.now in
+    let t = reverse c.in-Some.field-0-1.now in
+    let m = c.in-Some-split_last.further.now in
+    let u = reverse c.in-Some-split_last.field-0-1.now in
+    let from = c.in_ok-from.ensures.from n t c.in-Some.ensures in
+    let onto = c.in_ok-from.ensures.onto m u c.in-Some-split_last.ensures in
+    let out = outside-split c.args.layers.now c.args.old.now c.args.new.now n t m u c.in-Some.ensures c.in-Some-split_last.ensures c.args.place.layer c.args.place.key c.requires.shown.inode c.requires.parents c.requires.absent c.requires.shown.shown in
+    let found = c.in_ok-copy.ensures.copy in
+    let made = found.2 in
+    let copy = c.in_ok-key.ensures.copied t u made.copy from onto (λ e. out [] e) made.is in
+    let text = below (layer_of l0.upper) c.args.old.now in
+    marks-then (layer_of l0.upper) (layer_of l1.upper) (layer_of l2.upper) (Some text)
+    (marks-same (layer_of l0.upper) (layer_of l1.upper) (Some text) stays.inodes)
+    (marks-copied (layer_of l1.upper) (layer_of l2.upper) (n ∷ t) (m ∷ u) made.copy (Some text) copy
+    (λ x is. copy-spelled l0 c.args.metacopy c.args.old.now found.0 c.in_ok-copy.copy made x (ap mark_of made.is ∙ is)))

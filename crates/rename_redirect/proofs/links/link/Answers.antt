@@ -1,5 +1,8 @@
+use Rattle.std.proofs.Common.{Some, refl}
 use Rattle.rename_redirect.specs.Judging.{MayLink}
 use Rattle.rename_redirect.proofs.Given.{link-steps}
+use Rattle.copy_up.proofs.Texts.{texts-still}
+use Rattle.rename_redirect.proofs.Texts.{texts-both}
 use Rattle.rename_redirect.proofs.links.link.Goals as goal
 
 pub returns-in-Err-clause-refused : goal.returns-in-Err-clause-refused
@@ -30,3 +33,10 @@ pub returns-clause-steps : goal.returns-clause-steps
 returns-clause-steps c =
     let may : MayLink c.args.layers.now c.args.old.now c.args.new.now c.in-Ok.found.0.now c.in-Ok.found.1.now c.in-Ok.found.2 = c.in-Ok.ensures.may c.args.layers.now c.args.old.now c.args.new.now c.requires.from c.requires.onto in
     link-steps c.args.layers.now c.give_name.new.layers c.args.metacopy c.args.old.now c.args.new.now c.give_name.ensures.lowers may.fine c.in_ok-key.ensures.linked
+
+pub returns-in-Err-clause-texts : goal.returns-in-Err-clause-texts
+returns-in-Err-clause-texts c = texts-still c.args.layers.now c.args.layers.now (Some c.args.old.now) refl
+
+pub returns-in_err-key-clause-texts : goal.returns-in_err-key-clause-texts
+returns-in_err-key-clause-texts c =
+    texts-both c.args.layers.now c.give_name.new.layers c.args.old.now c.args.new.now (Some c.args.old.now) c.in_err-key.ensures.no_memory.beneath

@@ -1,5 +1,5 @@
-use Rattle.std.proofs.Common.{◌≡◌, ◌∷◌, reverse, sym, ap, ◌∙◌, subst}
-use Rattle.plain_model.specs.Layers.{Path, shows}
+use Rattle.std.proofs.Common.{◌≡◌, ◌∷◌, reverse, sym, ap, ◌∙◌, subst, Some}
+use Rattle.plain_model.specs.Layers.{Path, below, shows}
 use Rattle.layer_tree.specs.Tree.{layer_of}
 use Rattle.merged_lookup.specs.declared.stack.Stack.{Stack}
 use Rattle.merged_lookup.specs.Merged.{layers_of, top_of, IsStackOf}
@@ -11,6 +11,7 @@ use Rattle.rename_redirect.specs.Linking.{GivesName}
 use Rattle.rename_redirect.proofs.Gained.{beside-name}
 use Rattle.rename_redirect.proofs.Given.{gains-second, gives-name, fails-both, own-name, own-links, own-thin}
 use Rattle.rename_redirect.proofs.Shown.{shown-apart}
+use Rattle.rename_redirect.proofs.Texts.{marks-named, texts-since}
 use Rattle.rename_redirect.proofs.links.link_own.Goals as goal
 
 pub link_in_upper-requires-clause-place : goal.link_in_upper-requires-clause-place
@@ -95,3 +96,17 @@ returns-in_err-link_in_upper-clause-sound c =
     let l0 = c.args.layers.now in
     let l1 = c.place_parents.new.layers in
     (failed-stays l0 l1 c.link_in_upper.new.layers p.same p.stays c.link_in_upper.ensures.lowers c.in_err-link_in_upper.ensures.unchanged c.in_err-link_in_upper.ensures.same c.link_in_upper.ensures.keeps).sound
+
+pub returns-clause-texts : goal.returns-clause-texts
+returns-clause-texts c =
+    let p = c.place_parents.ensures in
+    let l0 = c.args.layers.now in
+    let l1 = c.place_parents.new.layers in
+    let l2 = c.link_in_upper.new.layers in
+    let n = c.in-Some.name.now in
+    let t = reverse c.in-Some.parents.now in
+    let place = absent-place l0 l1 c.args.new.now t n c.placed_or.result.now c.top-dir.result c.in-Some.ensures p.same c.requires.absent (subst (λ (s : Stack). IsStackOf c.place_parents.new.layers (reverse c.in-Some.parents.now) s) (sym c.placed_or.ensures) c.in_ok-placed.ensures.stack) (subst (λ (s : Stack). (top_of s.places.items).layer ≡ 0) (sym c.placed_or.ensures) c.in_ok-placed.ensures.upper) c.top-dir.ensures in
+    let named = upper-named l0 c.args.old.now c.args.place c.requires.shown.inode c.requires.own c.requires.shown.shown in
+    let adds = c.in_ok-link_in_upper.ensures.added c.args.old.now t ((p.stays.names c.args.old.now c.args.place.key).1 named.named) place in
+    texts-since l0 l1 l2 c.args.old.now p.same.passes p.stays
+    (marks-named (layer_of l1.upper) (layer_of l2.upper) c.args.old.now (n ∷ t) (Some (below (layer_of l1.upper) c.args.old.now)) adds)

@@ -20,6 +20,8 @@ use Rattle.rename_redirect.proofs.Marking.{marks-lead, not-the-root}
 use Rattle.rename_redirect.proofs.Moving.{leads-held, free-held, under-directory}
 use Rattle.rename_redirect.proofs.Overs.{over-directory, replaces-directory, thin-directory}
 use Rattle.rename_redirect.proofs.Preparing.{Prepared, prepared-own, prepared-directory, folder-there}
+use Rattle.copy_up.proofs.Texts.{marks-same, marks-then}
+use Rattle.rename_redirect.proofs.Texts.{marks-moved, marks-new}
 use Rattle.rename_redirect.proofs.moves.move_directory.Goals as goal
 
 pub move_in_upper-requires-clause-leads : goal.move_in_upper-requires-clause-leads
@@ -171,3 +173,34 @@ returns-clause-thin c =
     let m = c.mark_in_upper-2.ensures.directory (r.further.now ∷ q) at in
     let low = c.mark_in_upper-2.ensures.lowers ∙ c.insert_and_move.ensures.lowers in
     thin-directory l l1 l2 x.m.mid p q r c.in_ok-key.released false c.args.top c.args.marks c.requires.goes.2 folder c.lawful.ensures.together low (λ h. c.mark_in_upper-2.ensures.keeps (c.insert_and_move.ensures.keeps h)) (x.ready false) c.in_ok-key.key x.attributes false None x.there e m c.mark_in_upper-2.ensures.sets c.mark_in_upper-2.ensures.nameless
+
+pub returns-then-top-eq0-clause-texts : goal.returns-then-top-eq0-clause-texts
+returns-then-top-eq0-clause-texts c =
+    let l = c.args.layers.now in
+    let l1 = c.move_in_upper.new.layers in
+    let l2 = c.mark_in_upper.new.layers in
+    let q = c.requires.goes.1 in
+    let r = c.args.route.now in
+    let own = c.requires.goes.3.own c.if-top-eq0.true in
+    let e = c.in_ok-released.ensures.moved c.requires.goes.0 q c.requires.goes.2.route in
+    let at = key-of l1.upper (r.further.now ∷ q) c.args.top.key own.attributes own.opaque own.redirect (e.path.inside [] ∙ own.directory) in
+    marks-then (layer_of l.upper) (layer_of l1.upper) (layer_of l2.upper) None
+    (marks-moved l.upper l1.upper _ _ _ _ None e)
+    (marks-same (layer_of l1.upper) (layer_of l2.upper) None (c.mark_in_upper.ensures.directory (r.further.now ∷ q) at).inodes)
+
+pub returns-clause-texts : goal.returns-clause-texts
+returns-clause-texts c =
+    let l = c.args.layers.now in
+    let l1 = c.insert_and_move.new.layers in
+    let l2 = c.mark_in_upper-2.new.layers in
+    let p = c.requires.goes.0 in
+    let q = c.requires.goes.1 in
+    let r = c.args.route.now in
+    let folder = c.requires.goes.3 in
+    let moves = c.in_ok-key.ensures.moved p q c.requires.goes.2.route in
+    let x = placed-as l l1.upper p q r c.in_ok-key.key c.in_ok-key.released c.args.top c.args.marks c.if-top-eq0.false folder c.in_ok-attributes.attributes
+    (c.in_ok-attributes.ensures.cases ∙ c.attributes_at.ensures (r.name.now ∷ p) folder.attributes folder.shown) moves in
+    let at = key-of l1.upper (r.further.now ∷ q) c.in_ok-key.key x.attributes false None (x.m.moves.path.inside [] ∙ x.there) in
+    marks-then (layer_of l.upper) (layer_of l1.upper) (layer_of l2.upper) None
+    (marks-new l.upper l1.upper _ _ _ _ c.in_ok-key.key _ None moves (λ y is. is))
+    (marks-same (layer_of l1.upper) (layer_of l2.upper) None (c.mark_in_upper-2.ensures.directory (r.further.now ∷ q) at).inodes)

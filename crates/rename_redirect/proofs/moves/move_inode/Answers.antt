@@ -1,5 +1,5 @@
 use Rattle.std.proofs.Common.{◌≡◌, ◌<◌, [], ◌∷◌, ℕ, Bool, Option, None, Some, is_some, ap, sym, subst, ◌∙◌, arith}
-use Rattle.plain_model.specs.Layers.{Path, Contents, Inode, Named, IsLayer, is_directory, held, shows}
+use Rattle.plain_model.specs.Layers.{Path, Contents, Inode, Named, IsLayer, below, is_directory, held, shows}
 use Rattle.layer_tree.specs.Tree.{Tree, layer_of, child}
 use Rattle.layer_tree.specs.Move.{left_object}
 use Rattle.layer_tree.specs.declared.node.Object.{Object}
@@ -17,6 +17,7 @@ use Rattle.rename_redirect.proofs.Preparing.{Prepared, prepared-own, prepared-le
 use Rattle.rename_redirect.specs.declared.entries.Route.{Route}
 use Rattle.rename_redirect.specs.Linking.{CopiesInode}
 use Rattle.rename_redirect.specs.Routes.{IsRoute, IsMove, MovesNew}
+use Rattle.rename_redirect.proofs.Texts.{copy-spelled, marks-moved, marks-new}
 use Rattle.rename_redirect.proofs.moves.move_inode.Goals as goal
 
 pub move_in_upper-requires-clause-route : goal.move_in_upper-requires-clause-route
@@ -139,3 +140,21 @@ returns-clause-thin c =
     let q = c.requires.goes.1 in
     let x = copied c p q c.requires.goes.2 c.requires.goes.4 in
     thin-inode l c.insert_and_move.new.layers x.m.mid p q c.args.route.now c.in_ok-key.released c.args.metacopy c.requires.goes.2 c.lawful.ensures.together (left c).0 (left c).1 x.ready c.in_ok-key.key x.there x.m.moves
+
+pub returns-then-place-eq0-clause-texts : goal.returns-then-place-eq0-clause-texts
+returns-then-place-eq0-clause-texts c =
+    let l = c.args.layers.now in
+    let p = c.requires.goes.0 in
+    let q = c.requires.goes.1 in
+    marks-moved l.upper c.move_in_upper.new.layers.upper _ _ _ _ (Some (below (layer_of l.upper) c.args.old.now)) (c.in_ok-released.ensures.moved p q c.requires.goes.2.route)
+
+pub returns-clause-texts : goal.returns-clause-texts
+returns-clause-texts c =
+    let l = c.args.layers.now in
+    let r = c.args.route.now in
+    let p = c.requires.goes.0 in
+    let q = c.requires.goes.1 in
+    let found = c.in_ok-copy.ensures.copy in
+    let moved = subst (λ (z : Layers). IsRoute (layer_of z.upper) p q r → MovesNew z.upper c.insert_and_move.new.layers.upper (r.name.now ∷ p) (r.further.now ∷ q) c.in_ok-copy.copy (left_object r.covered) c.in_ok-key.key c.in_ok-key.released) c.copy_of.ensures.same (c.in_ok-key.ensures.moved p q) in
+    marks-new l.upper c.insert_and_move.new.layers.upper _ _ c.in_ok-copy.copy _ c.in_ok-key.key _ (Some (below (layer_of l.upper) c.args.old.now))
+    (moved c.requires.goes.2.route) (copy-spelled l c.args.metacopy c.args.old.now found.0 c.in_ok-copy.copy found.2)

@@ -2,6 +2,7 @@ use Rattle.std.proofs.Common.{◌∙◌, ◌∷◌, sym}
 use Rattle.copy_up.proofs.Keeping.{on-err, failed-stays, then-layers}
 use Rattle.rename_redirect.proofs.Given.{fails-both}
 use Rattle.rename_redirect.proofs.Since.{does-since, still-found, still-one, still-folder, still-unnamed}
+use Rattle.rename_redirect.proofs.Texts.{texts-since}
 use Rattle.rename_redirect.proofs.moves.move_object.Goals as goal
 
 pub move_placed-requires-clause-shown : goal.move_placed-requires-clause-shown
@@ -33,3 +34,8 @@ returns-clause-thin c = λ h t. c.in_ok-renamed.ensures.thin (c.place_ways.ensur
 
 pub returns-clause-does : goal.returns-clause-does
 returns-clause-does c = does-since c.args.layers.now c.place_ways.new.layers c.args.old.now c.args.new.now c.place_ways.ensures.same c.place_ways.ensures.stays c.place_ways.ensures.gains c.requires.out c.requires.within c.move_placed.new.layers c.args.metacopy c.in_ok-renamed.renamed c.requires.apart c.in_ok-renamed.ensures.does
+
+pub returns-clause-texts : goal.returns-clause-texts
+returns-clause-texts c =
+    texts-since c.args.layers.now c.place_ways.new.layers c.move_placed.new.layers c.args.old.now c.place_ways.ensures.same.passes c.place_ways.ensures.stays
+    c.in_ok-renamed.ensures.texts

@@ -1,4 +1,4 @@
-use Rattle.std.proofs.Common.{◌∷◌, ◌∙◌, false, true, reverse, ap, subst}
+use Rattle.std.proofs.Common.{◌∷◌, ◌∙◌, false, true, reverse, ap, subst, Some}
 use Rattle.plain_model.specs.Layers.{held, is_directory}
 use Rattle.layer_tree.specs.Tree.{layer_of}
 use Rattle.merged_lookup.specs.declared.stack.Place.{Place}
@@ -7,6 +7,7 @@ use Rattle.copy_up.proofs.OtherAttributes.{found-inode}
 use Rattle.make_remove.proofs.Removing.{found-directory}
 use Rattle.rename_redirect.specs.declared.entries.Route.{Route}
 use Rattle.rename_redirect.proofs.Going.{not-root, is-move, is-folder, moves-as}
+use Rattle.rename_redirect.proofs.Texts.{texts-wider}
 use Rattle.rename_redirect.proofs.moves.move_placed.Goals as goal
 
 pub unreachable-requires : goal.unreachable-requires
@@ -61,3 +62,7 @@ returns-in_ok-key-in-Inode-clause-does c =
       moves-as l c.args.old.now c.args.new.now t u r c.in-Some.ensures c.in-Some-split_last.ensures c.move_inode.new.layers c.args.metacopy false c.in_ok-key-in-Inode.released c.requires.apart (ap is_directory shown.shown) (c.in_ok-key-in-Inode.ensures.moved t u move shown c.in-Some.ensures),
       ap (held (layer_of c.move_inode.new.layers.upper)) c.in-Some-split_last.ensures ∙ c.in_ok-key-in-Inode.ensures.key t u move shown c.in-Some.ensures,
     )
+
+pub returns-in_ok-released-in-Directory-clause-texts : goal.returns-in_ok-released-in-Directory-clause-texts
+returns-in_ok-released-in-Directory-clause-texts c =
+    texts-wider c.args.layers.now c.move_directory.new.layers (Some c.args.old.now) c.in_ok-released-in-Directory.ensures.texts

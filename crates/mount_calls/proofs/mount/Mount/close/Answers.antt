@@ -24,7 +24,7 @@ returns-in-Ok-clause-makes c =
     marks-done client (call.Close fd) m new closed (keeps-attached m.clients closed client _ c.close.ensures) served
     (λ s st fine. stays-named m.layers now s client (call.Close fd) reply.Done (served s st) fine
     (close-paths (the_upper m) (the_lowers m) s st.layers client fd) (paths-files m.layers new leaves.paths))
-    leaves.paths leaves.paths.lowers leaves.thin
+    (record { paths = leaves.paths; texts = c.free_closed.ensures.texts }) leaves.paths.lowers leaves.thin
 
 pub returns-in-Err-clause-makes : goal.returns-in-Err-clause-makes
 returns-in-Err-clause-makes c =

@@ -34,7 +34,7 @@ returns-in-Ok-clause-makes c = λ client.
     makes-done client (call.Hardlink p q) m new
     (λ s st. link-done m s st new client p q allowed c.link.ensures.lowers (steps s st.layers st.metacopy client) live (link-leaves p q))
     (λ s st fine. keeps-named m.layers new m.metacopy (call.Hardlink p q) live s st.layers st.metacopy client)
-    (but-given m.layers new m.metacopy p q linked) c.link.ensures.lowers c.link.ensures.sound.thin
+    (record { paths = but-given m.layers new m.metacopy p q linked; texts = c.link.ensures.texts }) c.link.ensures.lowers c.link.ensures.sound.thin
 
 pub returns-in-Err-clause-makes : goal.returns-in-Err-clause-makes
 returns-in-Err-clause-makes c = λ client.
@@ -55,4 +55,4 @@ returns-in_err-key-clause-makes c = λ client.
     let kept = c.in_err-key.ensures.no_memory in
     makes-unshown client (call.Hardlink p q) m new
     (outcome_result c.from_residual.result) (outcome-err c.from_residual.result c.from_residual.ensures.0) kept.mount
-    (both-live m.layers new p q kept.beneath) (but-parents m.layers new p q kept.beneath) c.link.ensures.lowers c.link.ensures.sound.thin
+    (both-live m.layers new p q kept.beneath) (record { paths = but-parents m.layers new p q kept.beneath; texts = c.link.ensures.texts }) c.link.ensures.lowers c.link.ensures.sound.thin

@@ -1,4 +1,4 @@
-use Rattle.std.proofs.Common.{◌∙◌, refl}
+use Rattle.std.proofs.Common.{◌∙◌, refl, None}
 use Rattle.ov_base.specs.declared.call.Call.TheVariants as call
 use Rattle.merged_lookup.specs.Merged.{upper_of, lowers_of}
 use Rattle.mount_laws.proofs.Looks.{law_of_mkdir}
@@ -11,6 +11,8 @@ use Rattle.mount_calls.proofs.LeftMarks.{refused-marks, wanted-marks}
 use Rattle.mount_calls.proofs.MakingCalls.{makes-done, makes-unmade, makes-unshown}
 use Rattle.mount_calls.proofs.Named.{keeps-named}
 use Rattle.mount_calls.proofs.Parsed.{mode-fault}
+use Rattle.copy_up.proofs.Texts.{texts-gained}
+use Rattle.mount_calls.proofs.Texts.{texts-kept}
 use Rattle.mount_calls.proofs.mount.Mount.mkdir.Goals as goal
 
 pub mkdir-requires : goal.mkdir-requires
@@ -37,7 +39,7 @@ returns-in-Ok-2-clause-makes c = λ client.
     makes-done client (call.Mkdir p c.args.mode) m new
     (λ s st. mkdir-done m s st new client p c.args.mode allowed made.lowers (steps s st.layers client) live (mkdir-leaves p c.args.mode))
     (λ s st fine. keeps-named m.layers new m.metacopy (call.Mkdir p c.args.mode) live s st.layers st.metacopy client)
-    (around-others m.layers new p made.others) made.lowers c.mkdir.ensures.sound.thin
+    (record { paths = around-others m.layers new p made.others; texts = texts-kept m.layers new None made.objects }) made.lowers c.mkdir.ensures.sound.thin
 
 pub returns-in-Err-2-clause-makes : goal.returns-in-Err-2-clause-makes
 returns-in-Err-2-clause-makes c = λ client.
@@ -56,7 +58,7 @@ returns-in_err-mkdir-clause-makes c = λ client.
     let new = c.mkdir.new.layers in
     let kept = c.in_err-mkdir.ensures.no_memory in
     makes-unshown client (call.Mkdir p c.args.mode) m new c.from_residual.result c.from_residual.ensures.0 kept.mount
-    (parents-live m.layers new p kept.beneath) (around-parents m.layers new p kept.beneath) kept.beneath.lowers c.mkdir.ensures.sound.thin
+    (parents-live m.layers new p kept.beneath) (record { paths = around-parents m.layers new p kept.beneath; texts = texts-gained m.layers new p None kept.beneath }) kept.beneath.lowers c.mkdir.ensures.sound.thin
 
 pub returns-in-Err-clause-marks : goal.returns-in-Err-clause-marks
 returns-in-Err-clause-marks c =

@@ -15,6 +15,7 @@ use Rattle.mount_calls.proofs.Frames.{none-same, none-then}
 use Rattle.mount_calls.proofs.Lasting.{parents-live}
 use Rattle.mount_calls.specs.Making.{ServesEach}
 use Rattle.mount_calls.proofs.MakingCalls.{answers-open}
+use Rattle.copy_up.proofs.Texts.{texts-after, texts-still}
 use Rattle.mount_calls.proofs.mount.Mount.open_copied.Goals as goal
 use Rattle.mount_calls.proofs.mount.Mount.open_copied.Goals.{then-flags+in_ok-resize_file, else-flags}
 
@@ -95,3 +96,14 @@ returns-clause-answers c =
     stays-named m.layers now s c.args.client asked (reply.Descriptor c.args.descriptor) (served s st) fine
     (open-paths (the_upper c.args.self.now) (the_lowers c.args.self.now) s st.layers c.args.client c.args.path.now c.args.flags c.args.mode fine (ap is_some c.requires.shown.shown))
     files)
+
+pub returns-clause-texts : goal.returns-clause-texts
+returns-clause-texts c = elim c.if-flags.branch [
+  | then-flags+in_ok-resize_file w ↦
+      rw w.self-is
+      (texts-after c.args.self.now.layers c.bring_up.new.layers w.resize_file.new.layers None c.bring_up.ensures.texts w.resize_file.ensures.texts)
+  | else-flags w ↦ rw w.self-is c.bring_up.ensures.texts
+]
+
+pub returns-in_err-reserve_file-clause-texts : goal.returns-in_err-reserve_file-clause-texts
+returns-in_err-reserve_file-clause-texts c = texts-still c.args.self.now.layers c.args.self.now.layers None refl

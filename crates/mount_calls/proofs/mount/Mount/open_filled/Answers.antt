@@ -19,6 +19,7 @@ use Rattle.mount_calls.proofs.Stating.{the_lowers, the_upper}
 use Rattle.mount_calls.specs.Living.{StaysLive}
 use Rattle.mount_calls.specs.Making.{ServesEach}
 use Rattle.mount_calls.proofs.MakingCalls.{answers-open}
+use Rattle.copy_up.proofs.Texts.{texts-still}
 use Rattle.mount_calls.proofs.mount.Mount.open_filled.Goals as goal
 
 pub returns-in_err-reserve_file-clause-no_memory : goal.returns-in_err-reserve_file-clause-no_memory
@@ -81,3 +82,9 @@ pub returns-clause-around : goal.returns-clause-around
 returns-clause-around c =
     none-then c.args.self.now.layers c.args.self.now.layers c.give_bytes.new.layers c.args.path.now c.give_bytes.ensures.objects
     (none-same c.args.self.now.layers c.args.self.now.layers c.args.path.now refl)
+
+pub returns-in_err-reserve_file-clause-texts : goal.returns-in_err-reserve_file-clause-texts
+returns-in_err-reserve_file-clause-texts c = texts-still c.args.self.now.layers c.args.self.now.layers None refl
+
+pub returns-then-not-is_countable-clause-texts : goal.returns-then-not-is_countable-clause-texts
+returns-then-not-is_countable-clause-texts c = texts-still c.args.self.now.layers c.args.self.now.layers None refl

@@ -10,6 +10,8 @@ use Rattle.mount_calls.proofs.Lasting.{create-live, parents-live}
 use Rattle.mount_calls.proofs.Named.{keeps-named}
 use Rattle.mount_calls.proofs.Frames.{none-named, none-parents, none-same}
 use Rattle.mount_calls.proofs.MakingCalls.{answers-open}
+use Rattle.copy_up.proofs.Texts.{texts-gained, texts-still}
+use Rattle.mount_calls.proofs.Texts.{texts-made}
 use Rattle.mount_calls.proofs.mount.Mount.open_made.Goals as goal
 
 pub returns-in_err-reserve_file-clause-no_memory : goal.returns-in_err-reserve_file-clause-no_memory
@@ -54,3 +56,12 @@ returns-clause-answers c =
     (λ s st. open-made m s st client c.reserve_file.new.self c.reserve_file.ensures.same c.args.path.now c.args.flags c.args.mode c.requires.allowed c.requires.absent new c.in_ok-key.key made.0 made.1 c.in_ok-key.ensures.steps c.args.descriptor c.open_reserved.new.self opens)
     (λ s st fine. keeps-named m.layers new m.metacopy asked
     (create-live m.layers new m.metacopy c.args.path.now c.args.mode made.0 c.in_ok-key.ensures.steps c.args.flags) s st.layers st.metacopy client)
+
+pub returns-in_err-key-clause-texts : goal.returns-in_err-key-clause-texts
+returns-in_err-key-clause-texts c = texts-gained c.args.self.now.layers c.create.new.layers c.args.path.now None c.in_err-key.ensures.no_memory.beneath
+
+pub returns-clause-texts : goal.returns-clause-texts
+returns-clause-texts c = texts-made c.args.self.now.layers c.create.new.layers c.args.path.now _ _ c.in_ok-key.ensures.made.0
+
+pub returns-in_err-reserve_file-clause-texts : goal.returns-in_err-reserve_file-clause-texts
+returns-in_err-reserve_file-clause-texts c = texts-still c.args.self.now.layers c.args.self.now.layers None refl

@@ -16,6 +16,7 @@ use Rattle.mount_calls.proofs.Named.{open-paths, stay-files, stays-named}
 use Rattle.mount_calls.proofs.Stating.{the_lowers, the_upper}
 use Rattle.mount_calls.specs.Making.{ServesEach}
 use Rattle.mount_calls.proofs.MakingCalls.{answers-open}
+use Rattle.copy_up.proofs.Texts.{texts-still}
 use Rattle.mount_calls.proofs.mount.Mount.open_shown.Goals as goal
 
 pub returns-in_err-open-clause-no_memory : goal.returns-in_err-open-clause-no_memory
@@ -70,3 +71,18 @@ returns-else-flags-clause-answers c =
 
 pub returns-in_err-low-clause-no_memory : goal.returns-in_err-low-clause-no_memory
 returns-in_err-low-clause-no_memory c = on-err c.from_residual-in_err-low.result _ (record { states = λ s st. st; live = λ t d j live. live })
+
+pub returns-in_err-open-clause-texts : goal.returns-in_err-open-clause-texts
+returns-in_err-open-clause-texts c = texts-still c.args.self.now.layers c.args.self.now.layers None refl
+
+pub returns-in_err-open_file-clause-texts : goal.returns-in_err-open_file-clause-texts
+returns-in_err-open_file-clause-texts c = texts-still c.args.self.now.layers c.args.self.now.layers None refl
+
+pub returns-in_default-clause-texts : goal.returns-in_default-clause-texts
+returns-in_default-clause-texts c = texts-still c.args.self.now.layers c.args.self.now.layers None refl
+
+pub returns-else-flags-clause-texts : goal.returns-else-flags-clause-texts
+returns-else-flags-clause-texts c = texts-still c.args.self.now.layers c.args.self.now.layers None refl
+
+pub returns-in_err-low-clause-texts : goal.returns-in_err-low-clause-texts
+returns-in_err-low-clause-texts c = texts-still c.args.self.now.layers c.args.self.now.layers None refl

@@ -71,7 +71,7 @@ returns-in-Ok-Ok-Some-clause-makes c = λ client.
     (λ a e. subst (λ z. IfSome z (HasAttributes (layers_of m.layers) q)) e c.in_ok-replaced.ensures.left)
     c.rename.new.self c.rename.ensures.renames)
     (λ s st fine. moved.named s st.layers st.redirects st.metacopy client)
-    c.rename_and_free.ensures.paths c.rename_and_free.ensures.lowers thin
+    (record { paths = c.rename_and_free.ensures.paths; texts = c.rename_and_free.ensures.texts }) c.rename_and_free.ensures.lowers thin
 
 pub returns-in-Ok-Ok-None-clause-makes : goal.returns-in-Ok-Ok-None-clause-makes
 returns-in-Ok-Ok-None-clause-makes c = λ client.
@@ -88,7 +88,7 @@ returns-in-Ok-Ok-None-clause-makes c = λ client.
     (λ s st. rename-same m s st client p q allowed does.0 _
     (subst (λ z. IsStateOf (record m { layers = z; clients = clients }) s) (sym does.1) (same-state m s st clients same)))
     (λ s st fine. rename-same-named m s st client p q allowed does.0 new does.1)
-    c.rename_and_free.ensures.paths c.rename_and_free.ensures.lowers thin
+    (record { paths = c.rename_and_free.ensures.paths; texts = c.rename_and_free.ensures.texts }) c.rename_and_free.ensures.lowers thin
 
 pub returns-in-Ok-Err-clause-makes : goal.returns-in-Ok-Err-clause-makes
 returns-in-Ok-Err-clause-makes c = λ client.
@@ -115,7 +115,7 @@ returns-in-Err-clause-makes c = λ client.
     let kept = c.in-Err.ensures.no_memory in
     makes-out client (call.Rename p q) m (record m { layers = new; clients = clients }) (Err c.in-Err.fault) refl
     (record { states = rename-wanted m new clients same kept.mount c.rename_and_free.ensures.lowers kept.beneath; live = kept.beneath })
-    (attached-places m.clients clients same) c.rename_and_free.ensures.paths c.rename_and_free.ensures.lowers thin
+    (attached-places m.clients clients same) (record { paths = c.rename_and_free.ensures.paths; texts = c.rename_and_free.ensures.texts }) c.rename_and_free.ensures.lowers thin
 
 pub returns-in_err-replaced-clause-marks : goal.returns-in_err-replaced-clause-marks
 returns-in_err-replaced-clause-marks c =

@@ -8,6 +8,7 @@ use Rattle.mount_calls.proofs.Lasting.{rmdir-leaves}
 use Rattle.mount_calls.proofs.LeftMarks.{refused-marks, wanted-marks}
 use Rattle.mount_calls.proofs.MakingCalls.{attached-removed, makes-done, makes-nothing, makes-unmade, makes-unshown, marks-done}
 use Rattle.mount_calls.proofs.Named.{removes-named}
+use Rattle.mount_calls.specs.Keeping.{KeepsLayers}
 use Rattle.mount_calls.proofs.mount.Mount.rmdir.Goals as goal
 use Rattle.mount_calls.proofs.mount.Mount.rmdir.Goals.{in-Some, in_default}
 
@@ -36,7 +37,7 @@ returns-after-attributes-3-clause-makes c = λ client.
     let live = rw c.in-Ok.is at c.in_ok-rmdir_and_free.ensures.live in
     let files = c.lawful.ensures.files in
     let leaves = rmdir-leaves p in
-    let around = c.rmdir_and_free.ensures.around in
+    let around : KeepsLayers (call.Rmdir p) m.layers new = record { paths = c.rmdir_and_free.ensures.around; texts = c.rmdir_and_free.ensures.texts } in
     let thin = c.rmdir_and_free.ensures.sound.thin in
     elim c.match-attributes-3.branch [
       | in-Some w ↦ rw w.self-is (marks-done client (call.Rmdir p) m new w.remove.new.self (attached-removed m.clients w.remove.new.self p w.in-Some.attributes w.remove.ensures)
@@ -56,7 +57,7 @@ returns-in_err-rmdir_and_free-clause-makes c = λ client.
     let kept = c.in_err-rmdir_and_free.ensures.no_memory in
     makes-unshown client (call.Rmdir c.args.path.now) c.args.self.now c.rmdir_and_free.new.layers
     c.from_residual-in_err-rmdir_and_free.result c.from_residual-in_err-rmdir_and_free.ensures.0 kept.mount kept.beneath
-    c.rmdir_and_free.ensures.around kept.shown.lowers c.rmdir_and_free.ensures.sound.thin
+    (record { paths = c.rmdir_and_free.ensures.around; texts = c.rmdir_and_free.ensures.texts }) kept.shown.lowers c.rmdir_and_free.ensures.sound.thin
 
 pub returns-in_err-attributes-clause-marks : goal.returns-in_err-attributes-clause-marks
 returns-in_err-attributes-clause-marks c =

@@ -1,4 +1,4 @@
-use Rattle.std.proofs.Common.{◌∙◌, refl}
+use Rattle.std.proofs.Common.{◌∙◌, refl, None}
 use Rattle.ov_base.specs.declared.call.Call.TheVariants as call
 use Rattle.merged_lookup.specs.Merged.{upper_of, lowers_of}
 use Rattle.mount_laws.proofs.Refusing.{law_of_symlink}
@@ -9,6 +9,8 @@ use Rattle.mount_calls.proofs.Lasting.{symlink-live, symlink-leaves, parents-liv
 use Rattle.mount_calls.proofs.MakingCalls.{makes-done, makes-nothing, makes-unmade, makes-unshown}
 use Rattle.mount_calls.proofs.Named.{keeps-named}
 use Rattle.mount_calls.proofs.Parsed.{target-fault}
+use Rattle.copy_up.proofs.Texts.{texts-gained}
+use Rattle.mount_calls.proofs.Texts.{texts-made}
 use Rattle.mount_calls.proofs.mount.Mount.symlink.Goals as goal
 
 pub symlink-requires : goal.symlink-requires
@@ -41,7 +43,7 @@ returns-in-Ok-2-clause-makes c = λ client.
     makes-done client (call.Symlink target p) m new
     (λ s st. symlink-done m s st new client target p allowed made.lowers (steps s st.layers client) live (symlink-leaves target p))
     (λ s st fine. keeps-named m.layers new m.metacopy (call.Symlink target p) live s st.layers st.metacopy client)
-    (none-named m.layers new p made.number made.held_there made.others) made.lowers c.symlink.ensures.sound.thin
+    (record { paths = none-named m.layers new p made.number made.held_there made.others; texts = texts-made m.layers new p _ _ made }) made.lowers c.symlink.ensures.sound.thin
 
 pub returns-in-Err-2-clause-makes : goal.returns-in-Err-2-clause-makes
 returns-in-Err-2-clause-makes c = λ client.
@@ -62,4 +64,4 @@ returns-in_err-symlink-clause-makes c = λ client.
     let kept = c.in_err-symlink.ensures.no_memory in
     makes-unshown client (call.Symlink c.args.target.now p) m new
     c.from_residual-in_err-symlink.result c.from_residual-in_err-symlink.ensures.0 kept.mount
-    (parents-live m.layers new p kept.beneath) (none-parents m.layers new p kept.beneath) kept.beneath.lowers c.symlink.ensures.sound.thin
+    (parents-live m.layers new p kept.beneath) (record { paths = none-parents m.layers new p kept.beneath; texts = texts-gained m.layers new p None kept.beneath }) kept.beneath.lowers c.symlink.ensures.sound.thin

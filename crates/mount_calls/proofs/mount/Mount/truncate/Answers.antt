@@ -17,7 +17,7 @@ pub returns-in_err-resize_file-clause-makes : goal.returns-in_err-resize_file-cl
 returns-in_err-resize_file-clause-makes c =
     let made = c.in_err-resize_file.ensures in
     makes-unshown c.args.client (call.Truncate c.args.descriptor c.args.size) c.args.self.now c.resize_file.new.layers
-    c.from_residual.result c.from_residual.ensures.0 made.mounts made.stays made.objects made.lowers made.sound.thin
+    c.from_residual.result c.from_residual.ensures.0 made.mounts made.stays (record { paths = made.objects; texts = c.resize_file.ensures.texts }) made.lowers made.sound.thin
 
 pub returns-clause-makes : goal.returns-clause-makes
 returns-clause-makes c =
@@ -31,4 +31,4 @@ returns-clause-makes c =
     let served : ServesEach client k m now reply.Done = λ s st. truncate-done m s st client fd c.args.size c.in-Ok.file file.0 file.1 c.resize_file.new.layers made.sound.layers made.sets in
     makes-done client k m c.resize_file.new.layers served
     (λ s st fine. stays-named m.layers now s client k reply.Done (served s st) fine (truncate-paths s client fd c.args.size) c.resize_file.ensures.files)
-    made.objects made.lowers made.sound.thin
+    (record { paths = made.objects; texts = c.resize_file.ensures.texts }) made.lowers made.sound.thin

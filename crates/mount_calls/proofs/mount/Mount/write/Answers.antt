@@ -38,7 +38,7 @@ pub returns-in_err-write_file : goal.returns-in_err-write_file
 returns-in_err-write_file c =
     let made = c.in_err-write_file.ensures in
     makes-unshown c.args.client (call.Write c.args.descriptor c.args.bytes.now) c.args.self.now c.write_file.new.layers
-    c.from_residual.result c.from_residual.ensures.0 made.mounts made.stays made.objects made.lowers made.sound.thin
+    c.from_residual.result c.from_residual.ensures.0 made.mounts made.stays (record { paths = made.objects; texts = c.write_file.ensures.texts }) made.lowers made.sound.thin
 
 pub returns : goal.returns
 returns c =
@@ -60,4 +60,4 @@ returns c =
     c.write_file.new.layers made.sound.layers made.sets c.move_to.new.self c.move_to.ensures in
     makes-changed client k m now (reply.Written count) (λ e is. let no : reply.Written count ≡ reply.Refused e = is in cc) served
     (λ s st fine. stays-named m.layers now s client k (reply.Written count) (served s st) fine (write-paths s client fd bytes) c.write_file.ensures.files)
-    (keeps-attached m.clients c.move_to.new.self client _ c.move_to.ensures) made.objects made.lowers made.sound.thin
+    (keeps-attached m.clients c.move_to.new.self client _ c.move_to.ensures) (record { paths = made.objects; texts = c.write_file.ensures.texts }) made.lowers made.sound.thin

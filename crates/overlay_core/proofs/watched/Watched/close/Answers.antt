@@ -13,5 +13,5 @@ returns g c =
       refused = said.refused;
       marks = λ is. tt;
       no_memory = tt;
-      kept = record { clients = said.clients; layers = said.paths; lowers = said.paths.lowers; thin = said.thin };
+      kept = record { clients = said.clients; layers = record { paths = said.paths; texts = said.texts }; lowers = said.paths.lowers; thin = said.thin };
     }

@@ -47,7 +47,7 @@ returns-clause-clients g c =
 
 pub returns-clause-paths : goal.returns-clause-paths
 returns-clause-paths g c =
-    let kept = c.close-reply.ensures.makes.layers in
+    let kept = c.close-reply.ensures.makes.layers.paths in
     elim c.match-bits.branch [ in-Some w ↦ rw w.self-is kept | in_default w ↦ rw w.self-is kept ]
 
 pub returns-clause-thin : goal.returns-clause-thin
@@ -58,4 +58,9 @@ returns-clause-thin g c =
 pub returns-clause-refused : goal.returns-clause-refused
 returns-clause-refused g c =
     let kept = c.close-reply.ensures.makes.answers.refused in
+    elim c.match-bits.branch [ in-Some w ↦ rw w.self-is kept | in_default w ↦ rw w.self-is kept ]
+
+pub returns-clause-texts : goal.returns-clause-texts
+returns-clause-texts g c =
+    let kept = c.close-reply.ensures.makes.layers.texts in
     elim c.match-bits.branch [ in-Some w ↦ rw w.self-is kept | in_default w ↦ rw w.self-is kept ]
