@@ -2,6 +2,10 @@
 //! function of `ov_embedded` that it calls promises.
 #![tactic(auto)]
 
+ghost use Rattle.std.specs.Prelude.{◌≡◌, pos};
+ghost use Rattle.std.specs.declared.option.Option.TheVariants.{None};
+ghost use Rattle.overlayd_c.specs.Numbers.{IsAttached, IsCalled, IsDetached, IsMade, IsRepeated, Tells, number_of};
+
 use ov_embedded::{
     Handle, Outcome, attach_through, call_through, detach_through, mount_through, reply_through,
     unmount_through,
@@ -12,7 +16,9 @@ use std::alloc::Global;
 const VERSION: u32 = 0x0001_0000;
 
 // The number by which C is told an outcome: `enum ovl_status`.
-fn status_of(outcome: Outcome) -> i32 {
+fn status_of(outcome: Outcome) -> i32
+    ensures { result ≡ pos (number_of outcome) }
+{
     match outcome {
         Outcome::Done => 0,
         Outcome::Unwritten => 1,
@@ -29,7 +35,9 @@ fn status_of(outcome: Outcome) -> i32 {
 }
 
 // Tells a number, where there is one.
-fn told(given: Result<u64, Outcome>, number: &mut u64) -> i32 {
+fn told(given: Result<u64, Outcome>, number: &mut u64) -> i32
+    ensures { Tells given number.old number.new result }
+{
     match given {
         Ok(it) => {
             *number = it;
@@ -57,7 +65,9 @@ pub extern "C" fn ovl_mount_manifest(
     keys: &[u8; 16],
     room: &mut [u8],
     length: &mut usize,
-) -> i32 {
+) -> i32
+    ensures { IsMade manifest.now blobs.now lengths.now mount.old.mounted mount.new.mounted result }
+{
     let (outcome, count) = mount_through(alloc, mount, manifest, blobs, lengths, keys, room);
     *length = count;
     status_of(outcome)
@@ -65,24 +75,25 @@ pub extern "C" fn ovl_mount_manifest(
 
 /// Ends a mount, if there is one: all that it has is freed.
 #[unsafe(no_mangle)]
-pub extern "C" fn ovl_unmount(alloc: Global, mount: &mut Handle) {
+pub extern "C" fn ovl_unmount(alloc: Global, mount: &mut Handle)
+    ensures { mount.new.mounted ≡ None }
+{
     unmount_through(alloc, mount);
 }
 
 /// Attaches a client, whose number is told.
 #[unsafe(no_mangle)]
-pub extern "C" fn ovl_attach(alloc: Global, mount: &mut Handle, client: &mut u64) -> i32 {
+pub extern "C" fn ovl_attach(alloc: Global, mount: &mut Handle, client: &mut u64) -> i32
+    ensures { IsAttached mount.old.mounted mount.new.mounted client.old client.new result }
+{
     told(attach_through(alloc, mount), client)
 }
 
 /// Detaches a client, which closes what it has open; the place of that is told.
 #[unsafe(no_mangle)]
-pub extern "C" fn ovl_detach(
-    alloc: Global,
-    mount: &mut Handle,
-    client: u64,
-    place: &mut u64,
-) -> i32 {
+pub extern "C" fn ovl_detach(alloc: Global, mount: &mut Handle, client: u64, place: &mut u64) -> i32
+    ensures { IsDetached client mount.old.mounted mount.new.mounted place.old place.new result }
+{
     told(detach_through(alloc, mount, client), place)
 }
 
@@ -96,7 +107,10 @@ pub extern "C" fn ovl_call(
     request: &[u8],
     room: &mut [u8],
     length: &mut usize,
-) -> i32 {
+) -> i32
+    ensures { IsCalled client request.now mount.old.mounted mount.new.mounted room.old room.new
+        length.new result }
+{
     let (outcome, count) = call_through(alloc, mount, client, request, room);
     *length = count;
     status_of(outcome)
@@ -109,7 +123,9 @@ pub extern "C" fn ovl_reply(
     mount: &mut Handle,
     room: &mut [u8],
     length: &mut usize,
-) -> i32 {
+) -> i32
+    ensures { IsRepeated mount.old.mounted mount.new.mounted room.old room.new length.new result }
+{
     let (outcome, count) = reply_through(alloc, mount, room);
     *length = count;
     status_of(outcome)
