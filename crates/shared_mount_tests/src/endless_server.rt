@@ -5,7 +5,7 @@ use crate::two_workers::{EMPTY, by_two, two_clients};
 use endless_mount::Blank;
 use overlay_core::Core;
 use socket_server::{Keeper, ServeOptions, Served, serve_endless_on};
-use std::alloc::{AllocError, Global};
+use std::alloc::Global;
 use std::fs;
 use std::fs::Files;
 use std::hash::RandomState;
@@ -33,7 +33,7 @@ impl Keeper for Deeds {
     }
 }
 
-// How the server ends, and what its clients met.
+// How the server of two clients ends.
 fn served<F, R, H>(
     rt: &H,
     alloc: Global,
@@ -41,7 +41,7 @@ fn served<F, R, H>(
     listener: &UnixListener,
     blank: Blank<F, R>,
     deeds: &mut Deeds,
-) -> (Result<Served, AllocError>, Result<(), Fail>)
+) -> Served
 where
     F: Callback + Copy + Send + Sync,
     R: Rule + Send + Sync,
@@ -49,35 +49,34 @@ where
 {
     let hooks: Vec<Hook<F, R>> = Vec::new(alloc);
     let (hooks, path) = (hooks.as_slice(), options.socket);
-    join(
+    let (end, ()) = join(
         rt,
         move || serve_endless_on(rt, alloc, listener, blank, hooks, options, deeds),
         || two_clients(rt, path),
-    )
+    );
+    end.expect(rt, "memory")
 }
 
 // All replies are read, the workers end, and the core has seen each deed once.
-fn served_by_two<F, R, H>(rt: &H, alloc: Global, keys: RandomState, path: &str) -> Result<(), Fail>
+fn served_by_two<F, R, H>(rt: &H, alloc: Global, keys: RandomState, path: &str)
 where
     F: Callback + Copy + Send + Sync,
     R: Rule + Send + Sync,
     H: Files + Net + Threads + Wait + Eprint + Abort + Sync,
 {
-    let listener = UnixListener::bind(rt, path)?;
-    let blank = Blank::new(alloc, core_of::<F, R>(alloc, keys, EMPTY)?);
+    let listener = UnixListener::bind(rt, path).expect(rt, "a socket");
+    let blank = Blank::new(alloc, core_of::<F, R>(rt, alloc, keys, EMPTY));
     let mut deeds = Deeds { finished: 0 };
-    let (end, met) = served(rt, alloc, &by_two(path), &listener, blank, &mut deeds);
-    let removed = fs::remove_file(rt, path);
-    met?;
-    removed?;
-    assert_eq!(rt; end?, Served::Done);
+    let end = served(rt, alloc, &by_two(path), &listener, blank, &mut deeds);
+    fs::remove_file(rt, path).expect(rt, "no socket is left");
+    assert_eq!(rt; end, Served::Done);
     assert_eq!(rt; deeds.finished, DONE);
-    Ok(())
 }
 
 #[test]
 fn two_workers_serve_an_endless_mount(rt: HostRuntime) -> Result<(), Fail> {
     let path = socket_path(&rt, "endless")?;
     let keys = RandomState::new(&rt)?;
-    served_by_two::<Silent, AnyAnswer, HostRuntime>(&rt, rt.alloc(), keys, path.as_str())
+    served_by_two::<Silent, AnyAnswer, HostRuntime>(&rt, rt.alloc(), keys, path.as_str());
+    Ok(())
 }

@@ -1,6 +1,7 @@
 // Mounts that are opened under a name, and what is tried on each.
 ghost use Rattle.locked_history.specs.Names.{IsNamed};
 
+use crate::doors::{Scenario, happens};
 use crate::gates::{lets_through, refuses_held, stops_at};
 use crate::mounts::{End, blank_of, ended};
 use crate::racing::{RACED, races};
@@ -12,9 +13,8 @@ use std::marker::Brand;
 use std::process::Abort;
 use std::rt::Clock;
 use std::sync::Wait;
-use std::test::Fail;
 use std::thread::Threads;
-use watch_table::{Callback, Rule};
+use watch_table::{Callback, Hook, Rule};
 
 /// What is tried on a mount.
 #[derive(Clone, Copy)]
@@ -26,6 +26,8 @@ pub enum Trial {
     LetsThrough(u64),
     StopsAt(u64),
     IsMeddledWith,
+    /// A session over bytes in memory.
+    HasSession(Scenario),
 }
 
 /// Tries this on a mount of a manifest's layers.
@@ -35,9 +37,18 @@ pub fn named<F: Callback + Drop + Send, R: Rule + Send, H: Threads + Wait + Abor
     keys: RandomState,
     manifest: &str,
     trial: Trial,
-) -> Result<(), Fail> {
-    let blank: Blank<F, R> = blank_of(alloc, keys, manifest)?;
-    tries::<Brand, F, R, H>(rt, alloc, blank, trial)
+) {
+    named_with::<F, R, H>(rt, alloc, keys, manifest, trial, Vec::new(alloc));
+}
+
+/// The same where a client comes with these hooks.
+pub fn named_with<
+    F: Callback + Drop + Send,
+    R: Rule + Send,
+    H: Threads + Wait + Abort + Clock + Sync,
+>(rt: &H, alloc: Global, keys: RandomState, manifest: &str, trial: Trial, hooks: Vec<Hook<F, R>>) {
+    let blank: Blank<F, R> = blank_of(rt, alloc, keys, manifest);
+    tries::<Brand, F, R, H>(rt, alloc, blank, trial, hooks);
 }
 
 fn tries<
@@ -45,16 +56,14 @@ fn tries<
     F: Callback + Drop + Send,
     R: Rule + Send,
     H: Threads + Wait + Abort + Clock + Sync,
->(rt: &H, alloc: Global, blank: Blank<F, R>, trial: Trial) -> Result<(), Fail>
+>(rt: &H, alloc: Global, blank: Blank<F, R>, trial: Trial, hooks: Vec<Hook<F, R>>)
     requires { IsNamed N.cells N.name N.parts N.opening blank }
 {
     let mount = Mount::<N, F, R>::open(blank);
     let mut receipts = Vec::new(alloc);
-    let outcome = tried(rt, alloc, &mount, trial, &mut receipts);
-    let end = ended(alloc, mount, receipts);
-    outcome?;
+    tried(rt, alloc, &mount, trial, hooks, &mut receipts);
+    let end = ended(rt, alloc, mount, receipts);
     check_end(rt, trial, end);
-    Ok(())
 }
 
 // Tries this, and leaves the receipts that the mount is to be given back.
@@ -68,8 +77,13 @@ fn tried<
     alloc: Global,
     mount: &Mount<N, F, R>,
     trial: Trial,
+    hooks: Vec<Hook<F, R>>,
     receipts: &mut Vec<Receipt<N>>,
-) -> Result<(), Fail> {
+) {
+    if let Trial::HasSession(scenario) = trial {
+        return happens(rt, alloc, mount, scenario, hooks, receipts);
+    }
+    drop(hooks);
     match trial {
         Trial::Fills => fill(rt, alloc, mount, receipts),
         Trial::UsesANumber => uses_a_number(rt, alloc, mount),
@@ -78,6 +92,7 @@ fn tried<
         Trial::LetsThrough(step) => lets_through(rt, alloc, mount, step),
         Trial::StopsAt(step) => stops_at(rt, alloc, mount, step),
         Trial::IsMeddledWith => refuses_held(rt, alloc, mount),
+        Trial::HasSession(_) => {}
     }
 }
 
@@ -90,5 +105,9 @@ fn check_end(rt: &impl Abort, trial: Trial, end: End) {
         Trial::LetsThrough(_) => assert!(rt; end.entries == 4 && end.temps == 0),
         Trial::StopsAt(_) => assert!(rt; end.entries == 1 && end.is_untouched),
         Trial::IsMeddledWith => assert!(rt; end.entries == 3 && end.is_untouched),
+        Trial::HasSession(scenario) => {
+            assert_eq!(rt; end.entries, scenario.entries());
+            assert!(rt; end.handed_back == 0 && end.is_left_clean);
+        }
     }
 }

@@ -2,6 +2,7 @@
 use std::env;
 use std::env::Env;
 use std::io::{Read, Write};
+use std::net::Net;
 use std::os::unix::net::UnixStream;
 use std::process::Abort;
 use std::test::Fail;
@@ -27,33 +28,38 @@ pub fn socket_path(rt: &HostRuntime, name: &str) -> Result<String, Fail> {
 }
 
 /// Gives up on a server that says nothing for so long.
-pub fn patient(stream: &UnixStream) -> Result<(), Fail> {
-    stream.set_read_timeout(Some(Duration::from_secs(20)))?;
-    Ok(())
+fn patient(rt: &impl Abort, stream: &UnixStream) {
+    let limit = Some(Duration::from_secs(20));
+    stream.set_read_timeout(limit).expect(rt, "a time limit");
+}
+
+/// A client of the server at this path.
+pub fn connected<H: Net + Abort>(rt: &H, path: &str) -> UnixStream {
+    let stream = UnixStream::connect(rt, path).expect(rt, "a connection");
+    patient(rt, &stream);
+    stream
 }
 
 /// Sends these bytes, and reads as many as the reply has.
-pub fn ask(rt: &impl Abort, stream: &UnixStream, request: &[u8], reply: &[u8]) -> Result<(), Fail> {
+pub fn ask(rt: &impl Abort, stream: &UnixStream, request: &[u8], reply: &[u8]) {
     let mut writer = stream;
-    writer.write_all(request)?;
-    hear(rt, stream, reply)
+    writer.write_all(request).expect(rt, "a request is sent");
+    hear(rt, stream, reply);
 }
 
 /// Reads as many bytes as these are, which are the same.
-pub fn hear(rt: &impl Abort, stream: &UnixStream, reply: &[u8]) -> Result<(), Fail> {
+pub fn hear(rt: &impl Abort, stream: &UnixStream, reply: &[u8]) {
     let mut stream = stream;
     let mut bytes = [0u8; REPLY_MOST];
     let count = reply.len().min(REPLY_MOST);
-    stream.read_exact(&mut bytes[..count])?;
+    stream.read_exact(&mut bytes[..count]).expect(rt, "a reply");
     assert!(rt; &bytes[..count] == reply);
-    Ok(())
 }
 
 /// The server has closed the stream, and sent nothing more.
-pub fn assert_closed(rt: &impl Abort, stream: &UnixStream) -> Result<(), Fail> {
+pub fn assert_closed(rt: &impl Abort, stream: &UnixStream) {
     let mut stream = stream;
     let mut bytes = [0u8; 1];
-    let count = stream.read(&mut bytes)?;
+    let count = stream.read(&mut bytes).expect(rt, "an end");
     assert_eq!(rt; count, 0);
-    Ok(())
 }

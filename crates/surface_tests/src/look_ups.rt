@@ -3,14 +3,14 @@ use crate::fixtures::{layers_of, mount, path, read, seen};
 use layer_tree::{Entry, Layer, ROOT};
 use merged_lookup::Layers;
 use ov_base::{Errno, Name};
-use std::alloc::Global;
+use std::alloc::{AllocError, Global};
 use std::hash::RandomState;
 use std::process::Abort;
 use std::test::Fail;
 
 // 17 layers, in each a chain of eight directories in one another, each with a redirect to the last of them; and a file in that of the
 // last layer.
-fn chains(alloc: Global) -> Result<String, Fail> {
+fn chains(alloc: Global) -> Result<String, AllocError> {
     let mut manifest = String::new(alloc);
     for _ in 0..17 {
         manifest.push_str("[[layer]]\n")?;
@@ -32,7 +32,7 @@ fn chains(alloc: Global) -> Result<String, Fail> {
 #[test]
 fn chains_of_redirects_answer_at_once(rt: HostRuntime) -> Result<(), Fail> {
     let alloc = rt.alloc();
-    let layers = mount(alloc, RandomState::new(&rt)?, chains(alloc)?.as_str())?;
+    let layers = mount(&rt, alloc, RandomState::new(&rt)?, chains(alloc)?.as_str());
     assert_eq!(rt; layers.count(), 17);
     for (text, wanted) in [
         ("/a", Ok((0, 17, 0o755))),
@@ -60,26 +60,24 @@ const TWO_NAMES: &str = "layer = [{entry = [
 #[test]
 fn an_object_is_located_at_the_least_text(rt: HostRuntime) -> Result<(), Fail> {
     let alloc = rt.alloc();
-    let layers = mount(alloc, RandomState::new(&rt)?, TWO_NAMES)?;
-    let outcome = locates(&rt, alloc, &layers);
+    let layers = mount(&rt, alloc, RandomState::new(&rt)?, TWO_NAMES);
+    for (text, wanted) in [("/a/b", "/a-"), ("/a-", "/a-"), ("/a", "/a"), ("/", "/")] {
+        locates(&rt, alloc, &layers, text, wanted);
+    }
     drop(layers);
-    outcome
+    Ok(())
 }
 
-fn locates(rt: &impl Abort, alloc: Global, layers: &Layers) -> Result<(), Fail> {
-    for (text, wanted) in [("/a/b", "/a-"), ("/a-", "/a-"), ("/a", "/a"), ("/", "/")] {
-        let Some(Entry::Object(key)) = layers.upper().find(&path(rt, alloc, text)) else {
-            return Err(Fail::from("no object"));
-        };
-        let Some(located) = layers.locate(alloc, key)? else {
-            return Err(Fail::from("no path"));
-        };
-        assert!(rt;
-            located.names() == path(rt, alloc, wanted).names(),
-            "{text}"
-        );
-    }
-    Ok(())
+fn locates(rt: &impl Abort, alloc: Global, layers: &Layers, text: &str, wanted: &str) {
+    let Some(Entry::Object(key)) = layers.upper().find(&path(rt, alloc, text)) else {
+        panic!(rt; "no object");
+    };
+    let located = layers.locate(alloc, key).expect(rt, "memory");
+    let located = located.expect(rt, "a path");
+    assert!(rt;
+        located.names() == path(rt, alloc, wanted).names(),
+        "{text}"
+    );
 }
 
 #[test]
@@ -87,12 +85,13 @@ fn an_object_without_a_name_has_no_path(rt: HostRuntime) -> Result<(), Fail> {
     let alloc = rt.alloc();
     let manifest = "layer = [{entry = [{path = '/f', kind = 'file'}]}, {}]";
     let keys = RandomState::new(&rt)?;
-    let (mut upper, lowers, _) = read(alloc, keys, manifest)?;
+    let (mut upper, lowers, _) = read(&rt, alloc, keys, manifest);
     let key = unnamed(&rt, alloc, &mut upper);
-    let layers = layers_of(alloc, keys, upper, lowers)?;
-    let outcome = has_no_path(&rt, alloc, &layers, key);
+    let layers = layers_of(&rt, alloc, keys, upper, lowers);
+    let located = layers.locate(alloc, key).expect(&rt, "memory");
+    assert!(rt; located.is_none());
     drop(layers);
-    outcome
+    Ok(())
 }
 
 // The key of the file, whose name is taken away.
@@ -106,9 +105,4 @@ fn unnamed(rt: &impl Abort, alloc: Global, upper: &mut Layer) -> usize {
     };
     assert!(rt; upper.node(key).is_some());
     key
-}
-
-fn has_no_path(rt: &impl Abort, alloc: Global, layers: &Layers, key: usize) -> Result<(), Fail> {
-    assert!(rt; layers.locate(alloc, key)?.is_none());
-    Ok(())
 }

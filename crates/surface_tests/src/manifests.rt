@@ -1,6 +1,7 @@
 // What no script shows of a manifest: its options, and that it may be long.
 use crate::fixtures::{path, read};
 use layer_tree::{Entry, Layer, Node};
+use ov_base::Options;
 use std::alloc::Global;
 use std::hash::RandomState;
 use std::process::Abort;
@@ -26,16 +27,22 @@ fn options_of_manifests(rt: HostRuntime) -> Result<(), Fail> {
         ),
     ] {
         let manifest = format!(in rt.alloc(); "{top}layer = [{{}}, {{}}]")?;
-        let (upper, lowers, options) = read(rt.alloc(), RandomState::new(&rt)?, manifest.as_str())?;
-        drop(upper);
-        assert_eq!(rt; options.redirects, redirects, "{top}");
-        assert_eq!(rt; options.metacopy, metacopy, "{top}");
+        let options = options_of(&rt, rt.alloc(), RandomState::new(&rt)?, manifest.as_str());
+        assert!(rt; options.redirects == redirects, "{top}");
+        assert!(rt; options.metacopy == metacopy, "{top}");
         assert_eq!(rt; options.history, history, "{top}");
         assert_eq!(rt; options.file_limit, file_limit, "{top}");
-        assert_eq!(rt; lowers.len(), 1);
-        drop(lowers);
     }
     Ok(())
+}
+
+// The options of a manifest of an upper and a lower layer.
+fn options_of(rt: &impl Abort, alloc: Global, keys: RandomState, manifest: &str) -> Options {
+    let (upper, lowers, options) = read(rt, alloc, keys, manifest);
+    drop(upper);
+    assert_eq!(rt; lowers.len(), 1);
+    drop(lowers);
+    options
 }
 
 #[test]
@@ -48,19 +55,18 @@ fn many_entries_in_one_directory(rt: HostRuntime) -> Result<(), Fail> {
         )?;
         manifest.push_str(entry.as_str())?;
     }
-    let (upper, lowers, _) = read(alloc, RandomState::new(&rt)?, manifest.as_str())?;
+    let (upper, lowers, _) = read(&rt, alloc, RandomState::new(&rt)?, manifest.as_str());
     drop(upper);
     assert_eq!(rt; lowers.len(), 1);
-    let outcome = has_last(&rt, alloc, &lowers[0]);
+    has_last(&rt, alloc, &lowers[0]);
     drop(lowers);
-    outcome
+    Ok(())
 }
 
-fn has_last(rt: &impl Abort, alloc: Global, layer: &Layer) -> Result<(), Fail> {
+fn has_last(rt: &impl Abort, alloc: Global, layer: &Layer) {
     let Some(Entry::Object(key)) = layer.find(&path(rt, alloc, "/9999")) else {
-        return Err(Fail::from("no object"));
+        panic!(rt; "no object");
     };
     assert!(rt; matches!(layer.node(key), Some(Node::Inode(_))));
     assert!(rt; layer.read(key) == Some(b"9999".as_slice()));
-    Ok(())
 }

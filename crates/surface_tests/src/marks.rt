@@ -29,7 +29,7 @@ fn key(rt: &impl Abort, alloc: Global, layer: &Layer, text: &str) -> usize {
 #[test]
 fn a_directory_gets_marks(rt: HostRuntime) -> Result<(), Fail> {
     let alloc = rt.alloc();
-    let (mut layer, lowers, _) = read(alloc, RandomState::new(&rt)?, OPAQUE)?;
+    let (mut layer, lowers, _) = read(&rt, alloc, RandomState::new(&rt)?, OPAQUE);
     drop(lowers);
     let e = key(&rt, alloc, &layer, "/e");
     assert!(rt; layer.is_directory(e));
@@ -68,14 +68,14 @@ const REDIRECTS: &str = "layer = [{entry = [
 #[test]
 fn a_path_is_spelled_for_the_layer_below(rt: HostRuntime) -> Result<(), Fail> {
     let alloc = rt.alloc();
-    let layers = mount(alloc, RandomState::new(&rt)?, REDIRECTS)?;
-    let outcome = spells(&rt, alloc, &layers);
+    let layers = mount(&rt, alloc, RandomState::new(&rt)?, REDIRECTS);
+    has_bases(&rt, alloc, &layers);
+    spells(&rt, alloc, &layers);
     drop(layers);
-    outcome
+    Ok(())
 }
 
-fn spells(rt: &impl Abort, alloc: Global, layers: &Layers) -> Result<(), Fail> {
-    has_bases(rt, alloc, layers)?;
+fn spells(rt: &impl Abort, alloc: Global, layers: &Layers) {
     for (text, wanted) in [
         ("/", "/"),
         ("/a", "/a"),
@@ -85,16 +85,16 @@ fn spells(rt: &impl Abort, alloc: Global, layers: &Layers) -> Result<(), Fail> {
         ("/a/b/c", "/x/y/z"),
         ("/a/b/c/b", "/x/y/z/b"),
     ] {
-        let spelled = layers.spelling_below(alloc, &path(rt, alloc, text))?;
+        let given = path(rt, alloc, text);
+        let spelled = layers.spelling_below(alloc, &given).expect(rt, "memory");
         assert!(rt;
             spelled.names() == path(rt, alloc, wanted).names(),
             "{text}"
         );
     }
-    Ok(())
 }
 
-fn has_bases(rt: &impl Abort, alloc: Global, layers: &Layers) -> Result<(), Fail> {
+fn has_bases(rt: &impl Abort, alloc: Global, layers: &Layers) {
     for (text, wanted) in [
         ("/", true),
         ("/a", false),
@@ -103,9 +103,8 @@ fn has_bases(rt: &impl Abort, alloc: Global, layers: &Layers) -> Result<(), Fail
     ] {
         let base = match layers.walk(&path(rt, alloc, text)) {
             Ok(Found::Directory(stack)) => stack.is_base(),
-            _ => return Err(Fail::from("no directory")),
+            _ => panic!(rt; "no directory"),
         };
         assert!(rt; base == wanted, "{text}");
     }
-    Ok(())
 }

@@ -29,7 +29,7 @@ fn place_next(rt: &impl Abort, layers: &mut Layers, path: &Path) -> usize {
 #[test]
 fn places_one_parent_at_a_time(rt: HostRuntime) -> Result<(), Fail> {
     let alloc = rt.alloc();
-    let mut layers = mount(alloc, RandomState::new(&rt)?, NESTED)?;
+    let mut layers = mount(&rt, alloc, RandomState::new(&rt)?, NESTED);
     let new = path(&rt, alloc, "/a/b/new");
     for (count, first, second) in [
         (1, (0, 2, 0o700), (1, 1, 0o711)),

@@ -23,12 +23,9 @@ pub fn drop_all<F: Callback + Copy, H: Rule>(core: &mut Core<F, H>, jobs: Vec<Jo
 
 #[test]
 fn answers_jobs_in_the_order_of_finishing(rt: HostRuntime) -> Result<(), Fail> {
-    answers_in_order(
-        &rt,
-        rt.alloc(),
-        RandomState::new(&rt)?,
-        hooks_by_slot(rt.alloc())?,
-    )
+    let hooks = hooks_by_slot(rt.alloc())?;
+    answers_in_order(&rt, rt.alloc(), RandomState::new(&rt)?, hooks);
+    Ok(())
 }
 
 fn answers_in_order<F: Callback + Copy, H: Rule>(
@@ -36,11 +33,10 @@ fn answers_in_order<F: Callback + Copy, H: Rule>(
     alloc: Global,
     keys: RandomState,
     hooks: Vec<Hook<F, H>>,
-) -> Result<(), Fail> {
-    let mut core: Core<F, H> = mounted(alloc, keys, DIRECTORY)?;
-    let answered = answers_on(rt, alloc, &mut core, hooks);
+) {
+    let mut core: Core<F, H> = mounted(rt, alloc, keys, DIRECTORY);
+    answers_on(rt, alloc, &mut core, hooks);
     unmount(core);
-    answered
 }
 
 fn answers_on<F: Callback + Copy, H: Rule>(
@@ -48,20 +44,18 @@ fn answers_on<F: Callback + Copy, H: Rule>(
     alloc: Global,
     core: &mut Core<F, H>,
     hooks: Vec<Hook<F, H>>,
-) -> Result<(), Fail> {
-    let client = attached(core, hooks)?;
-    if core.finished() >= DEEDS_MAX {
-        return Err(Fail::from("too many deeds"));
-    }
+) {
+    let client = attached(rt, core, hooks);
+    assert!(rt; core.finished() < DEEDS_MAX);
     let made = path(rt, alloc, "/d/x");
     let looked_up = path(rt, alloc, "/d/x");
     let mode = 0o700;
-    let mut jobs = Vec::with_capacity(alloc, 2)?;
+    let mut jobs = Vec::with_capacity(alloc, 2).expect(rt, "memory");
     jobs.push_reserved(Job::new(client, Call::Mkdir { path: made, mode }));
     jobs.push_reserved(Job::new(client, Call::Stat { path: looked_up }));
     let outcome = drive(alloc, core, jobs.as_mut_slice(), &[1, 7, 0, 1, 0]);
     drop_all(core, jobs);
-    let replies = outcome?;
+    let replies = outcome.expect(rt, "memory");
     let mut indexes = [9, 9];
     for (place, (index, reply)) in replies.as_slice().iter().enumerate() {
         let is_wanted = match answer_of(reply) {
@@ -74,5 +68,4 @@ fn answers_on<F: Callback + Copy, H: Rule>(
     }
     assert_eq!(rt; replies.len(), 2);
     assert_eq!(rt; indexes, [1, 0]);
-    Ok(())
 }

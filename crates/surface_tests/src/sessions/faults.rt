@@ -1,7 +1,7 @@
 // Frames at fault and streams that end, alone and behind a request, which is answered first.
 use super::devices::{Pieces, Taker};
-use super::ending;
 use super::rows::{SHOWN_ROOT, STAT_ROOT};
+use super::{ends, wrote};
 use ov_frames::FrameFault;
 use ov_session::Ending;
 use std::alloc::Global;
@@ -30,22 +30,20 @@ fn assert_end(
     bytes: &[u8],
     wanted: Ending,
     replies: &[u8],
-) -> Result<(), Fail> {
+) {
     for cut in 0..=bytes.len() {
         let mut reader = Pieces::cut(bytes, cut);
         let mut writer = Taker::new(alloc);
-        let end = ending(alloc, keys, &mut reader, &mut writer)?;
-        assert_eq!(rt; end, wanted, "{cut}");
-        assert!(rt; writer.taken.as_slice() == replies, "{cut}");
+        ends(rt, alloc, keys, (&mut reader, &mut writer), wanted, cut);
+        wrote(rt, writer.taken.as_slice(), replies, cut);
     }
-    Ok(())
 }
 
 #[test]
 fn ends_alone(rt: HostRuntime) -> Result<(), Fail> {
     let keys = RandomState::new(&rt)?;
     for (bytes, end) in ENDS {
-        assert_end(&rt, rt.alloc(), keys, bytes, end, b"")?;
+        assert_end(&rt, rt.alloc(), keys, bytes, end, b"");
     }
     Ok(())
 }
@@ -55,9 +53,9 @@ fn ends_behind_a_request(rt: HostRuntime) -> Result<(), Fail> {
     let alloc = rt.alloc();
     let keys = RandomState::new(&rt)?;
     for (last, end) in ENDS {
-        let mut bytes = Vec::from_slice(alloc, STAT_ROOT)?;
-        bytes.extend_from_slice(last)?;
-        assert_end(&rt, alloc, keys, bytes.as_slice(), end, SHOWN_ROOT)?;
+        let mut bytes = Vec::from_slice(alloc, STAT_ROOT).expect(&rt, "memory");
+        bytes.extend_from_slice(last).expect(&rt, "memory");
+        assert_end(&rt, alloc, keys, bytes.as_slice(), end, SHOWN_ROOT);
     }
     Ok(())
 }

@@ -1,21 +1,6 @@
 // What calls ask, as the reference of frames says it.
-use super::frame_reference::Asked;
-use super::told::asked;
-use ov_base::{Bytes, Call, OpenFlags, Path};
-use std::alloc::{AllocError, Global};
-
-// The text that spells a path.
-fn text_of(alloc: Global, path: &Path) -> Result<Bytes, AllocError> {
-    let mut text = Vec::new(alloc);
-    for name in path.names() {
-        text.push(b'/')?;
-        text.extend_from_slice(name.as_slice())?;
-    }
-    if text.is_empty() {
-        text.push(b'/')?;
-    }
-    Ok(Bytes::from_vec(text))
-}
+use super::told::{NONE, Text, Words};
+use ov_base::{Call, OpenFlags};
 
 // The byte of the flags of an open.
 fn byte_of(flags: OpenFlags) -> i128 {
@@ -43,87 +28,165 @@ fn byte_of(flags: OpenFlags) -> i128 {
 }
 
 /// What a call asks.
-pub fn asked_of(alloc: Global, call: &Call) -> Result<Asked, AllocError> {
+pub fn asked_of(call: &Call) -> Words<'_> {
     match call {
-        Call::Stat { path } => of_path(alloc, 1, &[], path),
-        Call::Readlink { path } => of_path(alloc, 2, &[], path),
-        Call::Chmod { path, mode } => of_path(alloc, 3, &[i128::from(*mode)], path),
-        Call::Chown { path, uid, gid } => {
-            of_path(alloc, 4, &[i128::from(*uid), i128::from(*gid)], path)
-        }
-        Call::ListAttributes { path } => of_path(alloc, 8, &[], path),
-        Call::Mkdir { path, mode } => of_path(alloc, 9, &[i128::from(*mode)], path),
-        Call::Open { path, flags, mode } => {
-            of_path(alloc, 11, &[byte_of(*flags), i128::from(*mode)], path)
-        }
-        Call::Unlink { path } => of_path(alloc, 12, &[], path),
-        Call::Rmdir { path } => of_path(alloc, 13, &[], path),
-        Call::Arm { slot, path, mask } => {
-            of_path(alloc, 23, &[i128::from(*slot), i128::from(*mask)], path)
-        }
-        _ => of_texts(alloc, call),
+        Call::Stat { path } => Words {
+            op: 1,
+            texts: [Some(Text::Path(path)), None, None],
+            ..NONE
+        },
+        Call::Readlink { path } => Words {
+            op: 2,
+            texts: [Some(Text::Path(path)), None, None],
+            ..NONE
+        },
+        Call::SetAttribute { path, name, value } => Words {
+            op: 5,
+            texts: [
+                Some(Text::Path(path)),
+                Some(Text::Bytes(name)),
+                Some(Text::Bytes(value)),
+            ],
+            ..NONE
+        },
+        Call::GetAttribute { path, name } => Words {
+            op: 6,
+            texts: [Some(Text::Path(path)), Some(Text::Bytes(name)), None],
+            ..NONE
+        },
+        Call::DeleteAttribute { path, name } => Words {
+            op: 7,
+            texts: [Some(Text::Path(path)), Some(Text::Bytes(name)), None],
+            ..NONE
+        },
+        Call::ListAttributes { path } => Words {
+            op: 8,
+            texts: [Some(Text::Path(path)), None, None],
+            ..NONE
+        },
+        Call::Symlink { target, path } => Words {
+            op: 10,
+            texts: [Some(Text::Bytes(target)), Some(Text::Path(path)), None],
+            ..NONE
+        },
+        Call::Unlink { path } => Words {
+            op: 12,
+            texts: [Some(Text::Path(path)), None, None],
+            ..NONE
+        },
+        Call::Rmdir { path } => Words {
+            op: 13,
+            texts: [Some(Text::Path(path)), None, None],
+            ..NONE
+        },
+        Call::Hardlink { old, new } => Words {
+            op: 14,
+            texts: [Some(Text::Path(old)), Some(Text::Path(new)), None],
+            ..NONE
+        },
+        Call::Rename { old, new } => Words {
+            op: 15,
+            texts: [Some(Text::Path(old)), Some(Text::Path(new)), None],
+            ..NONE
+        },
+        _ => asked_with_path(call),
     }
 }
 
-// Numbers and a path.
-fn of_path(alloc: Global, op: u8, numbers: &[i128], path: &Path) -> Result<Asked, AllocError> {
-    asked(alloc, op, numbers, &[&text_of(alloc, path)?])
-}
-
-// What a call of two texts or three asks.
-fn of_texts(alloc: Global, call: &Call) -> Result<Asked, AllocError> {
+// What a call of numbers and a path or bytes asks.
+fn asked_with_path(call: &Call) -> Words<'_> {
     match call {
-        Call::SetAttribute { path, name, value } => {
-            asked(alloc, 5, &[], &[&text_of(alloc, path)?, name, value])
-        }
-        Call::GetAttribute { path, name } => {
-            asked(alloc, 6, &[], &[&text_of(alloc, path)?, name])
-        }
-        Call::DeleteAttribute { path, name } => {
-            asked(alloc, 7, &[], &[&text_of(alloc, path)?, name])
-        }
-        Call::Symlink { target, path } => {
-            asked(alloc, 10, &[], &[target, &text_of(alloc, path)?])
-        }
-        Call::Hardlink { old, new } => of_paths(alloc, 14, old, new),
-        Call::Rename { old, new } => of_paths(alloc, 15, old, new),
-        _ => of_numbers(alloc, call),
+        Call::Chmod { mode, path } => Words {
+            op: 3,
+            numbers: [Some(*mode as i128), None, None],
+            texts: [Some(Text::Path(path)), None, None],
+            ..NONE
+        },
+        Call::Chown { uid, gid, path } => Words {
+            op: 4,
+            numbers: [Some(*uid as i128), Some(*gid as i128), None],
+            texts: [Some(Text::Path(path)), None, None],
+            ..NONE
+        },
+        Call::Mkdir { mode, path } => Words {
+            op: 9,
+            numbers: [Some(*mode as i128), None, None],
+            texts: [Some(Text::Path(path)), None, None],
+            ..NONE
+        },
+        Call::Open { flags, mode, path } => Words {
+            op: 11,
+            numbers: [Some(byte_of(*flags)), Some(*mode as i128), None],
+            texts: [Some(Text::Path(path)), None, None],
+            ..NONE
+        },
+        Call::Write { descriptor, bytes } => Words {
+            op: 17,
+            numbers: [Some(*descriptor as i128), None, None],
+            texts: [Some(Text::Bytes(bytes)), None, None],
+            ..NONE
+        },
+        Call::Arm { slot, mask, path } => Words {
+            op: 23,
+            numbers: [Some(*slot as i128), Some(*mask as i128), None],
+            texts: [Some(Text::Path(path)), None, None],
+            ..NONE
+        },
+        _ => asked_with_numbers(call),
     }
 }
 
-fn of_paths(alloc: Global, op: u8, old: &Path, new: &Path) -> Result<Asked, AllocError> {
-    let (old, new) = (text_of(alloc, old)?, text_of(alloc, new)?);
-    asked(alloc, op, &[], &[&old, &new])
-}
-
-// What a call without a path asks.
-fn of_numbers(alloc: Global, call: &Call) -> Result<Asked, AllocError> {
+// What a call of numbers asks.
+fn asked_with_numbers(call: &Call) -> Words<'_> {
     match call {
-        Call::Read { descriptor, count } => of_two(alloc, 16, *descriptor, *count),
-        Call::Write { descriptor, bytes } => {
-            asked(alloc, 17, &[i128::from(*descriptor)], &[bytes])
-        }
+        Call::Read { descriptor, count } => Words {
+            op: 16,
+            numbers: [Some(*descriptor as i128), Some(*count as i128), None],
+            ..NONE
+        },
         Call::Seek {
             descriptor,
             offset,
             whence,
-        } => {
-            let (offset, whence) = (i128::from(*offset), i128::from(*whence));
-            asked(alloc, 18, &[i128::from(*descriptor), offset, whence], &[])
-        }
-        Call::Truncate { descriptor, size } => {
-            let numbers = [i128::from(*descriptor), i128::from(*size)];
-            asked(alloc, 19, &numbers, &[])
-        }
-        Call::Fstat { descriptor } => asked(alloc, 20, &[i128::from(*descriptor)], &[]),
-        Call::ListNames { descriptor, count } => of_two(alloc, 21, *descriptor, *count),
-        Call::Close { descriptor } => asked(alloc, 22, &[i128::from(*descriptor)], &[]),
-        Call::Disarm { watch } => asked(alloc, 24, &[i128::from(*watch)], &[]),
-        Call::TakeNotices { count } => asked(alloc, 25, &[i128::from(*count)], &[]),
-        _ => asked(alloc, 0, &[], &[]),
+        } => Words {
+            op: 18,
+            numbers: [
+                Some(*descriptor as i128),
+                Some(*offset as i128),
+                Some(*whence as i128),
+            ],
+            ..NONE
+        },
+        Call::Truncate { descriptor, size } => Words {
+            op: 19,
+            numbers: [Some(*descriptor as i128), Some(*size as i128), None],
+            ..NONE
+        },
+        Call::Fstat { descriptor } => Words {
+            op: 20,
+            numbers: [Some(*descriptor as i128), None, None],
+            ..NONE
+        },
+        Call::ListNames { descriptor, count } => Words {
+            op: 21,
+            numbers: [Some(*descriptor as i128), Some(*count as i128), None],
+            ..NONE
+        },
+        Call::Close { descriptor } => Words {
+            op: 22,
+            numbers: [Some(*descriptor as i128), None, None],
+            ..NONE
+        },
+        Call::Disarm { watch } => Words {
+            op: 24,
+            numbers: [Some(*watch as i128), None, None],
+            ..NONE
+        },
+        Call::TakeNotices { count } => Words {
+            op: 25,
+            numbers: [Some(*count as i128), None, None],
+            ..NONE
+        },
+        _ => NONE,
     }
-}
-
-fn of_two(alloc: Global, op: u8, first: u32, second: u32) -> Result<Asked, AllocError> {
-    asked(alloc, op, &[i128::from(first), i128::from(second)], &[])
 }
