@@ -31,6 +31,7 @@ mod random_steps;
 mod random_watches;
 mod recorded_play;
 mod rows;
+mod script;
 mod shared;
 mod shared_clients;
 mod shared_mount;
