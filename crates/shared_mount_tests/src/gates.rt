@@ -5,7 +5,7 @@ use crate::mounts::{Silent, attached, detach, detached, made, make, path_of, rep
 use crate::opened::{Trial, named};
 use locked_history::{Gate, Mount, MountName, Open, Pass, Past, Receipt, Refused, Session};
 use merged_lookup::Topmost;
-use ov_base::{Call, OpenFlags, Path, Reply};
+use ov_base::{Call, OpenFlags, Reply};
 use std::alloc::Global;
 use std::hash::RandomState;
 use std::process::Abort;

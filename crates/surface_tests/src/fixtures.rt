@@ -27,8 +27,10 @@ pub fn read(
     ensures layers { AreLayers (layer_of result.0 ∷ map layer_of result.1.items) }
 {
     match manifest_of(alloc, keys, manifest.as_bytes()) {
-        Ok((Some(upper), lowers, options)) => (upper, lowers, options),
-        Ok((None, ..)) => panic!(rt; "no upper"),
+        Ok((upper, lowers, options)) => match upper {
+            Some(upper) => (upper, lowers, options),
+            None => panic!(rt; "no upper"),
+        },
         Err(_) => panic!(rt; "no layers"),
     }
 }
