@@ -56,10 +56,11 @@ impl Script {
 
     /// The whole text.
     pub fn end(self) -> Result<String, AllocError> {
-        if self.lacks_memory {
+        let Script { text, lacks_memory } = self;
+        if lacks_memory {
             Err(AllocError)
         } else {
-            Ok(self.text)
+            Ok(text)
         }
     }
 }
