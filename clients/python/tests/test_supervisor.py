@@ -89,6 +89,14 @@ class Case(unittest.TestCase):
         """What systemd is told next."""
         return self.told.recv(1_000).decode().splitlines()[0]
 
+    def hear_no_more(self):
+        """Passes over what systemd was told."""
+        self.told.setblocking(False)
+        with contextlib.suppress(BlockingIOError):
+            while True:
+                self.told.recv(1_000)
+        self.told.settimeout(WAIT)
+
     def wait_for(self, condition):
         limit = time.monotonic() + WAIT
         while not condition():
@@ -108,11 +116,7 @@ class Ends(Case):
                 self.assertEqual(words[:1] + words[3:], [
                     "serve", "--until-eof", "--unlink", "--no-history", "--save", str(self.saved)])
                 self.assertEqual((own_session, told), (True, False))
-            self.told.setblocking(False)
-            with contextlib.suppress(BlockingIOError):
-                while True:
-                    self.told.recv(1_000)
-            self.told.settimeout(WAIT)
+            self.hear_no_more()
             os.unlink(self.folder / "s")
             self.saved.unlink()
 
@@ -158,13 +162,27 @@ class Commands(Case):
         self.assertEqual(self.command(told="--explain")[3], "--explain")
 
     def test_a_restart_goes_on_from_what_was_saved(self):
-        self.assertNotIn("--upper", self.command("--restart", told="--upper FILE"))
+        joined = pathlib.Path(f"{self.saved}.mount")
+        lower = '[[layer]]\n[[layer.entry]]\npath = "/l"\nkind = "dir"\n'
+
+        def served(*more):
+            words = self.words(*more, manifest="[[layer]]\n" + lower)
+            return command_of(parser().parse_args(words))[2]
+
+        self.assertEqual(served("--restart"), str(self.folder / "m"))
         self.saved.write_text("[[layer]]\n")
-        self.assertNotIn("--upper", self.command(told="--upper FILE"))
-        self.assertEqual(self.command("--restart", told="--upper FILE")[-2:],
-                         ["--upper", str(self.saved)])
-        with self.assertRaisesRegex(Refused, "no --upper.*saved"):
-            self.command("--restart")
+        self.assertEqual(served(), str(self.folder / "m"))
+        self.assertFalse(joined.exists())
+        self.assertEqual(served("--restart"), str(joined))
+        self.assertEqual(joined.read_text("utf-8").split(), ("[[layer]]\n" + lower).split())
+        for text in ("[[layer]]\n[[layer]]\n", "no TOML"):
+            self.saved.write_text(text)
+            with self.assertRaisesRegex(Refused, "saved:"):
+                served("--restart")
+        joined.unlink()
+        joined.symlink_to(self.folder / "target")
+        with self.assertRaisesRegex(Refused, "mount: is there, and no regular file"):
+            served("--restart")
 
     def test_what_is_no_regular_file_is_never_replaced(self):
         target = self.folder / "target"
@@ -339,10 +357,6 @@ kind = "file"
                          ["joined", "m", "notify", "played", "s", "saved"])
 
     def test_a_restart_goes_on(self):
-        help_text = subprocess.run([self.program, "serve", "--help"], stdout=subprocess.PIPE,
-                                   text=True, timeout=WAIT, check=True).stdout
-        if "--upper" not in help_text:
-            tools.skip(self.id(), "the program has no --upper")
         words = self.words("--restart", manifest=f"[[layer]]\n{self.LOWER}")
         for count in range(2):
             with self.started(words) as process:
@@ -354,6 +368,7 @@ kind = "file"
                 process.terminate()
                 self.assertEqual(process.wait(WAIT), 0, process.stderr.read())
                 self.assertEqual(self.heard(), "STOPPING=1")
+                self.hear_no_more()
 
 
 if __name__ == "__main__":

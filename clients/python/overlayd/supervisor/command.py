@@ -14,6 +14,8 @@ import threading
 from typing import Any, Dict, List, Optional
 
 from .. import __version__
+from ..importer import telling
+from ..importer.joining import join
 from ..importer.telling import shown
 from ..stream import connected
 from .saving import Saver
@@ -31,7 +33,8 @@ server listens, and that it ends. The server keeps no history, unless an OPTION 
                    of the server's workers for as long as it runs, and two calls or more for each
                    name. What others change meanwhile may be in it or not, and files with several
                    names become files of their own; what is saved in the end is exact
-  --restart        goes on from the file of --save where it is there (`overlayd serve --upper`)
+  --restart        goes on from the file of --save where it is there: the server gets a manifest of
+                   that upper and of the lower layers of MANIFEST, which is made at FILE.mount
 
 The file of --save is made anew beside itself, and takes its name when it is whole and on the disk.
 A name that is there already and is no regular file, such as a link, is refused.
@@ -73,7 +76,10 @@ class Refused(Exception):
 
 def command_of(words: argparse.Namespace) -> List[str]:
     """The command line of the server; `Refused` where the program can't do what is asked."""
-    command = [words.program, "serve", words.manifest, words.socket, "--until-eof", "--unlink"]
+    manifest = words.manifest
+    if words.save is not None and _is_there(words.save) and words.restart:
+        manifest = _going_on(words.save, manifest)
+    command = [words.program, "serve", manifest, words.socket, "--until-eof", "--unlink"]
     asked = {option.partition("=")[0] for option in words.options}
     if "--history" not in asked:
         command.append("--no-history")
@@ -86,16 +92,24 @@ def command_of(words: argparse.Namespace) -> List[str]:
         command.append("--explain")
     if words.save is not None:
         command += ["--save", words.save]
-        if _is_there(words.save) and words.restart:
-            if "--upper" not in told:
-                raise Refused(f"{shown(words.program)}: `serve` has no --upper, so --restart can't "
-                              f"go on from {shown(words.save)}")
-            command += ["--upper", words.save]
     return command + [option for option in words.options if option not in command]
 
 
+def _going_on(saved: str, manifest: str) -> str:
+    """A manifest of a saved upper over the lower layers of another manifest, beside the saved."""
+    joined = f"{saved}.mount"
+    _is_there(joined)
+    try:
+        join(saved, manifest, joined)
+    except telling.Refused as refused:
+        raise Refused(str(refused)) from None
+    except OSError as error:
+        raise Refused(f"{shown(error.filename or joined)}: {error.strerror or error}") from None
+    return joined
+
+
 def _is_there(path: str) -> bool:
-    """Whether a saved upper is there; `Refused` where its name is one of something else."""
+    """Whether a file is there; `Refused` where its name is one of something else."""
     try:
         found = os.lstat(path)
     except FileNotFoundError:
