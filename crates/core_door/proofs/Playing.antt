@@ -11,7 +11,8 @@ use Rattle.mount_calls.specs.Keeping.{takes_no_memory}
 use Rattle.ov_frames.specs.declared.answer.Answer.TheVariants.{Replied, NotTaken}
 use Rattle.ov_session.specs.declared.exchange.Exchange.{Exchange}
 use Rattle.ov_session.specs.declared.exchange.Exchange.TheVariants.{Called, HeldBack, Departed}
-use Rattle.overlay_core.specs.Views.{CoreGoes, CoreStays, core_clients, core_finished, core_options, core_room}
+use Rattle.overlay_core.specs.Views.{CoreGoes, CoreKeeps, CoreStays, core_clients, core_finished, core_room}
+use Rattle.overlay_core.proofs.Driving.{kept-same}
 use Rattle.overlay_core.specs.declared.job.Job.{Job}
 use Rattle.overlay_core.specs.declared.mounted.Core.{Core}
 use Rattle.watch_table.specs.declared.hook.Callback.{Ghosts as Callback}
@@ -28,11 +29,11 @@ module _ {F G : Type 0} {asks : Callback F} {rule : Rule G} (client : ℕ) where
   -- one exchange that is played and finds room is served
   served_one : (a b : Core F G asks rule) (exchange : Exchange) →
       IsPlayed client a (exchange ∷ []) b → FindsRoom a exchange b →
-      KeepsClients client exchange (core_clients a) (core_clients b) → core_options b ≡ core_options a →
+      KeepsClients client exchange (core_clients a) (core_clients b) → CoreKeeps a b →
       IsServed client a (exchange ∷ []) b
-  served_one a b exchange played room clients options =
+  served_one a b exchange played room clients keeps =
       let step : IsStep client a exchange b =
-      record { played = played; room = room; clients = clients; options = options } in
+      record { played = played; room = room; clients = clients; kept = keeps } in
       (played, (b, step, refl))
 
   -- who is attached to the very same core
@@ -48,7 +49,7 @@ module _ {F G : Type 0} {asks : Callback F} {rule : Rule G} (client : ℕ) where
         run = λ s agrees. (s, (λ number. refl), agrees);
       } in
       subst (λ m. IsServed client a (Called call (NotTaken ENOSPC) ∷ []) m) (sym same)
-      (served_one a a (Called call (NotTaken ENOSPC)) played (full, refl) (kept a) refl)
+      (served_one a a (Called call (NotTaken ENOSPC)) played (full, refl) (kept a) (kept-same a))
 
   -- a call is held back where so much was finished, and the core is left alone
   pub served_held_back : (a b : Core F G asks rule) (call : Call) → 2 ^ 62 ≤ core_finished a → b ≡ a →
@@ -59,7 +60,7 @@ module _ {F G : Type 0} {asks : Callback F} {rule : Rule G} (client : ℕ) where
         run = λ s agrees. (s, (λ number. refl), agrees);
       } in
       subst (λ m. IsServed client a (HeldBack call ∷ []) m) (sym same)
-      (served_one a a (HeldBack call) played refl (kept a) refl)
+      (served_one a a (HeldBack call) played refl (kept a) (kept-same a))
 
 module _ {F G : Type 0} {asks : Callback F} {rule : Rule G}
     (client place : ℕ) (a b : Core F G asks rule) where
@@ -83,7 +84,7 @@ module _ {F G : Type 0} {asks : Callback F} {rule : Rule G}
       job.client ≡ client → job.call ≡ call →
       place ≡ core_finished a → core_finished b ≡ core_finished a + 1 →
       CoreGoes a job.client (deeds.Called job.call reply) b →
-      0 < core_room a → KeepsAttached (core_clients a) (core_clients b) → core_options b ≡ core_options a →
+      0 < core_room a → KeepsAttached (core_clients a) (core_clients b) → CoreKeeps a b →
       IsServed client a (Called call (Replied place reply) ∷ []) b
   served_call call reply job whose what at counts goes =
       served_one client a b (Called call (Replied place reply))
@@ -106,7 +107,7 @@ module _ {F G : Type 0} {asks : Callback F} {rule : Rule G}
   pub served_no_memory : (call : Call) (job : Job) → job.call ≡ call →
       takes_no_memory job.call ≢ true → core_finished b ≡ core_finished a →
       CoreStays a b →
-      0 < core_room a → KeepsAttached (core_clients a) (core_clients b) → core_options b ≡ core_options a →
+      0 < core_room a → KeepsAttached (core_clients a) (core_clients b) → CoreKeeps a b →
       IsServed client a (Called call (NotTaken ENOMEM) ∷ []) b
   served_no_memory call job what takes counts stays =
       served_one client a b (Called call (NotTaken ENOMEM))
@@ -126,7 +127,7 @@ module _ {F G : Type 0} {asks : Callback F} {rule : Rule G}
   pub served_detach :
       place ≡ core_finished a → core_finished b ≡ core_finished a + 1 →
       CoreGoes a client Detached b →
-      Detaches (core_clients a) (core_clients b) client → core_options b ≡ core_options a →
+      Detaches (core_clients a) (core_clients b) client → CoreKeeps a b →
       IsServed client a (Departed (Replied place Done) ∷ []) b
   served_detach at counts goes =
       served_one client a b (Departed (Replied place Done)) (played_detach at counts goes) tt

@@ -5,7 +5,8 @@ use Rattle.ov_session.specs.Sessions.{IsSession}
 use Rattle.ov_session.specs.declared.ending.Ending.{Ending}
 use Rattle.ov_session.specs.declared.exchange.Exchange.{Exchange}
 use Rattle.ov_session.specs.declared.exchange.Exchange.TheVariants.{Departed}
-use Rattle.overlay_core.specs.Views.{has_client}
+use Rattle.overlay_core.specs.Views.{CoreKeeps, has_client}
+use Rattle.overlay_core.proofs.Driving.{kept-on, kept-same}
 use Rattle.overlay_core.specs.declared.mounted.Core.{Core}
 use Rattle.watch_table.specs.declared.hook.Callback.{Ghosts as Callback}
 use Rattle.watch_table.specs.declared.hook.Rule.{Ghosts as Rule}
@@ -58,3 +59,18 @@ module _ {F G : Type 0} {asks : Callback F} {rule : Rule G} where
       has_client after client ≡ false
   left client core after s =
       parted client core after (s.heard.told ++ s.heard.stopped) s.farewell s.went.1
+
+  -- what each step keeps all of them keep
+  all_kept : (client : ℕ) (a b : Core F G asks rule) (xs : List Exchange) →
+      AreSteps client a xs b → CoreKeeps a b
+  all_kept client a b [] h = subst (λ m. CoreKeeps a m) (sym h) (kept-same a)
+  all_kept client a b (x ∷ xs) h =
+      kept-on a h.0 b h.1.kept (all_kept client h.0 b xs h.2)
+
+  -- so does a session
+  pub keeps : {i j o n : Option (List ℕ)} {told more : List Exchange} {end : Ending}
+      (client : ℕ) (core after : Core F G asks rule) →
+      IsSession (IsServed client) i j o n told more core after end →
+      CoreKeeps core after
+  keeps client core after s =
+      all_kept client core after ((s.heard.told ++ s.heard.stopped) ++ Departed s.farewell ∷ []) s.went.1

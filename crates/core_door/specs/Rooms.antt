@@ -6,7 +6,7 @@ use Rattle.mount_calls.specs.declared.clients.Clients.{Clients}
 use Rattle.ov_frames.specs.declared.answer.Answer.TheVariants.{NotTaken}
 use Rattle.ov_session.specs.declared.exchange.Exchange.{Exchange}
 use Rattle.ov_session.specs.declared.exchange.Exchange.TheVariants.{Called, HeldBack, Departed}
-use Rattle.overlay_core.specs.Views.{core_clients, core_options, core_room}
+use Rattle.overlay_core.specs.Views.{CoreKeeps, core_clients, core_room}
 use Rattle.overlay_core.specs.declared.mounted.Core.{Core}
 use Rattle.watch_table.specs.declared.hook.Callback.{Ghosts as Callback}
 use Rattle.watch_table.specs.declared.hook.Rule.{Ghosts as Rule}
@@ -26,13 +26,13 @@ module _ {F G : Type 0} {asks : Callback F} {rule : Rule G} where
   FindsRoom old (HeldBack call) new = new ≡ old
   FindsRoom old (Departed answer) new = Unit {0}
 
-  -- one exchange of a client
+  -- one exchange of a client, which leaves the lower layers and the options as they were
   pub record IsStep (client : ℕ) (old : Core F G asks rule) (exchange : Exchange)
       (new : Core F G asks rule) : Type 0 where
     pub played : IsPlayed client old (exchange ∷ []) new
     pub room : FindsRoom old exchange new
     pub clients : KeepsClients client exchange (core_clients old) (core_clients new)
-    pub options : core_options new ≡ core_options old
+    pub kept : CoreKeeps old new
 
   -- one after the other
   abbrev pub AreSteps : ℕ → Core F G asks rule → List Exchange → Core F G asks rule → Type 0

@@ -1,7 +1,8 @@
 // A door whose calls are those of one client of a mount.
-ghost use Rattle.std.specs.Prelude.{◌≡◌, ◌∷◌, []};
+ghost use Rattle.std.specs.Prelude.{◌≡◌, ◌∷◌, [], None, is_some};
 ghost use Rattle.ov_session.specs.declared.exchange.Exchange.TheVariants.{Departed};
 ghost use Rattle.endless_door.specs.Advancing.{Advances, standing};
+ghost use Rattle.mount_door.specs.GoingOn.{AnyRefusal};
 
 use endless_mount::{BookName, EndlessMount, Front};
 use locked_history::{Gate, Refused, Session};
@@ -43,6 +44,8 @@ impl<'m, N: BookName, F: Callback + Drop, R: Rule, G: Gate, H: Wait> EndlessDoor
         seen: Front<N>,
     ) -> EndlessDoor<'m, N, F, R, G, H>
         ensures client { (result.session ≡ session) × (result.seen ≡ seen) }
+        ensures attached { result.hooks ≡ None }
+        ensures gate { result.gate.now ≡ gate.now }
     {
         EndlessDoor {
             rt,
@@ -56,9 +59,12 @@ impl<'m, N: BookName, F: Callback + Drop, R: Rule, G: Gate, H: Wait> EndlessDoor
 
     // Detaches the client, and keeps the hooks.
     fn leave(&mut self) -> Answer
-        ensures { Advances (standing self.old.session self.old.seen)
+        requires { self.old.hooks ≡ None }
+        ensures goes { Advances (G.may_stop self.old.gate.now) AnyRefusal
+            (standing self.old.session self.old.seen (is_some self.old.hooks))
             (Departed result ∷ [])
-            (standing self.new.session self.new.seen) }
+            (standing self.new.session self.new.seen (is_some self.new.hooks)) }
+        ensures gate { self.new.gate.now ≡ self.old.gate.now }
     {
         match self.mount.detach(self.rt, self.session, &mut self.seen) {
             Ok((hooks, place)) => {
@@ -77,22 +83,30 @@ impl<'m, N: BookName, F: Callback + Drop, R: Rule, G: Gate, H: Wait> Door
     for EndlessDoor<'m, N, F, R, G, H> {
     type Session = ClientSession<Answer>;
 
-    ghost use Rattle.std.specs.Prelude.{◌≡◌};
+    ghost use Rattle.std.specs.Prelude.{◌≡◌, None, is_some, refl};
     ghost use Rattle.mount_door.specs.Exchanges.{told_in};
-    ghost use Rattle.mount_door.specs.GoingOn.{goes_further, stays_there};
-    ghost use Rattle.endless_door.specs.Advancing.{Advances, IsEntered, next_of, standing};
+    ghost use Rattle.mount_door.specs.GoingOn.{AnyRefusal, goes_by_one_gate, stays_there};
+    ghost use Rattle.endless_door.specs.Advancing.{Advances, standing, ways};
 
     ghost told = { told_in (λ answer. answer) };
 
-    ghost goes = { λ d told e. Advances (standing d.session d.seen) told
-        (standing e.session e.seen) };
+    ghost goes = { λ d told e. (e.gate.now ≡ d.gate.now)
+        × Advances (G.may_stop d.gate.now) AnyRefusal
+        (standing d.session d.seen (is_some d.hooks)) told
+        (standing e.session e.seen (is_some e.hooks)) };
 
-    ghost admits = { λ d s. Unit {0} };
+    ghost admits = { λ d s. d.hooks ≡ None };
 
-    ghost stays = { λ d. stays_there IsEntered next_of (standing d.session d.seen) };
+    ghost stays = { λ d. (
+      refl,
+      stays_there (ways (G.may_stop d.gate.now) AnyRefusal)
+          (standing d.session d.seen (is_some d.hooks)),
+    ) };
 
-    ghost joins = { λ a b c xs ys. goes_further IsEntered next_of (standing a.session a.seen)
-        (standing b.session b.seen) (standing c.session c.seen) xs ys };
+    ghost joins = { λ a b c xs ys. goes_by_one_gate (λ gate. ways (G.may_stop gate) AnyRefusal)
+        a.gate.now b.gate.now c.gate.now (standing a.session a.seen (is_some a.hooks))
+        (standing b.session b.seen (is_some b.hooks)) (standing c.session c.seen (is_some c.hooks))
+        xs ys };
 
     fn call(&mut self, session: &mut ClientSession<Answer>, call: Call) -> CallOutcome {
         let asked = Snapshot::of(&call);

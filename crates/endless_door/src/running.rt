@@ -1,9 +1,9 @@
 // A whole session of a mount's client.
-ghost use Rattle.std.specs.Prelude.{◌≡◌, ◌+◌, ◌<◌, ◌≤◌, List, []};
-ghost use mathlib.Core.List.{IsPrefix};
+ghost use Rattle.std.specs.Prelude.{◌≡◌, ◌+◌, ◌<◌, ◌≤◌, ◌↔◌, IsSome, List, [], false, is_some};
 ghost use Rattle.ov_session.specs.Devices.{InputAt, OutputAt};
 ghost use Rattle.ov_session.specs.Sessions.{IsSession};
 ghost use Rattle.ov_session.specs.declared.exchange.Exchange.{Exchange};
+ghost use Rattle.mount_door.specs.GoingOn.{AnyRefusal, IsReply};
 ghost use Rattle.endless_door.specs.Advancing.{Advances, standing};
 
 use crate::door::EndlessDoor;
@@ -29,7 +29,9 @@ pub struct Departure<N: BookName, F: Callback, R: Rule> {
 
 /// Runs the session of a client that was just attached, which has this front. What it wrote is the
 /// frames of the answers to what it read, and each reply among them stands in the history of the
-/// mount, at the place that is told, as the front that is left has it.
+/// mount, at the place that is told, as the front that is left has it. A call is held back only where
+/// the gate may stop it, and the client is detached, so that its hooks are handed back, unless the
+/// mount refused that.
 pub fn run_session<N, F, R, G, H, S, K>(
     rt: &H,
     alloc: Global,
@@ -48,17 +50,19 @@ where
     H: Wait,
     S: Source,
     K: Sink,
-    requires few { K.failures output.old.sink < 4294967295 }
     requires held { output.old.held.items ≡ [] }
-    ensures session { (told : List Exchange) × IsSession Advances
+    ensures session { (told : List Exchange)
+        × (s : IsSession (Advances (G.may_stop gate.now) AnyRefusal)
         (S.remaining input.old) (S.remaining input.new)
         (K.contents output.old.sink) (K.contents output.new.sink)
-        [] told (standing session seen)
-        (standing result.session result.seen) result.ending }
+        [] told (standing session seen false)
+        (standing result.session result.seen (is_some result.hooks)) result.ending)
+        × (IsSome result.hooks ↔ IsReply s.farewell) }
     ensures input { InputAt (S.failures input.old) (S.failures input.new) (S.reads input.new)
-        result.ending }
+        (S.most input.old) result.ending }
     ensures reads { (S.reads input.old ≤ S.reads input.new)
-        × (S.reads input.new ≤ S.reads input.old + 140737488355327) }
+        × (S.reads input.new ≤ S.most input.old) }
+    ensures most { S.most input.new ≡ S.most input.old }
     ensures output { OutputAt (K.failures output.old.sink) (K.failures output.new.sink)
         result.ending }
 {

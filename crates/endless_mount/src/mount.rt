@@ -146,7 +146,7 @@ impl<N: BookName, F: Callback, R: Rule> EndlessMount<N, F, R> {
     }
 
     /// The core, once the threads have ended, and a front that has the whole history, which ends in
-    /// it. A front that a thread has is a beginning of that.
+    /// it. What is handed in, a front that a thread has, is a beginning of that.
     pub fn finish<H: Wait>(self, rt: &H, seen: Front<N>) -> (Core<F, R>, Front<N>)
         ensures legal { ∥ Legally N.opening (history_of result.1) result.0 ∥₁ }
         ensures seen { IsPrefix seen result.1 }

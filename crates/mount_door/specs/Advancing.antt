@@ -1,43 +1,58 @@
 -- What is known of a client of a mount that keeps its history: the receipts of what it did.
-use Rattle.std.specs.Prelude.{◌≡◌, ℕ, List, [], ◌∷◌, ◌++◌}
+use Rattle.std.specs.Prelude.{◌≡◌, ℕ, ◌≤◌, Bool, List, [], ◌∷◌, ◌++◌}
 use Rattle.ov_session.specs.declared.exchange.Exchange.{Exchange}
+use Rattle.work_dir.specs.declared.limits.TheConstants.{STEPS_MAX}
 use Rattle.locked_history.specs.Claims.{Claim}
 use Rattle.locked_history.specs.declared.entry.Deed.{Deed}
 use Rattle.locked_history.specs.declared.session.Session.{Session}
 use Rattle.mount_door.specs.Claiming.{Claims}
-use Rattle.mount_door.specs.GoingOn.{GoesOn}
+use Rattle.mount_door.specs.GoingOn.{GoesOn, Ways}
 
--- where a client stands: the number of its next entry, and the receipts of what it did
+-- where a client stands: the number of its next entry, the receipts of what it did, and whether it
+-- was detached, so that its hooks were handed back
 pub record Standing : Type 0 where
   pub client : ℕ
   pub number : ℕ
   pub receipts : List Claim
+  pub detached : Bool
 
-abbrev pub standing : Session → List Claim → Standing
-standing session receipts = record {
+abbrev pub standing : Session → List Claim → Bool → Standing
+standing session receipts detached = record {
   client = session.client;
   number = session.number;
   receipts = receipts;
+  detached = detached;
 }
 
--- the number of its next entry
-abbrev pub next_of : Standing → ℕ
-next_of s = s.number
-
 -- one receipt more
-abbrev pub and_receipt : Standing → ℕ → Claim → Standing
-and_receipt old number claim = record {
+abbrev pub and_receipt : Standing → ℕ → Claim → Bool → Standing
+and_receipt old number claim detached = record {
   client = old.client;
   number = number;
   receipts = old.receipts ++ claim ∷ [];
+  detached = detached;
 }
 
 -- EACH ENTRY IS CLAIMED: one receipt more says that the client did this, at this place
 abbrev pub IsClaimed : Standing → ℕ → Deed → ℕ → Standing → Type 0
 IsClaimed old place did number new =
     (claim : Claim) × Claims claim place old.client old.number did
-    × (new ≡ and_receipt old number claim)
+    × (new ≡ and_receipt old number claim new.detached)
+
+-- why a call of a client may be held back: a gate may stop it before one of its steps
+abbrev pub MayHold : (ℕ → ℕ → Type 0) → ℕ → Type 0
+MayHold may_stop client = (step : ℕ) × (step ≤ STEPS_MAX) × may_stop client step
+
+-- the clients of a mount that may refuse to detach some, by a gate that may stop calls
+abbrev pub ways : (ℕ → ℕ → Type 0) → (ℕ → ℕ → Type 0) → Ways Standing
+ways may_stop may_refuse = record {
+  does = IsClaimed;
+  next = λ s. s.number;
+  detached = λ s. s.detached;
+  may_hold = λ s. MayHold may_stop s.client;
+  may_refuse = λ s. may_refuse s.client s.number;
+}
 
 -- a client goes on as its exchanges tell, and there is a receipt of each entry
-abbrev pub Advances : Standing → List Exchange → Standing → Type 0
-Advances = GoesOn IsClaimed next_of
+abbrev pub Advances : (ℕ → ℕ → Type 0) → (ℕ → ℕ → Type 0) → Standing → List Exchange → Standing → Type 0
+Advances may_stop may_refuse = GoesOn (ways may_stop may_refuse)

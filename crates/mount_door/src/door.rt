@@ -1,5 +1,5 @@
 // A door whose calls are those of one client of a mount.
-ghost use Rattle.std.specs.Prelude.{◌≡◌, ◌+◌, ◌<◌, ◌∷◌, [], true};
+ghost use Rattle.std.specs.Prelude.{◌≡◌, ◌+◌, ◌<◌, ◌∷◌, [], None, is_some, true};
 ghost use Rattle.std.specs.Vec.{vec_capacity, vec_len};
 ghost use Rattle.ov_frames.specs.Lending.{answer_of};
 ghost use Rattle.locked_history.specs.Claims.{IsCallOf};
@@ -9,6 +9,7 @@ ghost use Rattle.ov_session.specs.declared.exchange.Exchange.TheVariants.{Depart
 ghost use Rattle.mount_door.specs.Advancing.{Advances, standing};
 ghost use Rattle.mount_door.specs.Claiming.{IsToldBy};
 ghost use Rattle.mount_door.specs.Exchanges.{told_in};
+ghost use Rattle.mount_door.specs.GoingOn.{AnyRefusal};
 
 use crate::refusals::errno_of;
 use crate::session::ClientSession;
@@ -44,6 +45,8 @@ impl<'m, N: MountName, F: Callback + Drop, R: Rule, G: Gate, H: Wait> MountDoor<
         receipts: Vec<Receipt<N>>,
     ) -> MountDoor<'m, N, F, R, G, H>
         ensures client { (result.session ≡ session) × (result.receipts ≡ receipts) }
+        ensures attached { result.hooks ≡ None }
+        ensures gate { result.gate.now ≡ gate.now }
     {
         MountDoor {
             rt,
@@ -87,11 +90,13 @@ impl<'m, N: MountName, F: Callback + Drop, R: Rule, G: Gate, H: Wait> MountDoor<
         requires call { IsCallOf receipt.entry self.old.session.client
             self.old.session.number call.value }
         requires counted { receipt.counted ≡ true }
-        ensures told { IsAsked Advances
-            (standing self.old.session self.old.receipts.items)
-            (standing self.new.session self.new.receipts.items)
+        ensures told { IsAsked (Advances (G.may_stop self.old.gate.now) AnyRefusal)
+            (standing self.old.session self.old.receipts.items (is_some self.old.hooks))
+            (standing self.new.session self.new.receipts.items (is_some self.new.hooks))
             (told_in answer_of session.old) (told_in answer_of session.new) call.value Answered }
         ensures spare { vec_len self.new.receipts < vec_capacity self.new.receipts }
+        ensures hooks { self.new.hooks ≡ self.old.hooks }
+        ensures gate { self.new.gate.now ≡ self.old.gate.now }
     {
         let mut receipt = receipt;
         let answer = self.answer_in(&call, &mut receipt);
@@ -102,10 +107,13 @@ impl<'m, N: MountName, F: Callback + Drop, R: Rule, G: Gate, H: Wait> MountDoor<
 
     // Detaches the client, and keeps the receipt and the hooks.
     fn leave(&mut self) -> Answer
-        requires { vec_len self.old.receipts < vec_capacity self.old.receipts }
-        ensures { Advances (standing self.old.session self.old.receipts.items)
+        requires room { vec_len self.old.receipts < vec_capacity self.old.receipts }
+        requires attached { self.old.hooks ≡ None }
+        ensures goes { Advances (G.may_stop self.old.gate.now) AnyRefusal
+            (standing self.old.session self.old.receipts.items (is_some self.old.hooks))
             (Departed result ∷ [])
-            (standing self.new.session self.new.receipts.items) }
+            (standing self.new.session self.new.receipts.items (is_some self.new.hooks)) }
+        ensures gate { self.new.gate.now ≡ self.old.gate.now }
     {
         match self.mount.detach(self.rt, self.session) {
             Ok((hooks, receipt)) => {
@@ -126,25 +134,33 @@ impl<'m, N: MountName, F: Callback + Drop, R: Rule, G: Gate, H: Wait> Door
     for MountDoor<'m, N, F, R, G, H> {
     type Session = ClientSession<LentAnswer<'m>>;
 
-    ghost use Rattle.std.specs.Prelude.{◌≡◌, ◌<◌};
+    ghost use Rattle.std.specs.Prelude.{◌≡◌, ◌<◌, None, is_some, refl};
     ghost use Rattle.std.specs.Vec.{vec_capacity, vec_len};
     ghost use Rattle.ov_frames.specs.Lending.{answer_of};
-    ghost use Rattle.mount_door.specs.Advancing.{Advances, IsClaimed, next_of, standing};
+    ghost use Rattle.mount_door.specs.Advancing.{Advances, standing, ways};
     ghost use Rattle.mount_door.specs.Exchanges.{told_in};
-    ghost use Rattle.mount_door.specs.GoingOn.{goes_further, stays_there};
+    ghost use Rattle.mount_door.specs.GoingOn.{AnyRefusal, goes_by_one_gate, stays_there};
 
     ghost told = { told_in answer_of };
 
-    ghost goes = { λ d told e. Advances (standing d.session d.receipts.items) told
-        (standing e.session e.receipts.items) };
+    ghost goes = { λ d told e. (e.gate.now ≡ d.gate.now)
+        × Advances (G.may_stop d.gate.now) AnyRefusal
+        (standing d.session d.receipts.items (is_some d.hooks)) told
+        (standing e.session e.receipts.items (is_some e.hooks)) };
 
-    ghost admits = { λ d s. vec_len d.receipts < vec_capacity d.receipts };
+    ghost admits = { λ d s. (vec_len d.receipts < vec_capacity d.receipts) × (d.hooks ≡ None) };
 
-    ghost stays = { λ d. stays_there IsClaimed next_of (standing d.session d.receipts.items) };
+    ghost stays = { λ d. (
+      refl,
+      stays_there (ways (G.may_stop d.gate.now) AnyRefusal)
+          (standing d.session d.receipts.items (is_some d.hooks)),
+    ) };
 
-    ghost joins = { λ a b c xs ys. goes_further IsClaimed next_of
-        (standing a.session a.receipts.items) (standing b.session b.receipts.items)
-        (standing c.session c.receipts.items) xs ys };
+    ghost joins = { λ a b c xs ys. goes_by_one_gate (λ gate. ways (G.may_stop gate) AnyRefusal)
+        a.gate.now b.gate.now c.gate.now
+        (standing a.session a.receipts.items (is_some a.hooks))
+        (standing b.session b.receipts.items (is_some b.hooks))
+        (standing c.session c.receipts.items (is_some c.hooks)) xs ys };
 
     fn call(&mut self, session: &mut ClientSession<LentAnswer<'m>>, call: Call) -> CallOutcome {
         let asked = Snapshot::of(&call);

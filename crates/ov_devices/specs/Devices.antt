@@ -1,5 +1,5 @@
 -- What reads and writes leave.
-use Rattle.std.specs.Prelude.{◌≡◌, ℕ, ◌+◌, ◌<◌, ◌≤◌, List, length, take, Option, MatchOption, Result, Ok, Err}
+use Rattle.std.specs.Prelude.{◌≡◌, ℕ, ◌+◌, ◌≤◌, min, List, length, take, Option, MatchOption, Result, Ok, Err}
 use Rattle.std.specs.Io.KnownBytes.{Consumes, IsAtEnd, Keeps}
 use Rattle.ov_devices.specs.declared.fault.Fault.{Fault}
 use Rattle.ov_devices.specs.declared.fault.Fault.TheVariants.{Memory, Failed}
@@ -14,10 +14,14 @@ abbrev pub failed : {T : Type 0} → Result T Fault → ℕ
 failed (Ok x) = 0
 failed (Err fault) = fails fault
 
--- the failures before and after a fault: one more where it is a failure, up to a last one
+-- one failure more, up to the last that is counted
+abbrev pub one_more : ℕ → ℕ
+one_more failures = min (failures + 1) 18446744073709551615
+
+-- the failures before and after a fault
 abbrev pub CountsFault : ℕ → ℕ → Fault → Type 0
 CountsFault before after Memory = after ≡ before
-CountsFault before after Failed = (before < 18446744073709551615 → after ≡ before + 1) × (0 < after)
+CountsFault before after Failed = after ≡ one_more before
 
 -- and what a call answers
 abbrev pub Counts : {T : Type 0} → ℕ → ℕ → Result T Fault → Type 0

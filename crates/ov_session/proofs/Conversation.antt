@@ -136,34 +136,35 @@ turn_no_read goes all m n e (inl h) k = let b =
 turn_no_read goes all m n e (inr h) k = absurd cc
 
 -- an input without failure, where a session ends by no failed read
-pub input_well : (before after reads : ℕ) (e : Ending) → after ≡ before
-    → (e ≡ ending.Read → ⊥) → InputAt before after reads e
-input_well before after reads ending.Read h differs = absurd (differs refl)
-input_well before after reads ending.Detached h differs = h
-input_well before after reads ending.Ended h differs = h
-input_well before after reads ending.Cut h differs = h
-input_well before after reads (ending.Frame f) h differs = h
-input_well before after reads ending.Write h differs = h
-input_well before after reads ending.Memory h differs = h
-input_well before after reads ending.Stopped h differs = h
+pub input_well : (before after reads most : ℕ) (e : Ending) → after ≡ before
+    → (e ≡ ending.Read → ⊥) → InputAt before after reads most e
+input_well before after reads most ending.Read h differs = absurd (differs refl)
+input_well before after reads most ending.Detached h differs = h
+input_well before after reads most ending.Ended h differs = h
+input_well before after reads most ending.Cut h differs = h
+input_well before after reads most (ending.Frame f) h differs = h
+input_well before after reads most ending.Write h differs = h
+input_well before after reads most ending.Memory h differs = h
+input_well before after reads most ending.Stopped h differs = h
 
 -- a read that ended a session, after others that failed no more often
-pub input_ended : (before between after reads : ℕ) (e : Ending) → between ≡ before
-    → IsInputEnd between after reads e → IsInputEnd before after reads e
-input_ended before between after reads e same h =
-    subst (λ (n : ℕ). IsInputEnd n after reads e) same h
+pub input_ended : (before between after reads limit most : ℕ) (e : Ending) → between ≡ before
+    → limit ≡ most → IsInputEnd between after reads limit e → IsInputEnd before after reads most e
+input_ended before between after reads limit most e same kept h =
+    subst (λ (n : ℕ). IsInputEnd before after reads n e) kept
+    (subst (λ (n : ℕ). IsInputEnd n after reads limit e) same h)
 
 -- a read that ended a session
-pub input_at : (before after reads : ℕ) (e : Ending) → IsInputEnd before after reads e
-    → InputAt before after reads e
-input_at before after reads ending.Read h = h
-input_at before after reads ending.Memory h = h
-input_at before after reads ending.Detached h = absurd h
-input_at before after reads ending.Ended h = absurd h
-input_at before after reads ending.Cut h = absurd h
-input_at before after reads (ending.Frame f) h = absurd h
-input_at before after reads ending.Write h = absurd h
-input_at before after reads ending.Stopped h = absurd h
+pub input_at : (before after reads most : ℕ) (e : Ending) → IsInputEnd before after reads most e
+    → InputAt before after reads most e
+input_at before after reads most ending.Read h = h
+input_at before after reads most ending.Memory h = h
+input_at before after reads most ending.Detached h = absurd h
+input_at before after reads most ending.Ended h = absurd h
+input_at before after reads most ending.Cut h = absurd h
+input_at before after reads most (ending.Frame f) h = absurd h
+input_at before after reads most ending.Write h = absurd h
+input_at before after reads most ending.Stopped h = absurd h
 
 -- nothing was read yet
 pub so_far_nothing : {D : Type 0} (goes : Goes D) (i : Option (List ℕ)) (o : Place D) (left : Left)
@@ -196,10 +197,10 @@ so_far_same goes i j k o n left piece s c e = record {
 
 -- a read that failed
 pub read_ended : {D : Type 0} (goes : Goes D) (i j k : Option (List ℕ)) (o n : Place D)
-    (left : Left) (before after reads : ℕ) (e : Ending) → SoFar goes i j o n left
-    → is_faulty left ≡ false → Keeps j k → IsInputEnd before after reads e
+    (left : Left) (before after reads most : ℕ) (e : Ending) → SoFar goes i j o n left
+    → is_faulty left ≡ false → Keeps j k → IsInputEnd before after reads most e
     → Conversed goes i k o n e
-read_ended goes i j k o n left before after reads ending.Read s b c h =
+read_ended goes i j k o n left before after reads most ending.Read s b c h =
     let s' : SoFar goes i k o n left =
     record {
       taken = s.taken;
@@ -209,7 +210,7 @@ read_ended goes i j k o n left before after reads ending.Read s b c h =
       talked = s.talked;
     } in
     all_served goes i k o n left ending.Read s' ((refl, refl, refl), b)
-read_ended goes i j k o n left before after reads ending.Memory s b c h =
+read_ended goes i j k o n left before after reads most ending.Memory s b c h =
     let s' : SoFar goes i k o n left =
     record {
       taken = s.taken;
@@ -219,24 +220,25 @@ read_ended goes i j k o n left before after reads ending.Memory s b c h =
       talked = s.talked;
     } in
     all_served goes i k o n left ending.Memory s' (inl refl, front_of_all (frames s.talked.answers))
-read_ended goes i j k o n left before after reads ending.Detached s b c h = absurd h
-read_ended goes i j k o n left before after reads ending.Ended s b c h = absurd h
-read_ended goes i j k o n left before after reads ending.Cut s b c h = absurd h
-read_ended goes i j k o n left before after reads (ending.Frame f) s b c h = absurd h
-read_ended goes i j k o n left before after reads ending.Write s b c h = absurd h
-read_ended goes i j k o n left before after reads ending.Stopped s b c h = absurd h
+read_ended goes i j k o n left before after reads most ending.Detached s b c h = absurd h
+read_ended goes i j k o n left before after reads most ending.Ended s b c h = absurd h
+read_ended goes i j k o n left before after reads most ending.Cut s b c h = absurd h
+read_ended goes i j k o n left before after reads most (ending.Frame f) s b c h = absurd h
+read_ended goes i j k o n left before after reads most ending.Write s b c h = absurd h
+read_ended goes i j k o n left before after reads most ending.Stopped s b c h = absurd h
 
 -- such a read leaves the sink as it was
-pub read_unwritten : (before after reads sink_before sink_after : ℕ) (e : Ending)
-    → IsInputEnd before after reads e → sink_after ≡ sink_before → OutputAt sink_before sink_after e
-read_unwritten before after reads a b ending.Read h k = k
-read_unwritten before after reads a b ending.Memory h k = k
-read_unwritten before after reads a b ending.Detached h k = absurd h
-read_unwritten before after reads a b ending.Ended h k = absurd h
-read_unwritten before after reads a b ending.Cut h k = absurd h
-read_unwritten before after reads a b (ending.Frame f) h k = absurd h
-read_unwritten before after reads a b ending.Write h k = absurd h
-read_unwritten before after reads a b ending.Stopped h k = absurd h
+pub read_unwritten : (before after reads most sink_before sink_after : ℕ) (e : Ending)
+    → IsInputEnd before after reads most e → sink_after ≡ sink_before
+    → OutputAt sink_before sink_after e
+read_unwritten before after reads most a b ending.Read h k = k
+read_unwritten before after reads most a b ending.Memory h k = k
+read_unwritten before after reads most a b ending.Detached h k = absurd h
+read_unwritten before after reads most a b ending.Ended h k = absurd h
+read_unwritten before after reads most a b ending.Cut h k = absurd h
+read_unwritten before after reads most a b (ending.Frame f) h k = absurd h
+read_unwritten before after reads most a b ending.Write h k = absurd h
+read_unwritten before after reads most a b ending.Stopped h k = absurd h
 
 -- the input ended between frames
 pub ended_between : {D : Type 0} (goes : Goes D) (i j : Option (List ℕ)) (o n : Place D)

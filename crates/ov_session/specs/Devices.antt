@@ -1,6 +1,7 @@
 -- What reads and writes leave.
 use Rattle.std.specs.Prelude.{◌≡◌, ℕ, ◌+◌, Bool, true, false, List, [], ◌++◌, Option, Result, Ok, Err, ◌⊎◌}
 use Rattle.std.specs.Io.KnownBytes.{Appends}
+use Rattle.ov_devices.specs.Devices.{one_more}
 use Rattle.ov_frames.specs.Replies.{answer_frame}
 use Rattle.ov_frames.specs.declared.answer.Answer.{Answer}
 use Rattle.ov_session.specs.declared.ending.Ending.{Ending}
@@ -10,18 +11,18 @@ use Rattle.ov_session.specs.declared.ending.Ending.TheVariants as ending
 abbrev pub IsFrontOf : List ℕ → List ℕ → Type 0
 IsFrontOf front all = (rest : List ℕ) × (all ≡ front ++ rest)
 
--- how often the source had failed before and after a session that ends so, and how often it was read
--- in all: by `Read` only where it failed once more, or no read is left
-abbrev pub InputAt : ℕ → ℕ → ℕ → Ending → Type 0
-InputAt before after reads ending.Read =
-    (after ≡ before + 1) ⊎ ((after ≡ before) × (reads ≡ 140737488355327))
-InputAt before after reads _ = after ≡ before
+-- how often the source had failed before and after a session that ends so, how often it was read in
+-- all, and how often it may be: by `Read` only where it failed once more, or no read is left
+abbrev pub InputAt : ℕ → ℕ → ℕ → ℕ → Ending → Type 0
+InputAt before after reads most ending.Read =
+    (after ≡ before + 1) ⊎ ((after ≡ before) × (reads ≡ most))
+InputAt before after reads most _ = after ≡ before
 
 -- how reads may end a session, with the same numbers
-abbrev pub IsInputEnd : ℕ → ℕ → ℕ → Ending → Type 0
-IsInputEnd before after reads ending.Read = InputAt before after reads ending.Read
-IsInputEnd before after reads ending.Memory = InputAt before after reads ending.Memory
-IsInputEnd before after reads _ = ⊥
+abbrev pub IsInputEnd : ℕ → ℕ → ℕ → ℕ → Ending → Type 0
+IsInputEnd before after reads most ending.Read = InputAt before after reads most ending.Read
+IsInputEnd before after reads most ending.Memory = InputAt before after reads most ending.Memory
+IsInputEnd before after reads most _ = ⊥
 
 -- how a write may end a session
 abbrev pub IsOutputEnd : Ending → Type 0
@@ -30,9 +31,9 @@ IsOutputEnd ending.Memory = Unit {0}
 IsOutputEnd _ = ⊥
 
 -- how often the sink had failed before and after a session that ends so: once more where that is by
--- `Write`, and else as often
+-- `Write`, up to the last that is counted, and else as often
 abbrev pub OutputAt : ℕ → ℕ → Ending → Type 0
-OutputAt before after ending.Write = after ≡ before + 1
+OutputAt before after ending.Write = after ≡ one_more before
 OutputAt before after _ = after ≡ before
 
 -- requests were served until a write failed

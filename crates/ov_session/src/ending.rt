@@ -12,7 +12,7 @@ pub enum Ending {
     Cut,
     /// The bytes that came are no frame.
     Frame(FrameFault),
-    /// A read failed, or one was due after the 4,294,967,295th.
+    /// A read failed, or one was due after the last that the source may make.
     Read,
     /// A write failed.
     Write,

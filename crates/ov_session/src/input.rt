@@ -17,8 +17,10 @@ pub(crate) fn read_piece<S: Source>(input: &mut S, piece: &mut [u8]) -> Result<u
     ensures well { OnOk result (S.failures input.new ≡ S.failures input.old) }
     ensures kept { OnErr result (Keeps (S.remaining input.old) (S.remaining input.new)) }
     ensures reads { S.reads input.old ≤ S.reads input.new }
+    ensures most { S.most input.new ≡ S.most input.old }
     ensures end { IfErr result
-        (IsInputEnd (S.failures input.old) (S.failures input.new) (S.reads input.new)) }
+        (IsInputEnd (S.failures input.old) (S.failures input.new) (S.reads input.new)
+        (S.most input.old)) }
 {
     'tries: while input.reads_left() > 0 {
         match input.read(piece) {

@@ -34,7 +34,6 @@ impl<K> SessionOutput<K> {
 impl<K: Sink> SessionOutput<K> {
     /// Puts the frame of an answer behind what is held, and hands it on where that is much.
     pub(crate) fn put(&mut self, answer: LentAnswer<'_>) -> Result<(), Ending>
-        requires few { K.failures self.old.sink < 4294967295 }
         ensures put { IsPut (K.contents self.old.sink) (K.contents self.new.sink)
             self.old.held.items self.new.held.items (answer_of answer.entry) result }
         ensures failures { OutputAfter (K.failures self.old.sink) (K.failures self.new.sink) result }
@@ -51,7 +50,6 @@ impl<K: Sink> SessionOutput<K> {
 
     /// Hands on what is held, and has the sink do so.
     pub(crate) fn flush(&mut self) -> Result<(), Ending>
-        requires few { K.failures self.old.sink < 4294967295 }
         ensures bytes { Gains (K.contents self.old.sink) (K.contents self.new.sink)
             self.old.held.items self.new.held.items [] }
         ensures held { OnOk result (self.new.held.items ≡ []) }
@@ -67,7 +65,6 @@ impl<K: Sink> SessionOutput<K> {
     }
 
     fn hand_on(&mut self) -> Result<(), Ending>
-        requires few { K.failures self.old.sink < 4294967295 }
         ensures bytes { Gains (K.contents self.old.sink) (K.contents self.new.sink)
             self.old.held.items self.new.held.items [] }
         ensures held { OnOk result (self.new.held.items ≡ []) }

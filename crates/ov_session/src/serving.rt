@@ -19,7 +19,6 @@ fn serve_one<K: Sink, D: Door>(
     door: &mut D,
     session: &mut D::Session,
 ) -> Result<(), Ending>
-    requires few { K.failures output.old.sink < 4294967295 }
     requires admitted { D.admits door.old session.old }
     ensures { ServesThem D.goes D.admits
         (place K.contents K.failures D.told output.old session.old door.old)
@@ -47,7 +46,6 @@ fn serve_frames<K: Sink, D: Door>(
     door: &mut D,
     session: &mut D::Session,
 ) -> Result<usize, Ending>
-    requires few { K.failures output.old.sink < 4294967295 }
     requires admitted { D.admits door.old session.old }
     ensures { ServesBytes D.goes D.admits bytes.now
         (place K.contents K.failures D.told output.old session.old door.old)
@@ -89,7 +87,6 @@ fn serve_piece<K: Sink, D: Door>(
     door: &mut D,
     session: &mut D::Session,
 ) -> Result<usize, Ending>
-    requires few { K.failures output.old.sink < 4294967295 }
     requires admitted { D.admits door.old session.old }
     ensures { Turns D.goes D.admits bytes.now
         (place K.contents K.failures D.told output.old session.old door.old)
@@ -115,7 +112,6 @@ pub(crate) fn take_piece<K: Sink, D: Door>(
     door: &mut D,
     session: &mut D::Session,
 ) -> Result<usize, Ending>
-    requires few { K.failures output.old.sink < 4294967295 }
     requires held { output.old.held.items ≡ [] }
     requires admitted { D.admits door.old session.old }
     ensures { Turns D.goes D.admits bytes.now

@@ -34,7 +34,6 @@ fn converse<S: Source, K: Sink, D: Door>(
     door: &mut D,
     session: &mut D::Session,
 ) -> Ending
-    requires few { K.failures output.old.sink < 4294967295 }
     requires held { output.old.held.items ≡ [] }
     requires admitted { D.admits door.old session.old }
     ensures talk { Converses D.goes D.admits
@@ -42,8 +41,10 @@ fn converse<S: Source, K: Sink, D: Door>(
         (place K.contents K.failures D.told output.old session.old door.old)
         (place K.contents K.failures D.told output.new session.new door.new)
         session.new result }
-    ensures input { InputAt (S.failures input.old) (S.failures input.new) (S.reads input.new) result }
+    ensures input { InputAt (S.failures input.old) (S.failures input.new) (S.reads input.new)
+        (S.most input.old) result }
     ensures reads { S.reads input.old ≤ S.reads input.new }
+    ensures most { S.most input.new ≡ S.most input.old }
 {
     let Ok(mut buffer) = buffer_of(alloc) else {
         return Ending::Memory;
@@ -91,7 +92,6 @@ fn pieces_of<S: Source, K: Sink, D: Door>(
     session: &mut D::Session,
 ) -> Ending
     requires room { length bytes.old ≡ 140008 }
-    requires few { K.failures output.old.sink < 4294967295 }
     requires held { output.old.held.items ≡ [] }
     requires admitted { D.admits door.old session.old }
     ensures talk { Converses D.goes D.admits
@@ -99,8 +99,10 @@ fn pieces_of<S: Source, K: Sink, D: Door>(
         (place K.contents K.failures D.told output.old session.old door.old)
         (place K.contents K.failures D.told output.new session.new door.new)
         session.new result }
-    ensures input { InputAt (S.failures input.old) (S.failures input.new) (S.reads input.new) result }
+    ensures input { InputAt (S.failures input.old) (S.failures input.new) (S.reads input.new)
+        (S.most input.old) result }
     ensures reads { S.reads input.old ≤ S.reads input.new }
+    ensures most { S.most input.new ≡ S.most input.old }
 {
     let mut start = 0;
     let mut end = 0;
@@ -134,7 +136,6 @@ fn pieces_of<S: Source, K: Sink, D: Door>(
 
 // Sends the answer to a detach that was asked for, and how the session ends.
 fn send_farewell<K: Sink>(output: &mut SessionOutput<K>, farewell: &Answer) -> Ending
-    requires few { K.failures output.old.sink < 4294967295 }
     ensures sent { IsSent (K.contents output.old.sink) (K.contents output.new.sink)
         output.old.held.items output.new.held.items farewell.now result }
     ensures output { OutputAt (K.failures output.old.sink) (K.failures output.new.sink) result }
@@ -157,15 +158,16 @@ pub fn session_run<S: Source, K: Sink, D: Door>(
     door: &mut D,
     session: &mut D::Session,
 ) -> Ending
-    requires few { K.failures output.old.sink < 4294967295 }
     requires held { output.old.held.items ≡ [] }
     requires admitted { D.admits door.old session.old }
     ensures session { IsSession D.goes (S.remaining input.old) (S.remaining input.new)
         (K.contents output.old.sink) (K.contents output.new.sink)
         (D.told session.old) (D.told session.new) door.old door.new result }
-    ensures input { InputAt (S.failures input.old) (S.failures input.new) (S.reads input.new) result }
+    ensures input { InputAt (S.failures input.old) (S.failures input.new) (S.reads input.new)
+        (S.most input.old) result }
     ensures reads { (S.reads input.old ≤ S.reads input.new)
-        × (S.reads input.new ≤ S.reads input.old + 140737488355327) }
+        × (S.reads input.new ≤ S.most input.old) }
+    ensures most { S.most input.new ≡ S.most input.old }
     ensures output { OutputAt (K.failures output.old.sink) (K.failures output.new.sink) result }
 {
     let end = converse(alloc, input, output, door, session);

@@ -24,12 +24,18 @@ const DONE: u64 = 8;
 /// How much was done on the core of a mount that has ended.
 #[derive(Drop)]
 struct Deeds {
-    finished: u64,
+    finished: Option<u64>,
 }
 
 impl Keeper for Deeds {
+    ghost use Rattle.std.specs.Prelude.{IsSome};
+
+    ghost takes = { λ deeds mounted. Unit {0} };
+
+    ghost kept = { λ deeds mounted entries. IsSome deeds.finished };
+
     fn keep<F: Callback, R: Rule>(&mut self, core: &Core<F, R>) {
-        self.finished = core.finished();
+        self.finished = Some(core.finished());
     }
 }
 
@@ -65,13 +71,13 @@ where
 {
     let listener = UnixListener::bind(rt, path)?;
     let blank = Blank::new(alloc, core_of::<F, R>(alloc, keys, EMPTY)?);
-    let mut deeds = Deeds { finished: 0 };
+    let mut deeds = Deeds { finished: None };
     let (end, met) = served(rt, alloc, &by_two(path), &listener, blank, &mut deeds);
     let removed = fs::remove_file(rt, path);
     met?;
     removed?;
     assert_eq!(rt; end?, Served::Done);
-    assert_eq!(rt; deeds.finished, DONE);
+    assert_eq!(rt; deeds.finished, Some(DONE));
     Ok(())
 }
 

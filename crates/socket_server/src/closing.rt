@@ -1,4 +1,6 @@
 // How a server is ended by another thread than its workers.
+use ov_base::Errno;
+use slab::Slab;
 use std::alloc::Global;
 use std::io;
 use std::net::Shutdown;
@@ -14,20 +16,18 @@ pub struct Closing {
     closed: AtomicBool,
     // The listener, by a descriptor of its own. Only a stream can be shut down.
     listener: UnixStream,
-    // The connection of each worker that has one, by a descriptor of its own.
-    connections: Mutex<Vec<Option<UnixStream>>>,
+    // The connections that workers have, by descriptors of their own.
+    connections: Mutex<Slab<UnixStream>>,
 }
 
 impl Closing {
     /// For so many workers, who take the connections of this listener.
     pub fn new(alloc: Global, listener: &UnixListener, workers: usize) -> io::Result<Closing> {
         let listener = UnixStream::from(OwnedFd::from(listener.try_clone()?));
-        let mut connections = Vec::new(alloc);
-        connections.resize_with(workers, || None)?;
         Ok(Closing {
             closed: AtomicBool::new(false),
             listener,
-            connections: Mutex::new(connections),
+            connections: Mutex::new(Slab::with_capacity(alloc, workers)?),
         })
     }
 
@@ -50,37 +50,31 @@ impl Closing {
         self.closed.load(Ordering::SeqCst)
     }
 
-    /// A worker has a connection.
-    pub(crate) fn enters(
-        &self,
-        rt: &impl Wait,
-        worker: usize,
-        connection: &UnixStream,
-    ) -> io::Result<()> {
-        let connection = connection.try_clone()?;
+    /// A worker has a connection, which is kept under this key: EMFILE where there is no descriptor
+    /// for it, and ENOMEM where there is no memory.
+    pub(crate) fn enters(&self, rt: &impl Wait, connection: &UnixStream) -> Result<usize, Errno> {
+        let Ok(connection) = connection.try_clone() else {
+            return Err(Errno::EMFILE);
+        };
         let mut connections = self.connections.lock(rt);
         if self.is_closed() {
             let _ = connection.shutdown(Shutdown::Read);
         }
-        if let Some(place) = connections.get_mut(worker) {
-            *place = Some(connection);
+        match connections.insert(connection) {
+            Ok(key) => Ok(key),
+            Err(_) => Err(Errno::ENOMEM),
         }
-        Ok(())
     }
 
-    /// A worker has no connection any more.
-    pub(crate) fn leaves(&self, rt: &impl Wait, worker: usize) {
-        if let Some(place) = self.connections.lock(rt).get_mut(worker) {
-            *place = None;
-        }
+    /// A worker hasn't the connection of this key any more.
+    pub(crate) fn leaves(&self, rt: &impl Wait, key: usize) {
+        let _ = self.connections.lock(rt).try_remove(key);
     }
 
     // Shuts all connections down.
     fn shut_down(&self, rt: &impl Wait, how: Shutdown) {
-        for connection in self.connections.lock(rt).iter() {
-            if let Some(connection) = connection {
-                let _ = connection.shutdown(how);
-            }
+        for (_, connection) in self.connections.lock(rt).iter() {
+            let _ = connection.shutdown(how);
         }
     }
 }

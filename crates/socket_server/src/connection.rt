@@ -6,11 +6,12 @@ ghost use Rattle.ov_frames.specs.declared.answer.Answer.TheVariants.{NotTaken};
 use ov_base::Errno;
 use std::io;
 use std::io::{ErrorKind, Read, Write};
-use std::os::unix::net::UnixStream;
+use std::os::unix::net::{UnixListener, UnixStream};
 use std::sync::atomic::{AtomicBool, Ordering};
 use std::time::Duration;
 
-/// A connection that was taken, its number, and whether a read or a write of it waited too long.
+/// A connection that was taken, its number, and whether a read or a write of it waited too long. It
+/// is made by taking it alone.
 #[derive(Drop)]
 pub(crate) struct Connection {
     pub(crate) number: u64,
@@ -19,13 +20,14 @@ pub(crate) struct Connection {
 }
 
 impl Connection {
-    /// A connection that waits for ever.
-    pub(crate) fn new(number: u64, stream: UnixStream) -> Connection {
-        Connection {
-            number,
+    /// Takes the next connection of a listener. It waits for ever, and has no number yet.
+    pub(crate) fn take(listener: &UnixListener) -> io::Result<Connection> {
+        let (stream, _) = listener.accept()?;
+        Ok(Connection {
+            number: 0,
             stream,
             timed_out: AtomicBool::new(false),
-        }
+        })
     }
 
     /// From now on a read or a write fails that waits longer than so many seconds. It can't be no

@@ -1,6 +1,6 @@
 // The service of a mount whose history is kept nowhere: of all clients together the longest front is
 // kept that one of them has seen.
-ghost use Rattle.std.specs.Prelude.{ℕ, List};
+ghost use Rattle.std.specs.Prelude.{◌≡◌, ◌≤◌, ℕ, Bool, IfOk, List, is_some, length, true};
 ghost use Rattle.endless_door.specs.Advancing.{standing};
 ghost use Rattle.socket_server.specs.EndlessClients.{IsClient, IsNew};
 
@@ -24,10 +24,11 @@ pub(crate) struct Endless<N: BookName, F: Callback, R: Rule> {
     pub(crate) unseen: Front<N>,
 }
 
-/// A client that was just attached, and the front that it has seen.
+/// A client that was just attached, the place of that, and the front that it has seen.
 #[derive(Drop)]
 pub(crate) struct Guest<N: BookName> {
     session: Session,
+    place: u64,
     seen: Front<N>,
 }
 
@@ -40,13 +41,19 @@ fn converse<N: BookName, F: Callback + Copy, R: Rule, G: Gate, H: Wait>(
     client: Guest<N>,
     connection: &Connection,
 ) -> Departure<N, F, R>
-    ensures { (tags : List ℕ) →
-        IsNew tags client.session.client client.session.number client.seen →
-        IsClient tags (standing result.session result.seen) }
+    ensures { (tags : List ℕ) (closes : Bool) →
+        ((number step : ℕ) → G.may_stop gate.now number step → closes ≡ true) →
+        IsNew tags client.session.client client.session.number client.place client.seen →
+        IsClient tags closes (is_some result.hooks) client.place
+        (standing result.session result.seen (is_some result.hooks)) }
 {
-    let mut input = CountedReader::new(connection);
+    let mut input = CountedReader::of_years(connection);
     let mut output = SessionOutput::new(alloc, CountedWriter::new(connection));
-    let Guest { session, seen } = client;
+    let Guest {
+        session,
+        place: _,
+        seen,
+    } = client;
     run_session(
         rt,
         alloc,
@@ -57,6 +64,32 @@ fn converse<N: BookName, F: Callback + Copy, R: Rule, G: Gate, H: Wait>(
         &mut input,
         &mut output,
     )
+}
+
+impl<N: BookName, F: Callback + Copy, R: Rule> Endless<N, F, R> {
+    // Takes a client whose entry is behind this front. Each one's is that came later than who saw the
+    // front, but no contract outside the lock says so: another client is detached.
+    fn admit<H: Wait>(&self, rt: &H, guest: Guest<N>, front: &Front<N>) -> Result<Guest<N>, Errno>
+        ensures comes { (tags : List ℕ) →
+            IsNew tags guest.session.client guest.session.number guest.place guest.seen →
+            IfOk result (λ g. IsNew tags g.session.client g.session.number g.place g.seen) }
+        ensures is_new { IfOk result (λ g. length front.now ≤ g.place) }
+    {
+        let Guest {
+            session,
+            place,
+            mut seen,
+        } = guest;
+        if place < front.len() {
+            let _ = self.mount.detach(rt, session, &mut seen);
+            return Err(Errno::EINVAL);
+        }
+        Ok(Guest {
+            session,
+            place,
+            seen,
+        })
+    }
 }
 
 impl<N: BookName, F: Callback, R: Rule> Places for Endless<N, F, R> {
@@ -77,15 +110,20 @@ where
 
     type Kept = Front<N>;
 
-    ghost use Rattle.socket_server.specs.EndlessClients.{AreClientsIn, IsNew};
+    ghost use Rattle.std.specs.Prelude.{◌≤◌, length};
+    ghost use Rattle.socket_server.specs.EndlessClients.{AreClientsIn, IsNew, of_any_guests};
 
     ghost tag = { λ h. h.tag };
 
-    ghost comes = { λ tags c. IsNew tags c.session.client c.session.number c.seen };
+    ghost comes = { λ tags c. IsNew tags c.session.client c.session.number c.place c.seen };
 
     ghost keeps = { AreClientsIn };
 
     ghost has_room = { λ kept. Unit {0} };
+
+    ghost is_new = { λ kept c. length kept ≤ c.place };
+
+    ghost of_any = { of_any_guests };
 
     fn kept_of_none(&self, _alloc: Global) -> Front<N> {
         self.unseen.again()
@@ -100,12 +138,20 @@ where
         rt: &H,
         alloc: Global,
         hooks: &[Hook<F, R>],
+        kept: &Front<N>,
     ) -> Result<Guest<N>, Errno> {
         let Ok(copies) = copies_of(alloc, hooks) else {
             return Err(Errno::ENOMEM);
         };
         match self.mount.attach(rt, copies) {
-            Ok((session, _, seen)) => Ok(Guest { session, seen }),
+            Ok((session, place, seen)) => {
+                let guest = Guest {
+                    session,
+                    place,
+                    seen,
+                };
+                self.admit(rt, guest, kept)
+            }
             Err(fault) => Err(fault.errno),
         }
     }
@@ -123,6 +169,7 @@ where
         connection: &Connection,
         kept: &mut Front<N>,
     ) -> Ended {
+        *kept = kept.longer(&client.seen);
         let left = converse(rt, alloc, &self.mount, gate, client, connection);
         *kept = kept.longer(&left.seen);
         Ended {

@@ -1,10 +1,11 @@
 // The server of a mount whose history is kept nowhere.
-ghost use Rattle.std.specs.Prelude.{◌≡◌, ◌≢◌, All, IfOk, None, map};
+ghost use Rattle.std.specs.Prelude.{◌≡◌, ◌≢◌, All, IfOk, List, None, map};
 ghost use mathlib.Core.List.{IsPrefix};
 ghost use Rattle.locked_history.specs.Entries.{history_of};
-ghost use Rattle.overlay_core.specs.LegalHistories.{Legally};
-ghost use Rattle.endless_mount.specs.Names.{IsNamed};
-ghost use Rattle.socket_server.specs.Working.{ServesEndless};
+ghost use Rattle.locked_history.specs.declared.entry.Entry.{Entry};
+ghost use Rattle.overlay_core.specs.LegalHistories.{Legally, opening_of};
+ghost use Rattle.endless_mount.specs.Names.{IsNamed, blank_core};
+ghost use Rattle.socket_server.specs.Working.{IsHistoryOn, ServesEndless};
 
 use crate::endless_service::Endless;
 use crate::keeper::Keeper;
@@ -53,8 +54,8 @@ where
     H: Threads + Wait + Eprint + Sync,
     requires { IsNamed N.book N.opening blank }
     ensures legal { IfOk result (λ r. ∥ Legally N.opening (history_of r.1) r.0 ∥₁) }
-    ensures served { IfOk result (λ r. ServesEndless (map (λ h. h.tag) hooks.now)
-        options.now.workers options.now.sessions r.1 r.2) }
+    ensures served { IfOk result (λ r. ServesEndless (map (λ h. h.tag) hooks.now) options.now
+        r.1 r.2) }
     ensures stopped { IfOk result (λ r. options.now.closing ≡ None → r.2 ≢ Served.Stopped) }
 {
     let (mount, unseen) = EndlessMount::<N, F, R>::open(blank);
@@ -83,7 +84,13 @@ where
     R: Rule + Send + Sync,
     H: Threads + Wait + Eprint + Sync,
     K: Keeper,
-    requires { IsNamed N.book N.opening blank }
+    requires named { IsNamed N.book N.opening blank }
+    requires taken { K.takes keeper.old (opening_of (blank_core blank)) }
+    ensures served { IfOk result (λ end. (history : List Entry)
+        × IsHistoryOn (blank_core blank) (history_of history)
+        × K.kept keeper.new (opening_of (blank_core blank)) (history_of history)
+        × ServesEndless (map (λ h. h.tag) hooks.now) options.now history end) }
+    ensures stopped { IfOk result (λ end. options.now.closing ≡ None → end ≢ Served.Stopped) }
 {
     let reports = Reports::new(rt, alloc, options.verbose)?;
     let (core, history, end) = serve_endless::<N, F, R, H>(
@@ -96,7 +103,8 @@ where
 
 /// Serves the clients of a blank mount on a socket, each with copies of these hooks, until all
 /// workers have ended. What they did is one legal history, which is kept nowhere and ends in the
-/// state of the core that the keeper is lent then.
+/// state of the core that the keeper is lent then. How the server ends is told as by
+/// [`serve_endless`].
 pub fn serve_endless_on<F, R, H, K>(
     rt: &H,
     alloc: Global,
@@ -111,6 +119,12 @@ where
     R: Rule + Send + Sync,
     H: Threads + Wait + Eprint + Sync,
     K: Keeper,
+    requires { K.takes keeper.old (opening_of (blank_core blank)) }
+    ensures served { IfOk result (λ end. (history : List Entry)
+        × IsHistoryOn (blank_core blank) (history_of history)
+        × K.kept keeper.new (opening_of (blank_core blank)) (history_of history)
+        × ServesEndless (map (λ h. h.tag) hooks.now) options.now history end) }
+    ensures stopped { IfOk result (λ end. options.now.closing ≡ None → end ≢ Served.Stopped) }
 {
     serve_endless_named::<Brand, F, R, H, K>(rt, alloc, listener, blank, hooks, options, keeper)
 }

@@ -1,24 +1,23 @@
 // What is seen to before each call of a session.
-ghost use Rattle.std.specs.Prelude.{◌≡◌, None, false};
+ghost use Rattle.std.specs.Prelude.{◌≡◌, IsSome, IsTrue, None, false};
 
 use crate::closing::Closing;
 use crate::reports::Reports;
 use crate::service::Places;
 use locked_history::{Gate, Pass};
-use std::io;
+use ov_base::Errno;
 use std::io::Eprint;
 use std::os::unix::net::UnixStream;
 use std::sync::Wait;
 
-/// A mount that is served by a worker of this number, how many places its history has, the reports
-/// that tell when these are used, and what ends the server, if anything does.
+/// A mount that is served, how many places its history has, the reports that tell when these are
+/// used, and what ends the server, if anything does.
 #[derive(Drop)]
 pub(crate) struct Guard<'a, 'r, M: Places, H: Eprint + Wait> {
     pub(crate) mount: &'a M,
     pub(crate) places: usize,
     pub(crate) reports: &'a Reports<'r, H>,
     pub(crate) closing: Option<&'a Closing>,
-    pub(crate) worker: usize,
 }
 
 impl<M: Places, H: Eprint + Wait> Guard<'_, '_, M, H> {
@@ -29,7 +28,8 @@ impl<M: Places, H: Eprint + Wait> Guard<'_, '_, M, H> {
 
     /// Whether the server is closed.
     pub(crate) fn is_closed(&self) -> bool
-        ensures { self.now.closing ≡ None → result ≡ false }
+        ensures never { self.now.closing ≡ None → result ≡ false }
+        ensures some { IsTrue result → IsSome self.now.closing }
     {
         match self.closing {
             Some(closing) => closing.is_closed(),
@@ -37,24 +37,26 @@ impl<M: Places, H: Eprint + Wait> Guard<'_, '_, M, H> {
         }
     }
 
-    /// The worker has a connection, which ends where the server is closed.
-    pub(crate) fn enters(&self, rt: &H, connection: &UnixStream) -> io::Result<()> {
+    /// The worker has a connection, which ends where the server is closed. It is kept under this key.
+    pub(crate) fn enters(&self, rt: &H, connection: &UnixStream) -> Result<Option<usize>, Errno> {
         match self.closing {
-            Some(closing) => closing.enters(rt, self.worker, connection),
-            None => Ok(()),
+            Some(closing) => Ok(Some(closing.enters(rt, connection)?)),
+            None => Ok(None),
         }
     }
 
-    /// The worker has no connection any more.
-    pub(crate) fn leaves(&self, rt: &H) {
-        if let Some(closing) = self.closing {
-            closing.leaves(rt, self.worker);
+    /// The worker hasn't the connection of this key any more.
+    pub(crate) fn leaves(&self, rt: &H, key: Option<usize>) {
+        if let (Some(closing), Some(key)) = (self.closing, key) {
+            closing.leaves(rt, key);
         }
     }
 }
 
 impl<M: Places, H: Eprint + Wait> Gate for Guard<'_, '_, M, H> {
-    ghost may_stop = { λ gate client step. gate.closing ≡ None → ⊥ };
+    ghost use Rattle.std.specs.Prelude.{IsSome};
+
+    ghost may_stop = { λ gate client step. IsSome gate.closing };
 
     fn pass(&self, _client: u64, step: u64) -> Pass {
         if step == 1 {

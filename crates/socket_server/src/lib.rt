@@ -16,6 +16,7 @@ mod served;
 mod service;
 mod serving;
 mod shared_service;
+mod tally;
 mod threads;
 mod worker;
 mod workers;

@@ -1,5 +1,5 @@
 // What workers serve: a mount to which a client of each connection is attached.
-ghost use Rattle.std.specs.Prelude.{IfOk, OnOk, map};
+ghost use Rattle.std.specs.Prelude.{◌≡◌, Bool, IfOk, OnOk, map, true};
 
 use crate::connection::Connection;
 use locked_history::Gate;
@@ -33,7 +33,7 @@ pub(crate) trait Service {
     /// What a worker keeps of the clients that it served.
     type Kept: Drop + Send;
 
-    ghost use Rattle.std.specs.Prelude.{ℕ, ◌+◌, List};
+    ghost use Rattle.std.specs.Prelude.{ℕ, ◌+◌, Bool, List, false, true};
 
     /// The tag of a hook.
     ghost tag: { Self.Hook → ℕ };
@@ -41,30 +41,37 @@ pub(crate) trait Service {
     /// A client was just attached with hooks of these tags.
     ghost comes: { List ℕ → Self.Client → Type 0 };
 
-    /// What is kept is of so many clients, which were attached with hooks of these tags.
-    ghost keeps: { List ℕ → ℕ → Self.Kept → Type 0 };
+    /// What is kept is of so many clients, which were attached with hooks of these tags. It tells
+    /// whether something may close the server, and whether each of them was detached.
+    ghost keeps: { List ℕ → Bool → Bool → ℕ → Self.Kept → Type 0 };
 
     /// There is memory to keep what is left of one client more.
     ghost has_room: { Self.Kept → Type 0 };
 
+    /// A client is none of those of whom this is kept.
+    ghost is_new: { Self.Kept → Self.Client → Type 0 };
+
     /// What is kept where no client was served.
     fn kept_of_none(&self, alloc: Global) -> Self::Kept
-        ensures { (tags : List ℕ) → keeps tags 0 result };
+        ensures { (tags : List ℕ) (closes : Bool) → keeps tags closes true 0 result };
 
     /// Gets memory to keep what is left of one client more.
     fn reserve(&self, kept: &mut Self::Kept) -> Result<(), AllocError>
         ensures room { OnOk result (has_room kept.new) }
-        ensures same { (tags : List ℕ) (count : ℕ) →
-            keeps tags count kept.old → keeps tags count kept.new };
+        ensures same { (tags : List ℕ) (closes gone : Bool) (count : ℕ) →
+            keeps tags closes gone count kept.old → keeps tags closes gone count kept.new };
 
-    /// Attaches a client with copies of these hooks, or says why there is none.
+    /// Attaches a client with copies of these hooks, none of those of whom this is kept, or says why
+    /// there is none.
     fn attach<H: Wait>(
         &self,
         rt: &H,
         alloc: Global,
         hooks: &[Self::Hook],
+        kept: &Self::Kept,
     ) -> Result<Self::Client, Errno>
-        ensures { IfOk result (comes (map tag hooks.now)) };
+        ensures comes { IfOk result (comes (map tag hooks.now)) }
+        ensures is_new { IfOk result (is_new kept.now) };
 
     /// The number of a client.
     fn number_of(&self, client: &Self::Client) -> u64;
@@ -79,7 +86,14 @@ pub(crate) trait Service {
         connection: &Connection,
         kept: &mut Self::Kept,
     ) -> Ended
-        requires { has_room kept.old }
-        ensures { (tags : List ℕ) (count : ℕ) →
-            comes tags client → keeps tags count kept.old → keeps tags (count + 1) kept.new };
+        requires room { has_room kept.old }
+        requires is_new { is_new kept.old client }
+        ensures { (tags : List ℕ) (closes : Bool) (count : ℕ) →
+            ((number step : ℕ) → G.may_stop gate.now number step → closes ≡ true) →
+            comes tags client → keeps tags closes true count kept.old →
+            keeps tags closes result.detached (count + 1) kept.new };
+
+    /// What is kept of clients that were detached is kept of clients.
+    ghost of_any: { (tags : List ℕ) (closes : Bool) (count : ℕ) (kept : Self.Kept) →
+        keeps tags closes true count kept → keeps tags closes false count kept };
 }

@@ -3,10 +3,11 @@ ghost use Rattle.std.specs.Prelude.{◌≡◌, ◌≢◌, ◌++◌, ◌≤◌, A
 ghost use Rattle.std.specs.List.{flat_map};
 ghost use Rattle.locked_history.specs.Claims.{Claim, StandsIn, is_past_end, uncounted};
 ghost use Rattle.locked_history.specs.Entries.{history_of};
-ghost use Rattle.overlay_core.specs.LegalHistories.{Legally};
-ghost use Rattle.locked_history.specs.Names.{IsNamed};
+ghost use Rattle.locked_history.specs.declared.entry.Entry.{Entry};
+ghost use Rattle.overlay_core.specs.LegalHistories.{Legally, opening_of};
+ghost use Rattle.locked_history.specs.Names.{IsNamed, blank_core};
 ghost use Rattle.locked_history.specs.Views.{core_past, entries_past};
-ghost use Rattle.socket_server.specs.Working.{Serves, receipts_in};
+ghost use Rattle.socket_server.specs.Working.{IsHistoryOn, Serves, receipts_in};
 
 use crate::closing::Closing;
 use crate::keeper::Keeper;
@@ -69,8 +70,7 @@ fn gathered<N: MountName>(
     for worked in workers {
         let Worked {
             kept,
-            served: _,
-            refused: _,
+            tally: _,
             failed: _,
             stopped: _,
         } = worked;
@@ -97,8 +97,8 @@ where
     F: Callback + Copy + Send + Sync,
     R: Rule + Send + Sync,
     H: Threads + Wait + Eprint + Sync,
-    ensures served { IfOk result (λ r. Serves (map (λ h. h.tag) hooks.now)
-        options.now.workers options.now.sessions r.0.items r.1) }
+    ensures served { IfOk result (λ r. Serves (map (λ h. h.tag) hooks.now) options.now
+        r.0.items r.1) }
     ensures stopped { IfOk result (λ r. options.now.closing ≡ None → r.1 ≢ Served.Stopped) }
 {
     let (workers, end) = serve_all(rt, alloc, listener, mount, hooks, reports, options)?;
@@ -130,8 +130,7 @@ where
     ensures past { IfOk result (λ r. All (λ receipt. length (entries_past r.0) ≤ receipt.place)
         r.1.items) }
     ensures served { IfOk result (λ r. (receipts : List Claim)
-        × Serves (map (λ h. h.tag) hooks.now)
-        options.now.workers options.now.sessions receipts r.2
+        × Serves (map (λ h. h.tag) hooks.now) options.now receipts r.2
         × All (StandsIn (entries_past r.0)) receipts
         × (r.1.items ≡ filter (is_past_end (entries_past r.0)) (map uncounted receipts))) }
     ensures stopped { IfOk result (λ r. options.now.closing ≡ None → r.2 ≢ Served.Stopped) }
@@ -159,7 +158,14 @@ where
     R: Rule + Send + Sync,
     H: Threads + Wait + Eprint + Sync,
     K: Keeper,
-    requires { IsNamed N.cells N.name N.parts N.opening blank }
+    requires named { IsNamed N.cells N.name N.parts N.opening blank }
+    requires taken { K.takes keeper.old (opening_of (blank_core blank)) }
+    ensures served { IfOk result (λ end. (entries : List Entry) × (receipts : List Claim)
+        × IsHistoryOn (blank_core blank) (history_of entries)
+        × K.kept keeper.new (opening_of (blank_core blank)) (history_of entries)
+        × Serves (map (λ h. h.tag) hooks.now) options.now receipts end
+        × All (StandsIn entries) receipts) }
+    ensures stopped { IfOk result (λ end. options.now.closing ≡ None → end ≢ Served.Stopped) }
 {
     let reports = Reports::new(rt, alloc, options.verbose)?;
     let (past, _, end) = serve_blank::<N, F, R, H>(
@@ -172,7 +178,8 @@ where
 
 /// Serves the clients of a blank mount on a socket, each with copies of these hooks, until all
 /// workers have ended. What they did is one legal history, which ends in the state of the core that
-/// the keeper is lent then.
+/// the keeper is lent then, and their receipts stand there. How the server ends is told as by
+/// [`serve_mount`].
 pub fn serve_on<F, R, H, K>(
     rt: &H,
     alloc: Global,
@@ -187,6 +194,13 @@ where
     R: Rule + Send + Sync,
     H: Threads + Wait + Eprint + Sync,
     K: Keeper,
+    requires { K.takes keeper.old (opening_of (blank_core blank)) }
+    ensures served { IfOk result (λ end. (entries : List Entry) × (receipts : List Claim)
+        × IsHistoryOn (blank_core blank) (history_of entries)
+        × K.kept keeper.new (opening_of (blank_core blank)) (history_of entries)
+        × Serves (map (λ h. h.tag) hooks.now) options.now receipts end
+        × All (StandsIn entries) receipts) }
+    ensures stopped { IfOk result (λ end. options.now.closing ≡ None → end ≢ Served.Stopped) }
 {
     serve_named::<Brand, F, R, H, K>(rt, alloc, listener, blank, hooks, options, keeper)
 }

@@ -1,5 +1,5 @@
 // The service of a mount whose history is kept: of each client its receipts are kept.
-ghost use Rattle.std.specs.Prelude.{◌<◌, ℕ, List};
+ghost use Rattle.std.specs.Prelude.{◌≡◌, ◌<◌, ℕ, Bool, List, is_some, true};
 ghost use Rattle.std.specs.Vec.{vec_capacity, vec_len};
 ghost use Rattle.socket_server.specs.Clients.{IsClient, IsNew};
 
@@ -32,9 +32,10 @@ fn converse<N: MountName, F: Callback + Copy, R: Rule, G: Gate, H: Wait>(
     client: Newcomer<N>,
     connection: &Connection,
 ) -> Departure<N, F, R>
-    ensures { (tags : List ℕ) →
+    ensures { (tags : List ℕ) (closes : Bool) →
+        ((number step : ℕ) → G.may_stop gate.now number step → closes ≡ true) →
         IsNew tags client.session.client client.session.number client.receipts.items →
-        IsClient tags result.receipts.items }
+        IsClient tags closes (is_some result.hooks) result.receipts.items }
 {
     let mut input = CountedReader::new(connection);
     let mut output = SessionOutput::new(alloc, CountedWriter::new(connection));
@@ -71,7 +72,7 @@ where
 
     ghost use Rattle.std.specs.Prelude.{◌<◌};
     ghost use Rattle.std.specs.Vec.{vec_capacity, vec_len};
-    ghost use Rattle.socket_server.specs.Clients.{AreClients, IsNew};
+    ghost use Rattle.socket_server.specs.Clients.{AreClients, IsNew, of_any_clients};
 
     ghost tag = { λ h. h.tag };
 
@@ -81,6 +82,11 @@ where
     ghost keeps = { AreClients };
 
     ghost has_room = { λ kept. vec_len kept < vec_capacity kept };
+
+    // Each receipt is counted, so none of them can be one of another client.
+    ghost is_new = { λ kept c. Unit {0} };
+
+    ghost of_any = { of_any_clients };
 
     fn kept_of_none(&self, alloc: Global) -> Vec<Vec<Receipt<N>>> {
         Vec::new(alloc)
@@ -95,6 +101,7 @@ where
         rt: &H,
         alloc: Global,
         hooks: &[Hook<F, R>],
+        _kept: &Vec<Vec<Receipt<N>>>,
     ) -> Result<Newcomer<N>, Errno> {
         let Ok(mut receipts) = Vec::with_capacity(alloc, 2) else {
             return Err(Errno::ENOMEM);

@@ -1,7 +1,7 @@
 // All workers of a server.
 ghost use Rattle.std.specs.Prelude.{◌≡◌, ◌≢◌, IfOk, None, map};
 ghost use Rattle.std.specs.List.{list_any};
-ghost use Rattle.socket_server.specs.Working.{AreWorkers, HaveWorked};
+ghost use Rattle.socket_server.specs.Working.{AreWorkers, HaveWorked, closes};
 ghost use Rattle.socket_server.specs.Working as working;
 
 use crate::reports::Reports;
@@ -58,13 +58,13 @@ where
     M: Service + Places + Sync,
     H: Threads + Wait + Eprint + Sync,
     ensures { IfOk result (λ left.
-        HaveWorked (M.keeps (map M.tag hooks.now)) options.now left.items) }
+        HaveWorked (M.keeps (map M.tag hooks.now) (closes options.now)) options.now left.items) }
 {
     let left = thread::map_indices(
         rt,
         alloc,
         options.workers,
-        &|worker| work(worker, rt, alloc, listener, mount, hooks, reports, options),
+        &|_worker| work(rt, alloc, listener, mount, hooks, reports, options),
     );
     reports.close();
     left
@@ -87,7 +87,7 @@ where
     M: Service + Places + Sync,
     H: Threads + Wait + Eprint + Sync,
     ensures { thread ≡ 1 → IfOk result (λ left.
-        HaveWorked (M.keeps (map M.tag hooks.now)) options.now left.items) }
+        HaveWorked (M.keeps (map M.tag hooks.now) (closes options.now)) options.now left.items) }
 {
     if thread == 1 {
         work_all(rt, alloc, listener, mount, hooks, reports, options)
@@ -111,7 +111,7 @@ where
     M: Service + Places + Sync,
     H: Threads + Wait + Eprint + Sync,
     ensures { IfOk result (λ left.
-        HaveWorked (M.keeps (map M.tag hooks.now)) options.now left.items) }
+        HaveWorked (M.keeps (map M.tag hooks.now) (closes options.now)) options.now left.items) }
 {
     let mut left = thread::map_indices(
         rt,
@@ -152,8 +152,8 @@ pub(crate) fn serve_all<M, H>(
 where
     M: Service + Places + Sync,
     H: Threads + Wait + Eprint + Sync,
-    ensures served { IfOk result (λ r. AreWorkers (M.keeps (map M.tag hooks.now))
-        options.now.workers options.now.sessions r.0.items r.1) }
+    ensures served { IfOk result (λ r. AreWorkers
+        (M.keeps (map M.tag hooks.now) (closes options.now)) options.now r.0.items r.1) }
     ensures stopped { IfOk result (λ r. options.now.closing ≡ None → r.1 ≢ Served.Stopped) }
 {
     reports.listens(options.socket, options.workers);

@@ -30,6 +30,7 @@ pieces-init g c =
       room = c.requires.room;
       input = refl;
       reads = omega arith;
+      most = refl;
       well = refl;
       held = c.requires.held;
       admitted = c.requires.admitted;
@@ -72,24 +73,27 @@ returns-in-Err g c =
     let o = place contents failures told c.args.output.now c.args.session.now c.args.door.now in
     let n = place contents failures told loop.output loop.session loop.door in
     let before = g.S.Source.failures c.args.input.now in
+    let most = g.S.Source.most c.args.input.now in
     let ended =
     input_ended before (g.S.Source.failures loop.input) (g.S.Source.failures read)
-    (g.S.Source.reads read) end is.input c.in-Err.ensures.end in
+    (g.S.Source.reads read) (g.S.Source.most loop.input) most end is.input is.most
+    c.in-Err.ensures.end in
     record {
       talk = record {
         conversed =
             read_ended g.D.Door.goes (remaining c.args.input.now) (remaining loop.input)
             (remaining read) o n (Held (drop loop.start (take loop.end loop.bytes))) before
-            (g.S.Source.failures read) (g.S.Source.reads read) end is.so_far refl
+            (g.S.Source.failures read) (g.S.Source.reads read) most end is.so_far refl
             c.in-Err.ensures.kept ended;
         handed_on = ending_empty end n.held is.held;
         output =
-            read_unwritten before (g.S.Source.failures read) (g.S.Source.reads read) o.failures
-            n.failures end ended is.well;
+            read_unwritten before (g.S.Source.failures read) (g.S.Source.reads read) most
+            o.failures n.failures end ended is.well;
         admitted = is.admitted;
       };
-      input = input_at before (g.S.Source.failures read) (g.S.Source.reads read) end ended;
+      input = input_at before (g.S.Source.failures read) (g.S.Source.reads read) most end ended;
       reads = omega (arith, is.reads, c.read_piece.ensures.reads);
+      most = c.read_piece.ensures.most ∙ is.most;
     }
 
 pub returns-then-start-end : goal.returns-then-start-end
@@ -130,6 +134,7 @@ returns-then-start-end g c =
       };
       input = c.in-Ok.ensures.well ∙ is.input;
       reads = omega (arith, is.reads, c.read_piece.ensures.reads);
+      most = c.read_piece.ensures.most ∙ is.most;
     }
 
 pub returns-then-count-eq0 : goal.returns-then-count-eq0
@@ -173,6 +178,7 @@ returns-then-count-eq0 g c =
       };
       input = c.in-Ok.ensures.well ∙ is.input;
       reads = omega (arith, is.reads, c.read_piece.ensures.reads);
+      most = c.read_piece.ensures.most ∙ is.most;
     }
 
 pub shape_of-bytes-in-Err : goal.shape_of-bytes-in-Err
@@ -335,6 +341,7 @@ pieces-preserved g c =
       room = omega (arith, c.settled-span.ensures.room, long, is.room);
       input = c.in-Ok.ensures.well ∙ is.input;
       reads = omega (arith, is.reads, c.read_piece.ensures.reads);
+      most = c.read_piece.ensures.most ∙ is.most;
       well = h.serves.output ∙ is.well;
       held = h.handed_on;
       admitted = h.serves.admitted;
@@ -377,7 +384,9 @@ returns-in-Err-take_piece g c =
       };
       input =
           input_well (g.S.Source.failures c.args.input.now) (g.S.Source.failures read)
-          (g.S.Source.reads read) end (c.in-Ok.ensures.well ∙ is.input)
+          (g.S.Source.reads read) (g.S.Source.most c.args.input.now) end
+          (c.in-Ok.ensures.well ∙ is.input)
           (turn_no_read g.D.Door.goes _ m n end h.serves.turn);
       reads = omega (arith, is.reads, c.read_piece.ensures.reads);
+      most = c.read_piece.ensures.most ∙ is.most;
     }

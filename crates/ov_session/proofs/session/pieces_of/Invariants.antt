@@ -20,10 +20,11 @@ invariant-pieces g l =
       room : length l.bytes ≡ 140008;
       input : g.S.Source.failures l.input ≡ g.S.Source.failures l.fn.input;
       reads : g.S.Source.reads l.fn.input ≤ g.S.Source.reads l.input;
+      most : g.S.Source.most l.input ≡ g.S.Source.most l.fn.input;
       well : failures l.output.sink ≡ failures l.fn.output.sink;
       held : l.output.held.items ≡ [];
       admitted : g.D.Door.admits l.door l.session;
     }
 
 abbrev pub decreases-pieces : goal.decreases-pieces
-decreases-pieces g l = 140737488355327 - g.S.Source.reads l.input
+decreases-pieces g l = g.S.Source.most l.input - g.S.Source.reads l.input

@@ -1,14 +1,30 @@
-use Rattle.std.proofs.Common.{◌++◌}
+use Rattle.std.proofs.Common.{[], ◌∷◌, ◌++◌, is_some}
+use Rattle.ov_session.specs.declared.exchange.Exchange.TheVariants.{Departed}
+use Rattle.mount_door.specs.Advancing.{MayHold}
+use Rattle.mount_door.proofs.Stepping.{goes_with_more}
+use Rattle.endless_door.specs.Advancing.{IsEntered, Standing, standing}
+use Rattle.socket_server.specs.Clients.{MayRefuse, MayStop}
+use Rattle.socket_server.specs.EndlessClients.{beginning}
 use Rattle.socket_server.proofs.endless_service.converse.Goals as goal
 
 pub returns : goal.returns
-returns g c tags new =
-    let s = c.run_session.ensures.session.1 in record {
+returns g c tags closes may new =
+    let s = c.run_session.ensures.session.1 in
+    let r = c.run_session.result in
+    let left = standing r.session r.seen (is_some r.hooks) in
+    let before = s.heard.told ++ s.heard.stopped in
+    let stop = g.G.Gate.may_stop c.args.gate.now in
+    let went = rw new.next at s.went in record {
       client = c.args.client.session.client;
       first = c.args.client.seen;
-      place = new.place;
       attached = new.attached;
-      told = s.heard.told ++ s.heard.stopped;
+      told = before;
       farewell = s.farewell;
-      went = rw new.next at s.went;
+      went = goes_with_more IsEntered (λ (s : Standing). s.number) (λ (s : Standing). s.detached)
+          (λ (s : Standing). MayHold stop s.client) (λ (s : Standing). MayRefuse s.client s.number)
+          (λ (s : Standing). MayHold (MayStop closes) s.client) (λ (s : Standing). MayRefuse s.client s.number)
+          (λ s h. (h.0, h.1, may s.client h.0 h.2)) (λ s h. h)
+          (beginning c.args.client.session.client c.args.client.seen) left
+          (before ++ Departed s.farewell ∷ []) went;
+      detached = c.run_session.ensures.session.2.0;
     }

@@ -1,18 +1,30 @@
-use Rattle.std.proofs.Common.{◌++◌, refl}
-use Rattle.mount_door.specs.Advancing.{standing}
+use Rattle.std.proofs.Common.{[], ◌∷◌, ◌++◌, is_some, refl}
+use Rattle.ov_session.specs.declared.exchange.Exchange.TheVariants.{Departed}
+use Rattle.mount_door.specs.Advancing.{IsClaimed, MayHold, Standing, standing}
+use Rattle.mount_door.proofs.Stepping.{goes_with_more}
+use Rattle.socket_server.specs.Clients.{MayRefuse, MayStop, beginning}
 use Rattle.socket_server.proofs.shared_service.converse.Goals as goal
 
 pub returns : goal.returns
-returns g c tags new =
+returns g c tags closes may new =
     let s = c.run_session.ensures.session.1 in
-    let left = c.run_session.result in record {
+    let r = c.run_session.result in
+    let left = standing r.session r.receipts.items (is_some r.hooks) in
+    let before = s.heard.told ++ s.heard.stopped in
+    let stop = g.G.Gate.may_stop c.args.gate.now in
+    let went = rw (new.next, new.only) at s.went in record {
       client = c.args.client.session.client;
       came = new.came;
       attached = new.attached;
       counted = new.counted;
-      told = s.heard.told ++ s.heard.stopped;
+      told = before;
       farewell = s.farewell;
-      left = standing left.session left.receipts.items;
-      went = rw (new.next, new.only) at s.went;
+      left = left;
+      went = goes_with_more IsClaimed (λ (s : Standing). s.number) (λ (s : Standing). s.detached)
+          (λ (s : Standing). MayHold stop s.client) (λ (s : Standing). MayRefuse s.client s.number)
+          (λ (s : Standing). MayHold (MayStop closes) s.client) (λ (s : Standing). MayRefuse s.client s.number)
+          (λ s h. (h.0, h.1, may s.client h.0 h.2)) (λ s h. h)
+          (beginning c.args.client.session.client new.came) left (before ++ Departed s.farewell ∷ []) went;
+      detached = c.run_session.ensures.session.2.0;
       all = refl;
     }

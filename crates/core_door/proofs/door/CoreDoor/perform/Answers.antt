@@ -15,7 +15,7 @@ returns-in-Done-clause-served g c =
     c.args.call c.in-Done.reply job.result job.ensures.call.0 job.ensures.call.1
     c.finished-place.ensures c.in-Done.ensures.finished c.in-Done.ensures.turn.0
     (some_place (core_room was.core) c.call_refusal.result c.call_refusal.ensures.refusal c.in_default.not-Some)
-    c.complete.ensures.clients c.complete.ensures.kept.options
+    c.complete.ensures.clients c.complete.ensures.kept
 
 pub returns-in-NoMemory-clause-served : goal.returns-in-NoMemory-clause-served
 returns-in-NoMemory-clause-served g c =
@@ -25,7 +25,7 @@ returns-in-NoMemory-clause-served g c =
     c.args.call job.result job.ensures.call.1 (λ h. c.in-NoMemory.ensures.memory h refl)
     c.in-NoMemory.ensures.finished c.in-NoMemory.ensures.turn.0
     (some_place (core_room was.core) c.call_refusal.result c.call_refusal.ensures.refusal c.in_default.not-Some)
-    c.complete.ensures.clients c.complete.ensures.kept.options
+    c.complete.ensures.clients c.complete.ensures.kept
 
 pub returns-in-Some-clause-served : goal.returns-in-Some-clause-served
 returns-in-Some-clause-served g c =

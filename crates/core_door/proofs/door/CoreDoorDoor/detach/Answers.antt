@@ -8,5 +8,5 @@ returns-clause-goes g c =
       refl,
       served_detach was.client c.finished-place.result was.core c.detach.new.self
           c.finished-place.ensures c.detach.ensures.finished c.detach.ensures.detached
-          c.detach.ensures.clients c.detach.ensures.kept.options,
+          c.detach.ensures.clients c.detach.ensures.kept,
     )

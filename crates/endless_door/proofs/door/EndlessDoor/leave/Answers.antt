@@ -1,17 +1,23 @@
-use Rattle.std.proofs.Common.{ap}
+use Rattle.std.proofs.Common.{ap, is_some}
+use Rattle.mount_door.specs.GoingOn.{AnyRefusal}
 use Rattle.mount_door.proofs.Stepping.{stayed}
-use Rattle.endless_door.specs.Advancing.{IsEntered, next_of, standing}
+use Rattle.endless_door.specs.Advancing.{standing, ways}
 use Rattle.endless_door.proofs.Seen.{departed}
 use Rattle.endless_door.proofs.door.EndlessDoor.leave.Goals as goal
 
-pub returns-in-Ok : goal.returns-in-Ok
-returns-in-Ok g c =
+pub returns-in-Ok-clause-goes : goal.returns-in-Ok-clause-goes
+returns-in-Ok-clause-goes g c =
     let was = c.args.self.now in
-    departed was.session was.seen c.detach.new.seen c.in-Ok.place
+    departed (g.G.Gate.may_stop was.gate.now) AnyRefusal
+    was.session was.seen c.detach.new.seen (is_some was.hooks) c.in-Ok.place
     c.in-Ok.ensures.detach c.detach.ensures.seen
 
-pub returns-in-Err : goal.returns-in-Err
-returns-in-Err g c =
+pub returns-in-Err-clause-goes : goal.returns-in-Err-clause-goes
+returns-in-Err-clause-goes g c =
     let was = c.args.self.now in
-    rw (c.errno_of.ensures, c.in-Err.ensures.refused) (stayed IsEntered next_of (standing was.session was.seen)
-    (standing was.session c.detach.new.seen) (ap (standing was.session) c.in-Err.ensures.unseen))
+    let gone = is_some was.hooks in
+    rw (c.errno_of.ensures, c.in-Err.ensures.refused)
+    (stayed (ways (g.G.Gate.may_stop was.gate.now) AnyRefusal)
+    (standing was.session was.seen gone) (standing was.session c.detach.new.seen gone)
+    tt (ap (λ seen. standing was.session seen gone) c.in-Err.ensures.unseen)
+    (ap is_some c.requires))

@@ -1,18 +1,22 @@
-use Rattle.std.proofs.Common.{refl}
-use Rattle.mount_door.specs.Advancing.{IsClaimed, next_of, standing}
+use Rattle.std.proofs.Common.{ap, is_some, refl}
+use Rattle.mount_door.specs.GoingOn.{AnyRefusal}
+use Rattle.mount_door.specs.Advancing.{standing, ways}
 use Rattle.mount_door.proofs.Claimed.{departed}
 use Rattle.mount_door.proofs.Stepping.{stayed}
 use Rattle.mount_door.proofs.door.MountDoor.leave.Goals as goal
 
-pub returns-in-Ok : goal.returns-in-Ok
-returns-in-Ok g c =
+pub returns-in-Ok-clause-goes : goal.returns-in-Ok-clause-goes
+returns-in-Ok-clause-goes g c =
     let was = c.args.self.now in
     rw (c.push_reserved.ensures.items, c.place-place.ensures)
-    (departed was.session was.receipts.items c.in-Ok.receipt
+    (departed (g.G.Gate.may_stop was.gate.now) AnyRefusal
+    was.session was.receipts.items (is_some was.hooks) c.in-Ok.receipt
     c.in-Ok.ensures.detach c.in-Ok.ensures.counted)
 
-pub returns-in-Err : goal.returns-in-Err
-returns-in-Err g c =
+pub returns-in-Err-clause-goes : goal.returns-in-Err-clause-goes
+returns-in-Err-clause-goes g c =
     let was = c.args.self.now in
-    let stands = standing was.session was.receipts.items in
-    rw (c.errno_of.ensures, c.in-Err.ensures.refused) (stayed IsClaimed next_of stands stands refl)
+    let stands = standing was.session was.receipts.items (is_some was.hooks) in
+    rw (c.errno_of.ensures, c.in-Err.ensures.refused)
+    (stayed (ways (g.G.Gate.may_stop was.gate.now) AnyRefusal) stands stands
+    tt refl (ap is_some c.requires.attached))
