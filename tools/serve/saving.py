@@ -271,7 +271,7 @@ def what_cannot_be_saved(program):
         expect((folder / "s").exists(), False, "no socket is made")
         expect(run(program, folder, [*save, "directory"]), (1, b"", "overlayd: cannot save\n"),
                "a directory in its place")
-        (folder / "s").unlink()
+        expect((folder / "s").exists(), False, "no socket is made for it")
         (folder / "out").write_text("old")
         expect(run(program, folder, [*save, "out"]), (0, b"", ""), "over an old one")
         expect((folder / "out").read_bytes(), b"[[layer]]\n", "the new one")

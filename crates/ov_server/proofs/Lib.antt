@@ -1,5 +1,6 @@
 pub mod Added
 pub mod Clients
+pub mod GoingOn
 pub mod Histories
 pub mod JobSteps
 pub mod Manifests

@@ -244,28 +244,28 @@ module _ (layers : Layering) where
 -- ---- how often devices failed
 
 -- an input that fails
-pub input_stream : (failed output reads : ℕ) (fault : DeviceFault) → IsInputFault failed reads fault → IsStreamFault failed reads output (Device fault)
-input_stream failed output reads fault = elim fault as (λ x. IsInputFault failed reads x → IsStreamFault failed reads output (Device x)) [
+pub input_stream : (failed output reads most : ℕ) (fault : DeviceFault) → IsInputFault failed reads most fault → IsStreamFault failed reads most output (Device fault)
+input_stream failed output reads most fault = elim fault as (λ x. IsInputFault failed reads most x → IsStreamFault failed reads most output (Device x)) [
   | Stream ↦ λ h. elim h [ inl e ↦ inl e | inr e ↦ inr (inl e) ]
   | Memory ↦ λ h. tt
 ]
 
 -- an output that fails
-device_stream : (failed output reads : ℕ) (fault : DeviceFault) → IsToldBy output fault → IsStreamFault failed reads output (Device fault)
-device_stream failed output reads fault = elim fault as (λ x. IsToldBy output x → IsStreamFault failed reads output (Device x)) [ Stream ↦ λ h. inr (inr h) | Memory ↦ λ h. tt ]
+device_stream : (failed output reads most : ℕ) (fault : DeviceFault) → IsToldBy output fault → IsStreamFault failed reads most output (Device fault)
+device_stream failed output reads most fault = elim fault as (λ x. IsToldBy output x → IsStreamFault failed reads most output (Device x)) [ Stream ↦ λ h. inr (inr h) | Memory ↦ λ h. tt ]
 
-pub output_stream : {T : Type 0} (failed before after reads : ℕ) (r : Result T PlayFault) → TellsPlay before after r → IfErr r (IsStreamFault failed reads after)
-output_stream failed before after reads (Ok x) h = tt
-output_stream failed before after reads (Err (BadLine n)) h = tt
-output_stream failed before after reads (Err (Device f)) h = device_stream failed after reads f h
+pub output_stream : {T : Type 0} (failed before after reads most : ℕ) (r : Result T PlayFault) → TellsPlay before after r → IfErr r (IsStreamFault failed reads most after)
+output_stream failed before after reads most (Ok x) h = tt
+output_stream failed before after reads most (Err (BadLine n)) h = tt
+output_stream failed before after reads most (Err (Device f)) h = device_stream failed after reads most f h
 
-pub error_stream : (T : Type 0) (failed before after reads : ℕ) (fault : PlayFault) → TellsPlay {T = T} before after (Err fault) → IsStreamFault failed reads after fault
-error_stream T failed before after reads (BadLine n) h = tt
-error_stream T failed before after reads (Device f) h = device_stream failed after reads f h
+pub error_stream : (T : Type 0) (failed before after reads most : ℕ) (fault : PlayFault) → TellsPlay {T = T} before after (Err fault) → IsStreamFault failed reads most after fault
+error_stream T failed before after reads most (BadLine n) h = tt
+error_stream T failed before after reads most (Device f) h = device_stream failed after reads most f h
 
 -- an output that fails as it hands on
-pub mark_stream : (failed before after reads : ℕ) (fault : DeviceFault) → Notes before after fault → IsStreamFault failed reads after (Device fault)
-mark_stream failed before after reads fault = elim fault as (λ x. Notes before after x → IsStreamFault failed reads after (Device x)) [ Stream ↦ λ h. inr (inr h) | Memory ↦ λ h. tt ]
+pub mark_stream : (failed before after reads most : ℕ) (fault : DeviceFault) → Notes before after fault → IsStreamFault failed reads most after (Device fault)
+mark_stream failed before after reads most fault = elim fault as (λ x. Notes before after x → IsStreamFault failed reads most after (Device x)) [ Stream ↦ λ h. inr (inr h) | Memory ↦ λ h. tt ]
 
 -- an output that goes well
 pub output_well : {T : Type 0} (first before after : ℕ) (P : Type 0) (r : Result T PlayFault) → P → before ≡ first → TellsPlay before after r → OnOk r (P × (after ≡ first))

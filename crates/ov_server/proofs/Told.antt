@@ -1,6 +1,6 @@
 -- What an argument that has a value, or may be missing, tells.
 use Rattle.std.proofs.Common.{◌≡◌, ◌∙◌, ℕ, List, Option, Some, None, Bool, true, false, codes, refl, sym, ap, subst}
-use Rattle.std.specs.Prelude.{Result, Ok, Err, IfSome}
+use Rattle.std.specs.Prelude.{Result, Ok, Err}
 use Rattle.std.specs.Result.{result_ok}
 use Rattle.std.specs.Str.Parse.{ParsesUnsigned, ExplainsUnsignedError, HasUnsignedDigitsIfOk}
 use Rattle.std.proofs.lemmas.Option.{none-some}
@@ -51,13 +51,6 @@ pub told : (found : Found) (name : List ℕ) (r : Option ℕ) (n : ℕ) → r �
 told found name r n is none value =
     subst (λ (text : Option (List ℕ)). Spells text (Some n)) (one_text-rows found name)
     (read (one_text found name) r n is none value)
-
--- so is one that it may have
-pub told_where : (found : Found) (name : List ℕ) (r : Option ℕ) → (one_text found name ≡ None → r ≡ None)
-    → ((t : List ℕ) → one_text found name ≡ Some t → ReadsOne Gives t r)
-    → IfSome r (λ n. Spells (one_of name (rows_of found)) (Some n))
-told_where found name None none value = tt
-told_where found name (Some n) none value = told found name (Some n) n refl none value
 
 -- and one that may be missing
 pub told_if : (found : Found) (name : List ℕ) (r : Result (Option ℕ) ParseIntError) (n : Option ℕ)

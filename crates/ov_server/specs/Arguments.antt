@@ -1,5 +1,6 @@
 -- The command line of the program, and what its words ask for.
 use Rattle.std.specs.Prelude.{◌≡◌, ℕ, Bool, List, [], ◌∷◌, Option, Some, None, Ok, true, false}
+use Rattle.std.specs.Borrow.{Bor}
 use Rattle.std.specs.Prelude.{codes, drop, option_map, ◌⊎◌}
 use Rattle.std.specs.declared.num.ParseIntError.{ParseIntError}
 use Rattle.std.specs.Str.Parse.{ParsesUnsigned}
@@ -11,7 +12,9 @@ use Rattle.clap.specs.declared.error.Error.{Error}
 use Rattle.clap.specs.declared.error.kind.ErrorKind.TheVariants as kind
 use Rattle.clap.specs.declared.parser.matches.ArgMatches.{ArgMatches}
 use Rattle.ov_server.specs.declared.arguments.Invocation.{Invocation}
+use Rattle.ov_server.specs.declared.arguments.Playing.{Playing}
 use Rattle.ov_server.specs.declared.arguments.Serving.{Serving}
+use Rattle.ov_server.specs.declared.arguments.Source.{Source}
 use Rattle.ov_server.specs.declared.history_length.HistoryLength.{HistoryLength}
 use Rattle.clap.specs.declared.builder.action.ArgAction.TheVariants as action
 use Rattle.clap.specs.declared.builder.value_parser.ValueParser.TheVariants as vp
@@ -42,9 +45,40 @@ manifest_limit_rule = record (number_rule (codes "manifest-limit") 1 10995116277
   defaults = codes "1073741824" ∷ [];
 }
 
+-- an option of this name with the name of a file
+abbrev pub file_rule : List ℕ → Rule
+file_rule name = record (new_rule name) {
+  long = Some name;
+  value_names = 1;
+}
+
+-- `--upper FILE`
+abbrev pub upper_rule : Rule
+upper_rule = file_rule (codes "upper")
+
+-- `--explain`
+abbrev pub explain_rule : Rule
+explain_rule = flag_rule (codes "explain")
+
+-- a subcommand of this name that reads a manifest
+abbrev pub reading_app : List ℕ → App
+reading_app name = with_rule (with_rule (new_app name) manifest_rule) manifest_limit_rule
+
 -- a subcommand of this name, with these arguments
 abbrev pub app_named : List ℕ → App
-app_named name = with_rule (with_rule (new_app name) manifest_rule) manifest_limit_rule
+app_named name = with_rule (with_rule (reading_app name) upper_rule) explain_rule
+
+-- `--echo`
+abbrev pub echo_rule : Rule
+echo_rule = flag_rule (codes "echo")
+
+-- `--script FILE`
+abbrev pub script_rule : Rule
+script_rule = file_rule (codes "script")
+
+-- the subcommand that plays
+abbrev pub play_app : App
+play_app = with_rule (with_rule (app_named (codes "play")) echo_rule) script_rule
 
 -- the program without its subcommands, one of which is wanted; it has a version
 abbrev pub bare_app : App
@@ -87,10 +121,7 @@ until_eof_rule = flag_rule (codes "until-eof")
 
 -- `--save FILE`
 abbrev pub save_rule : Rule
-save_rule = record (new_rule (codes "save")) {
-  long = Some (codes "save");
-  value_names = 1;
-}
+save_rule = file_rule (codes "save")
 
 -- `--verbose`, or `-v`
 abbrev pub verbose_rule : Rule
@@ -103,31 +134,25 @@ serve_app = with_rule (with_rule (with_rule (with_rule (with_rule (with_rule (wi
     history_rule) no_history_rule) idle_rule) unlink_rule) until_eof_rule) save_rule) verbose_rule
 
 -- THE COMMAND LINE: `overlayd show MANIFEST`, `overlayd play MANIFEST`, `overlayd serve MANIFEST
--- SOCKET` with its options, `overlayd --version` or `overlayd --help`
+-- SOCKET`, each with its options, `overlayd --version` or `overlayd --help`
 abbrev pub overlayd_app : App
 overlayd_app =
     with_subcommand
     (with_subcommand (with_subcommand bare_app (app_named (codes "show")).top)
-    (app_named (codes "play")).top)
+    play_app.top)
     serve_app.top
 
 -- the name of the subcommand
 abbrev pub name_of : Invocation → List ℕ
-name_of (Show manifest limit) = codes "show"
-name_of (Play manifest limit) = codes "play"
+name_of (Show source) = codes "show"
+name_of (Play playing) = codes "play"
 name_of (Serve serving) = codes "serve"
 
--- the name of the manifest's file
-abbrev pub manifest_named : Invocation → List ℕ
-manifest_named (Show manifest limit) = manifest.now
-manifest_named (Play manifest limit) = manifest.now
-manifest_named (Serve serving) = serving.manifest.now
-
--- up to how many bytes it is read
-abbrev pub limit_of : Invocation → ℕ
-limit_of (Show manifest limit) = limit
-limit_of (Play manifest limit) = limit
-limit_of (Serve serving) = serving.manifest_limit
+-- from where its layers come
+abbrev pub source_of : Invocation → Source
+source_of (Show source) = source
+source_of (Play playing) = playing.source
+source_of (Serve serving) = serving.source
 
 -- the text is this number in decimal, below 2^64
 abbrev pub IsNumber : List ℕ → ℕ → Type 0
@@ -139,15 +164,28 @@ Spells None None = Unit {0}
 Spells (Some text) (Some n) = IsNumber text n
 Spells _ _ = ⊥
 
--- a parse says up to how many bytes the manifest is read
-abbrev pub TellsLimit : List Row → ℕ → Type 0
-TellsLimit rows limit = Spells (one_of (codes "manifest-limit") rows) (Some limit)
-
 -- a parse says whether the flag of this name is set
 pub record TellsFlag (rows : List Row) (name : List ℕ) (set : Bool) : Type 0 where
   pub is_set : one_of name rows ≡ Some (codes "true") → set ≡ true
   pub is_clear : one_of name rows ≡ Some (codes "false") → set ≡ false
   pub unsaid : one_of name rows ≡ None → set ≡ false
+
+-- a parse says the file of this name, or none
+abbrev pub TellsFile : List Row → List ℕ → Option (Bor (List ℕ)) → Type 0
+TellsFile rows name told = first_of name rows ≡ option_map (λ file. file.now) told
+
+-- what a parse says of the layers: the manifest, up to how many bytes it is read, the file of another
+-- upper, and whether a fault is explained
+pub record AsksSource (rows : List Row) (asked : Source) : Type 0 where
+  pub manifest_named : first_of (codes "MANIFEST") rows ≡ Some asked.manifest.now
+  pub limit_told : Spells (one_of (codes "manifest-limit") rows) (Some asked.manifest_limit)
+  pub upper_named : TellsFile rows (codes "upper") asked.upper
+  pub explains : TellsFlag rows (codes "explain") asked.explain
+
+-- what a parse of `play` says: whether commands are printed, and the script's file
+pub record AsksPlay (rows : List Row) (asked : Playing) : Type 0 where
+  pub echoes : TellsFlag rows (codes "echo") asked.echo
+  pub script_named : TellsFile rows (codes "script") asked.script
 
 -- how many places a length has
 abbrev pub places_in : HistoryLength → ℕ
@@ -164,34 +202,27 @@ pub record AsksServe (rows : List Row) (asked : Serving) : Type 0 where
   pub idle_told : Spells (one_of (codes "idle") rows) asked.idle
   pub unlinks : TellsFlag rows (codes "unlink") asked.unlink
   pub ends : TellsFlag rows (codes "until-eof") asked.until_eof
-  pub saves : first_of (codes "save") rows ≡ option_map (λ file. file.now) asked.save
+  pub saves : TellsFile rows (codes "save") asked.save
   pub tells : TellsFlag rows (codes "verbose") asked.verbose
 
--- what a parse says beside the manifest
+-- what a parse says beside the layers
 abbrev pub AsksMore : List Row → Invocation → Type 0
+AsksMore rows (Show source) = Unit {0}
+AsksMore rows (Play playing) = AsksPlay rows playing
 AsksMore rows (Serve serving) = AsksServe rows serving
-AsksMore rows _ = Unit {0}
 
--- it asks to serve this manifest, which is read up to so many bytes
-pub record IsServing (rows : List Row) (named : List ℕ) (told : ℕ) (asked : Serving) : Type 0 where
-  pub manifest : asked.manifest.now ≡ named
-  pub limit : asked.manifest_limit ≡ told
-  pub more : AsksServe rows asked
-
--- a parse met the subcommand of this name, whose arguments name this manifest and tell its limit
+-- a parse met the subcommand of this name, whose arguments say what is asked for
 pub record Names (matches : ArgMatches) (asked : Invocation) : Type 0 where
   pub rows : List Row
   pub subcommand : subcommand_rows_of matches ≡ Some (name_of asked, rows)
-  pub manifest : first_of (codes "MANIFEST") rows ≡ Some (manifest_named asked)
-  pub limit : TellsLimit rows (limit_of asked)
+  pub source : AsksSource rows (source_of asked)
   pub more : AsksMore rows asked
 
--- the words name the subcommand, and its arguments name this manifest and tell its limit
+-- the words name the subcommand, and its arguments say what is asked for
 pub record IsAskedBy (words : List (List ℕ)) (asked : Invocation) : Type 0 where
   pub rows : List Row
   pub subcommand : subcommand_of overlayd_app words ≡ Some (name_of asked, rows)
-  pub manifest : first_of (codes "MANIFEST") rows ≡ Some (manifest_named asked)
-  pub limit : TellsLimit rows (limit_of asked)
+  pub source : AsksSource rows (source_of asked)
   pub more : AsksMore rows asked
 
 -- one word follows the program's name, and it is this one

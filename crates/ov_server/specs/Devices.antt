@@ -19,6 +19,6 @@ IsToldBy failures Stream = 0 < failures
 IsToldBy failures Memory = Unit {0}
 
 -- a read fails by its stream only where the input has failed, or no read is left
-abbrev pub IsInputFault : ℕ → ℕ → DeviceFault → Type 0
-IsInputFault failures reads Stream = (0 < failures) ⊎ (reads ≡ 140737488355327)
-IsInputFault failures reads Memory = Unit {0}
+abbrev pub IsInputFault : ℕ → ℕ → ℕ → DeviceFault → Type 0
+IsInputFault failures reads most Stream = (0 < failures) ⊎ (reads ≡ most)
+IsInputFault failures reads most Memory = Unit {0}

@@ -15,6 +15,7 @@ use Rattle.ov_server.specs.declared.fault.DeviceFault.TheVariants as device
 use Rattle.ov_server.specs.declared.fault.Fault.{Fault}
 use Rattle.ov_server.specs.declared.fault.Fault.TheVariants.{CommandLine, NotText, CannotReadManifest, CannotReadBlob, Manifest, Stream, Socket, BadCommand, Memory}
 use Rattle.ov_server.specs.declared.fault.Fault.TheVariants.{SaveWithoutEnd, HistoryOfNone, NoUpper, CannotSave, LeftOut}
+use Rattle.ov_server.specs.declared.fault.Fault.TheVariants.{CannotReadScript, CannotReadUpper, InputTwice, Upper}
 
 -- the exit status of what a command line comes to: 0 where help or the version is asked for
 abbrev pub status_of_kind : LineErrorKind → ℕ
@@ -29,10 +30,14 @@ status_of NotText = 2
 status_of CannotReadManifest = 1
 status_of (CannotReadBlob blob) = 1
 status_of (Manifest fault) = 1
+status_of CannotReadScript = 1
+status_of CannotReadUpper = 1
+status_of (Upper fault) = 1
 status_of Stream = 1
 status_of Socket = 1
 status_of SaveWithoutEnd = 2
 status_of HistoryOfNone = 2
+status_of InputTwice = 2
 status_of NoUpper = 1
 status_of CannotSave = 1
 status_of (LeftOut objects) = 1

@@ -2,12 +2,12 @@ pub mod Answers
 pub mod Arguments
 pub mod Devices
 pub mod Faults
+pub mod GoingOn
 pub mod Histories
 pub mod Deeds
 pub mod Mounts
 pub mod Objects
 pub mod Plays
-pub mod ProgramHooks
 pub mod Rosters
 pub mod Scripts
 pub mod Stages

@@ -115,9 +115,9 @@ TellsPlay before after (Err (play.BadLine number)) = Unit {0}
 TellsPlay before after (Err (play.Device f)) = IsToldBy after f
 
 -- the play tells a stream at fault only where a device has failed, or no read is left
-abbrev pub IsStreamFault : ℕ → ℕ → ℕ → PlayFault → Type 0
-IsStreamFault input_failures reads output_failures (play.Device Stream) = (0 < input_failures) ⊎ ((reads ≡ 140737488355327) ⊎ (0 < output_failures))
-IsStreamFault input_failures reads output_failures _ = Unit {0}
+abbrev pub IsStreamFault : ℕ → ℕ → ℕ → ℕ → PlayFault → Type 0
+IsStreamFault input_failures reads most output_failures (play.Device Stream) = (0 < input_failures) ⊎ ((reads ≡ most) ⊎ (0 < output_failures))
+IsStreamFault input_failures reads most output_failures _ = Unit {0}
 
 -- The lines of a script that have ended were played, and left this mount. `begun` is what there is of the next one, and `rest` follows.
 pub record IsPlayed {F G : Type 0} {asks : Callback F} {rule : Rule G} (layers : Layering) (script rest begun : List ℕ) (count : ℕ) (m : Stage F G asks rule) : Type 0 where

@@ -34,6 +34,6 @@ IsRunFault script layers Memory = Unit {0}
 IsRunFault script layers _ = ⊥
 
 -- a stream is told at fault only where the input or the output has failed, or no read is left
-abbrev pub IsStreamFault : ℕ → ℕ → ℕ → Fault → Type 0
-IsStreamFault input_failures reads output_failures Stream = (0 < input_failures) ⊎ ((reads ≡ 140737488355327) ⊎ (0 < output_failures))
-IsStreamFault input_failures reads output_failures _ = Unit {0}
+abbrev pub IsStreamFault : ℕ → ℕ → ℕ → ℕ → Fault → Type 0
+IsStreamFault input_failures reads most output_failures Stream = (0 < input_failures) ⊎ ((reads ≡ most) ⊎ (0 < output_failures))
+IsStreamFault input_failures reads most output_failures _ = Unit {0}

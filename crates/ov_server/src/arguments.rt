@@ -6,13 +6,15 @@ ghost use Rattle.clap.specs.Simple.{app_of, with_rule, with_subcommand};
 ghost use Rattle.clap.specs.Matches.{found_of};
 ghost use Rattle.clap.specs.Walk.{one_of, rows_of, rule_of};
 ghost use Rattle.clap.specs.declared.builder.command.Command.TheViews.{out-Command};
-ghost use Rattle.ov_server.specs.Arguments.{IsAskedBy, IsLoneWord, IsRefusedBy, IsServing, Names};
-ghost use Rattle.ov_server.specs.Arguments.{Spells, TellsLimit, app_named, bare_app, overlayd_app};
-ghost use Rattle.ov_server.specs.Arguments.{places_in, serve_app};
+ghost use Rattle.ov_server.specs.Arguments.{AsksPlay, AsksServe, AsksSource, IsAskedBy, IsLoneWord};
+ghost use Rattle.ov_server.specs.Arguments.{IsRefusedBy, Names, Spells, app_named, bare_app};
+ghost use Rattle.ov_server.specs.Arguments.{overlayd_app, places_in, play_app, reading_app, serve_app};
+ghost use Rattle.ov_server.specs.Arguments.{echo_rule, explain_rule, file_rule, script_rule, upper_rule};
 ghost use Rattle.ov_server.specs.Arguments.{flag_rule, manifest_limit_rule, manifest_rule, number_rule};
 ghost use Rattle.ov_server.specs.Arguments.{history_rule, idle_rule, no_history_rule, sessions_rule, socket_rule, unlink_rule};
 ghost use Rattle.ov_server.specs.Arguments.{save_rule, until_eof_rule, verbose_rule, workers_rule};
 
+use crate::help_texts::{ENDED, GRAMMAR, LINES, PLAYED};
 use crate::history_length::HistoryLength;
 use clap::builder::ValueParser;
 use clap::error::ErrorKind;
@@ -23,33 +25,43 @@ use std::convert::AsStr;
 /// The version of the program, which `overlayd --version` prints.
 pub const VERSION: &str = "0.4.0";
 
-// What `play` does, with the commands of a script.
-const PLAYED: &str =
-    "Plays lines: attach, C CALL, C start CALL, C step [N], C drop, C detach, work, layer I, merge";
+/// From where the layers of a mount come, and how a fault of them is told.
+#[derive(Clone, Copy, PartialEq, Eq)]
+pub struct Source<'a> {
+    pub manifest: &'a str,
+    /// Up to how many bytes the manifest is read.
+    pub manifest_limit: u64,
+    /// The file of a saved upper, which is in place of the manifest's own; none where it isn't.
+    pub upper: Option<&'a str>,
+    /// Whether a second line tells what a person needs to know of a fault.
+    pub explain: bool,
+}
 
-/// What the command line asks for. A manifest is read up to so many bytes.
+/// What the command line asks for.
 #[derive(Clone, Copy, PartialEq, Eq)]
 pub enum Invocation<'a> {
-    /// The merged tree of a manifest is printed.
-    Show {
-        manifest: &'a str,
-        manifest_limit: u64,
-    },
-    /// A script is played on the mount of a manifest.
-    Play {
-        manifest: &'a str,
-        manifest_limit: u64,
-    },
-    /// The mount of a manifest is served on a socket.
+    /// The merged tree of the layers is printed.
+    Show(Source<'a>),
+    /// A script is played on their mount.
+    Play(Playing<'a>),
+    /// Their mount is served on a socket.
     Serve(Serving<'a>),
+}
+
+/// What is played, and how.
+#[derive(Clone, Copy, PartialEq, Eq)]
+pub struct Playing<'a> {
+    pub source: Source<'a>,
+    /// Whether each command is printed before its answer.
+    pub echo: bool,
+    /// The file of the script; none where it is standard input.
+    pub script: Option<&'a str>,
 }
 
 /// What is served, and how.
 #[derive(Clone, Copy, PartialEq, Eq)]
 pub struct Serving<'a> {
-    pub manifest: &'a str,
-    /// Up to how many bytes the manifest is read.
-    pub manifest_limit: u64,
+    pub source: Source<'a>,
     pub socket: &'a str,
     /// How many connections are served at once.
     pub workers: u64,
@@ -93,19 +105,18 @@ pub fn command_line<'a, S: AsStr>(alloc: Global, words: &'a [S]) -> Result<Invoc
 fn overlayd<'a>(alloc: Global) -> Result<Command<'a>, AllocError>
     ensures { IfOk result (λ command. app_of command ≡ overlayd_app) }
 {
-    let command = playing(alloc)?;
+    let command = showing_and_playing(alloc)?;
     let serve = serve(alloc)?;
     command.subcommand(serve)
 }
 
 // The program with the subcommands that show a tree and play a script.
-fn playing<'a>(alloc: Global) -> Result<Command<'a>, AllocError>
+fn showing_and_playing<'a>(alloc: Global) -> Result<Command<'a>, AllocError>
     ensures { IfOk result (λ command. app_of command
-        ≡ with_subcommand (with_subcommand bare_app (app_named (codes "show")).top)
-        (app_named (codes "play")).top) }
+        ≡ with_subcommand (with_subcommand bare_app (app_named (codes "show")).top) play_app.top) }
 {
     let command = showing(alloc)?;
-    let play = subcommand(alloc, "play", PLAYED)?;
+    let play = play(alloc)?;
     command.subcommand(play)
 }
 
@@ -114,7 +125,7 @@ fn showing<'a>(alloc: Global) -> Result<Command<'a>, AllocError>
     ensures { IfOk result (λ command. app_of command
         ≡ with_subcommand bare_app (app_named (codes "show")).top) }
 {
-    let show = subcommand(alloc, "show", "Prints the merged tree of a manifest")?;
+    let show = subcommand(alloc, "show", "Prints the merged tree of a manifest", LINES)?;
     bare(alloc).subcommand(show)
 }
 
@@ -126,6 +137,31 @@ fn bare<'a>(alloc: Global) -> Command<'a>
         .version(VERSION)
         .about("An overlay mount in memory")
         .subcommand_required(true)
+}
+
+// The subcommand that plays a script.
+fn play<'a>(alloc: Global) -> Result<Command<'a>, AllocError>
+    ensures app { IfOk result (λ command. app_of command ≡ play_app) }
+    ensures local { IfOk result (λ command. (out-Command command).has_globals ≡ false) }
+{
+    subcommand(alloc, "play", PLAYED, GRAMMAR)?
+        .arg(echo(alloc))?
+        .arg(script(alloc))
+}
+
+fn echo<'a>(alloc: Global) -> Arg<'a>
+    ensures rule { rule_of result ≡ echo_rule }
+    ensures local { result.global ≡ false }
+{
+    flag(alloc, "echo", "Print each command before its answer")
+}
+
+fn script<'a>(alloc: Global) -> Arg<'a>
+    ensures rule { rule_of result ≡ script_rule }
+    ensures local { result.global ≡ false }
+{
+    let help = "Read the script from FILE [default: standard input]";
+    file(alloc, "script", help)
 }
 
 // The subcommand that serves a mount on a socket.
@@ -162,7 +198,7 @@ fn bare_serve<'a>(alloc: Global) -> Result<Command<'a>, AllocError>
     ensures local { IfOk result (λ command. (out-Command command).has_globals ≡ false) }
 {
     let about = "Serves the mount of a manifest to clients on a Unix socket";
-    subcommand(alloc, "serve", about)
+    subcommand(alloc, "serve", about, ENDED)
 }
 
 fn socket<'a>(alloc: Global) -> Arg<'a>
@@ -234,9 +270,8 @@ fn save<'a>(alloc: Global) -> Arg<'a>
     ensures rule { rule_of result ≡ save_rule }
     ensures local { result.global ≡ false }
 {
-    Arg::new(alloc, "save").long("save").value_name("FILE").help(
-        "Write the upper layer to FILE when the server ends [default: never]",
-    )
+    let help = "Write the upper layer to FILE when the server ends [default: never]";
+    file(alloc, "save", help)
 }
 
 fn verbose<'a>(alloc: Global) -> Arg<'a>
@@ -276,13 +311,42 @@ fn flag<'a>(alloc: Global, id: &'a str, help: &'a str) -> Arg<'a>
         .action(ArgAction::SetTrue)
 }
 
-// A subcommand that takes the file of a manifest.
-fn subcommand<'a>(alloc: Global, name: &'a str, about: &'a str) -> Result<Command<'a>, AllocError>
+// An option `--ID FILE`.
+fn file<'a>(alloc: Global, id: &'a str, help: &'a str) -> Arg<'a>
+    ensures rule { rule_of result ≡ file_rule id.entry.now }
+    ensures local { result.global ≡ false }
+{
+    Arg::new(alloc, id).long(id).value_name("FILE").help(help)
+}
+
+// A subcommand that takes a manifest, and an upper that goes over its lower layers.
+fn subcommand<'a>(
+    alloc: Global,
+    name: &'a str,
+    about: &'a str,
+    after: &'a str,
+) -> Result<Command<'a>, AllocError>
     ensures app { IfOk result (λ command. app_of command ≡ app_named name.entry.now) }
+    ensures local { IfOk result (λ command. (out-Command command).has_globals ≡ false) }
+{
+    reading(alloc, name, about, after)?
+        .arg(upper(alloc))?
+        .arg(explain(alloc))
+}
+
+// A subcommand that takes the file of a manifest alone.
+fn reading<'a>(
+    alloc: Global,
+    name: &'a str,
+    about: &'a str,
+    after: &'a str,
+) -> Result<Command<'a>, AllocError>
+    ensures app { IfOk result (λ command. app_of command ≡ reading_app name.entry.now) }
     ensures local { IfOk result (λ command. (out-Command command).has_globals ≡ false) }
 {
     Command::new(alloc, name)
         .about(about)
+        .after_help(after)
         .arg(manifest(alloc))?
         .arg(manifest_limit(alloc))
 }
@@ -292,7 +356,7 @@ fn manifest<'a>(alloc: Global) -> Arg<'a>
     ensures local { result.global ≡ false }
 {
     Arg::new(alloc, "MANIFEST")
-        .help("The TOML file of the layers")
+        .help("The TOML file of the layers; - for standard input")
         .required(true)
 }
 
@@ -305,43 +369,74 @@ fn manifest_limit<'a>(alloc: Global) -> Arg<'a>
     number(alloc, "manifest-limit", "BYTES", help, 1, most).default_value("1073741824")
 }
 
+fn upper<'a>(alloc: Global) -> Arg<'a>
+    ensures rule { rule_of result ≡ upper_rule }
+    ensures local { result.global ≡ false }
+{
+    let help = "Go on with the upper layer that --save left in FILE [default: the manifest's]";
+    file(alloc, "upper", help)
+}
+
+fn explain<'a>(alloc: Global) -> Arg<'a>
+    ensures rule { rule_of result ≡ explain_rule }
+    ensures local { result.global ≡ false }
+{
+    let help = "Tell more of a fault on a second line [default: only on a terminal]";
+    flag(alloc, "explain", help)
+}
+
 fn invocation_of<'a>(matches: &ArgMatches<'a>) -> Option<Invocation<'a>>
     ensures { IfSome result (Names matches.now) }
 {
     let (name, inner) = matches.subcommand()?;
-    let manifest = inner.get_str("MANIFEST")?;
-    let manifest_limit = limit_of(inner)?;
+    let source = source_of(inner)?;
     if name == "show" {
-        Some(Invocation::Show {
-            manifest,
-            manifest_limit,
-        })
+        Some(Invocation::Show(source))
     } else if name == "play" {
-        Some(Invocation::Play {
-            manifest,
-            manifest_limit,
-        })
+        let playing = playing_of(source, inner);
+        Some(Invocation::Play(playing))
     } else if name == "serve" {
-        let serving = serving_of(manifest, manifest_limit, inner)?;
+        let serving = serving_of(source, inner)?;
         Some(Invocation::Serve(serving))
     } else {
         None
     }
 }
 
-fn limit_of(matches: &ArgMatches<'_>) -> Option<u64>
-    ensures { IfSome result (TellsLimit (rows_of (found_of matches.now))) }
+// From where the layers come.
+fn source_of<'a>(matches: &ArgMatches<'a>) -> Option<Source<'a>>
+    ensures { IfSome result (AsksSource (rows_of (found_of matches.now))) }
 {
-    matches.get_one("manifest-limit")
+    let manifest = matches.get_str("MANIFEST")?;
+    let manifest_limit = matches.get_one("manifest-limit")?;
+    let upper = matches.get_str("upper");
+    let explain = matches.get_flag("explain");
+    Some(Source {
+        manifest,
+        manifest_limit,
+        upper,
+        explain,
+    })
 }
 
-// What `serve` asks for, on this manifest.
-fn serving_of<'a>(
-    manifest: &'a str,
-    manifest_limit: u64,
-    matches: &ArgMatches<'a>,
-) -> Option<Serving<'a>>
-    ensures { IfSome result (IsServing (rows_of (found_of matches.now)) manifest.entry.now manifest_limit) }
+// What `play` asks for, on these layers.
+fn playing_of<'a>(source: Source<'a>, matches: &ArgMatches<'a>) -> Playing<'a>
+    ensures asks { AsksPlay (rows_of (found_of matches.now)) result }
+    ensures source { result.source ≡ source.entry }
+{
+    let echo = matches.get_flag("echo");
+    let script = matches.get_str("script");
+    Playing {
+        source,
+        echo,
+        script,
+    }
+}
+
+// What `serve` asks for, on these layers.
+fn serving_of<'a>(source: Source<'a>, matches: &ArgMatches<'a>) -> Option<Serving<'a>>
+    ensures asks { IfSome result (AsksServe (rows_of (found_of matches.now))) }
+    ensures source { IfSome result (λ serving. serving.source ≡ source.entry) }
 {
     let socket = matches.get_str("SOCKET")?;
     let workers = matches.get_one("workers")?;
@@ -354,8 +449,7 @@ fn serving_of<'a>(
     let save = matches.get_str("save");
     let verbose = matches.get_flag("verbose");
     Some(Serving {
-        manifest,
-        manifest_limit,
+        source,
         socket,
         workers,
         sessions,

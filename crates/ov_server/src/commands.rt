@@ -35,7 +35,8 @@ pub enum LineFault {
     Device(DeviceFault),
 }
 
-/// Plays a line on a mount, where each client comes with copies of these hooks, and puts its answer out.
+/// Plays a line on a mount, where each client comes with copies of these hooks, and puts its answer out,
+/// and before it the line where that is asked for.
 pub fn play_line<K: Sink, F: Callback + Copy, H: Rule>(
     alloc: Global,
     stage: &mut Stage<F, H>,
@@ -53,6 +54,7 @@ pub fn play_line<K: Sink, F: Callback + Copy, H: Rule>(
     if is_skipped(line) {
         Ok(())
     } else {
+        output.echo(line)?;
         play_command(alloc, stage, hooks, &command_of(line)?, output)
     }
 }

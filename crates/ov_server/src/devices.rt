@@ -1,12 +1,13 @@
 // The input of a script and the output of answers.
-ghost use Rattle.std.specs.Prelude.{◌≡◌, ◌+◌, ◌<◌, [], length, IfErr, IfOk, OnOk, string_bytes};
+ghost use Rattle.std.specs.Prelude.{◌≡◌, ◌+◌, ◌<◌, false, [], length, IfErr, IfOk, OnOk, string_bytes};
 ghost use Rattle.std.specs.Io.KnownBytes.{Appends};
 ghost use Rattle.ov_devices.specs.Devices.{Gives};
 ghost use Rattle.ov_server.specs.Devices.{IsInputFault, Marks};
 
 use crate::fault::DeviceFault;
 use ov_devices::{Fault, Sink, Source, write_all};
-use std::alloc::Global;
+use std::alloc::{AllocError, Global};
+use std::{fmt, mem};
 
 /// How many bytes of text are held at most before they are handed on.
 const HELD_MOST: usize = 65_536;
@@ -19,8 +20,9 @@ pub(crate) fn read_some<S: Source>(
     requires { 0 < length piece.old }
     ensures ok { IfOk result (λ read. Gives (S.remaining input.old) (S.remaining input.new) read piece.new) }
     ensures reads { OnOk result (S.reads input.new ≡ S.reads input.old + 1) }
+    ensures most { S.most input.new ≡ S.most input.old }
     ensures well { OnOk result (S.failures input.new ≡ S.failures input.old) }
-    ensures err { IfErr result (IsInputFault (S.failures input.new) (S.reads input.new)) }
+    ensures err { IfErr result (IsInputFault (S.failures input.new) (S.reads input.new) (S.most input.new)) }
 {
     if input.reads_left() == 0 {
         return Err(DeviceFault::Stream);
@@ -37,6 +39,8 @@ pub(crate) fn read_some<S: Source>(
 pub struct Output<K> {
     sink: K,
     pub(crate) text: String,
+    echoes: bool,
+    pub(crate) refused: Vec<u8>,
 }
 
 impl<K> Output<K> {
@@ -44,11 +48,84 @@ impl<K> Output<K> {
     pub fn new(alloc: Global, sink: K) -> Output<K>
         ensures sink { result.sink ≡ sink }
         ensures text { string_bytes result.text ≡ [] }
+        ensures echoes { result.echoes ≡ false }
+        ensures refused { result.refused.items ≡ [] }
     {
         Output {
             sink,
             text: String::new(alloc),
+            echoes: false,
+            refused: Vec::new(alloc),
         }
+    }
+
+    /// The same, which has each command before what it answers where that is asked for.
+    pub fn echoing(self, echoes: bool) -> Output<K>
+        ensures echoes { result.echoes ≡ echoes }
+        ensures sink { result.sink ≡ self.sink }
+        ensures text { result.text ≡ self.text }
+        ensures refused { result.refused ≡ self.refused }
+    {
+        let Output {
+            sink,
+            text,
+            echoes: _,
+            refused,
+        } = self;
+        Output {
+            sink,
+            text,
+            echoes,
+            refused,
+        }
+    }
+
+    /// The line at which a play ended, as it was no command; empty where there was none.
+    pub fn refused(&self) -> &[u8]
+        ensures { result.now ≡ self.now.refused.items }
+    {
+        self.refused.as_slice()
+    }
+
+    /// Adds a command, if that is asked for.
+    pub(crate) fn echo(&mut self, command: &[u8]) -> Result<(), AllocError>
+        ensures silent { self.old.echoes ≡ false → self.new ≡ self.old }
+        ensures sink { self.new.sink ≡ self.old.sink }
+        ensures refused { self.new.refused ≡ self.old.refused }
+    {
+        if !self.echoes {
+            return Ok(());
+        }
+        let command = Shown(command);
+        writeln!(self.text, "> {command}")
+    }
+
+    /// Keeps a line that is no command, in whose place it leaves what was kept before.
+    pub(crate) fn keep(&mut self, line: &mut Vec<u8>)
+        ensures kept { self.new.refused ≡ line.old }
+        ensures sink { self.new.sink ≡ self.old.sink }
+        ensures text { self.new.text ≡ self.old.text }
+    {
+        mem::swap(&mut self.refused, line);
+    }
+}
+
+// A line as it was written, but for bytes that a terminal might not print.
+#[derive(Clone, Copy)]
+struct Shown<'a>(&'a [u8]);
+
+impl fmt::Display for Shown<'_> {
+    fn fmt<W: fmt::Write>(&self, f: &mut fmt::Formatter<W>) -> fmt::Result {
+        for byte in self.0 {
+            let byte = *byte;
+            if byte >= b' ' && byte < 0x7f {
+                let plain = byte as char;
+                write!(f, "{plain}")?;
+            } else {
+                write!(f, "\\x{byte:02x}")?;
+            }
+        }
+        Ok(())
     }
 }
 

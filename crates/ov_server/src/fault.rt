@@ -26,6 +26,18 @@ pub enum Fault {
     /// The manifest is at fault.
     #[error("{0}")]
     Manifest(ManifestFault),
+    /// The file of the saved upper cannot be read.
+    #[error("cannot read manifest")]
+    CannotReadUpper,
+    /// The manifest of the saved upper is at fault, or is none of one layer and nothing else.
+    #[error("{0}")]
+    Upper(ManifestFault),
+    /// The file of the script cannot be read.
+    #[error("cannot read script")]
+    CannotReadScript,
+    /// Standard input is to be the manifest, and something else too.
+    #[error("standard input can't be the manifest here")]
+    InputTwice,
     /// Standard input, standard output or the system's source of randomness failed.
     #[error("stream")]
     Stream,
@@ -65,10 +77,11 @@ impl Fault {
             Fault::CommandLine(error) if !error.use_stderr() => 0,
             Fault::CommandLine(_) => 2,
             Fault::CannotReadManifest | Fault::CannotReadBlob { .. } | Fault::Manifest(_) => 1,
+            Fault::CannotReadUpper | Fault::Upper(_) | Fault::CannotReadScript => 1,
             Fault::Stream | Fault::Socket => 1,
             Fault::NoUpper | Fault::CannotSave | Fault::LeftOut { .. } => 1,
             Fault::NotText | Fault::BadCommand { .. } => 2,
-            Fault::SaveWithoutEnd | Fault::HistoryOfNone => 2,
+            Fault::SaveWithoutEnd | Fault::HistoryOfNone | Fault::InputTwice => 2,
             Fault::Memory => 3,
         }
     }

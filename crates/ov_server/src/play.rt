@@ -42,7 +42,8 @@ pub fn play_run<S: Source, K: Sink, F: Callback + Copy, H: Rule>(
 ) -> Result<(), Fault>
     ensures ok { OnOk result (IfSome (S.remaining input.old) (IsGoodScript (layering_of (table_view manifest)))) }
     ensures err { IfErr result (IsRunFault (S.remaining input.old) (layering_of (table_view manifest))) }
-    ensures stream { IfErr result (IsStreamFault (S.failures input.new) (S.reads input.new) (K.failures output.new.sink)) }
+    ensures stream { IfErr result (IsStreamFault (S.failures input.new) (S.reads input.new) (S.most input.new) (K.failures output.new.sink)) }
+    ensures most { S.most input.new ≡ S.most input.old }
     ensures well { OnOk result ((S.failures input.new ≡ S.failures input.old) × (K.failures output.new.sink ≡ K.failures output.old.sink)) }
     ensures manifest { AnswersManifest blobs.items (table_view manifest) result }
 {
@@ -72,7 +73,8 @@ pub fn play_run_keeping<S: Source, K: Sink, F: Callback + Copy, H: Rule>(
     requires { look_ups ≤ 65536 }
     ensures ok { OnOk result (IfSome (S.remaining input.old) (IsGoodScript (layering_of (table_view manifest)))) }
     ensures err { IfErr result (IsRunFault (S.remaining input.old) (layering_of (table_view manifest))) }
-    ensures stream { IfErr result (IsStreamFault (S.failures input.new) (S.reads input.new) (K.failures output.new.sink)) }
+    ensures stream { IfErr result (IsStreamFault (S.failures input.new) (S.reads input.new) (S.most input.new) (K.failures output.new.sink)) }
+    ensures most { S.most input.new ≡ S.most input.old }
     ensures well { OnOk result ((S.failures input.new ≡ S.failures input.old) × (K.failures output.new.sink ≡ K.failures output.old.sink)) }
     ensures manifest { AnswersManifest blobs.items (table_view manifest) result }
 {
@@ -96,7 +98,8 @@ fn play_on<S: Source, K: Sink, F: Callback + Copy, H: Rule>(
     requires places { HasPlaces core }
     ensures ok { OnOk result (IfSome (S.remaining input.old) (IsGoodScript (layers_in core))) }
     ensures err { IfErr result (λ fault. IfSome (S.remaining input.old) (λ script. IsPlayFault (layers_in core) script fault)) }
-    ensures stream { IfErr result (plays.IsStreamFault (S.failures input.new) (S.reads input.new) (K.failures output.new.sink)) }
+    ensures stream { IfErr result (plays.IsStreamFault (S.failures input.new) (S.reads input.new) (S.most input.new) (K.failures output.new.sink)) }
+    ensures most { S.most input.new ≡ S.most input.old }
     ensures well { OnOk result ((S.failures input.new ≡ S.failures input.old) × (K.failures output.new.sink ≡ K.failures output.old.sink)) }
 {
     let mut script = Script {
@@ -205,7 +208,8 @@ impl<F: Callback + Copy, H: Rule> Script<'_, F, H> {
         requires begins { IsRosterOf self.old.stage nobody }
         ensures ok { OnOk result (IfSome (S.remaining input.old) (IsGoodScript (layers_in self.old.stage.core))) }
         ensures err { IfErr result (λ fault. IfSome (S.remaining input.old) (λ script. IsPlayFault (layers_in self.old.stage.core) script fault)) }
-        ensures stream { IfErr result (plays.IsStreamFault (S.failures input.new) (S.reads input.new) (K.failures output.new.sink)) }
+        ensures stream { IfErr result (plays.IsStreamFault (S.failures input.new) (S.reads input.new) (S.most input.new) (K.failures output.new.sink)) }
+        ensures most { S.most input.new ≡ S.most input.old }
         ensures well { OnOk result ((S.failures input.new ≡ S.failures input.old) × (K.failures output.new.sink ≡ K.failures output.old.sink)) }
     {
         let mut buffer = vec![in self.alloc; 0u8; PIECE]?;
@@ -272,6 +276,7 @@ impl<F: Callback + Copy, H: Rule> Script<'_, F, H> {
             self.pending.as_slice(),
             output,
         );
+        keep_bad(&outcome, &mut self.pending, output);
         self.pending.clear();
         match outcome {
             Ok(()) => Ok(()),
@@ -290,6 +295,15 @@ impl<F: Callback + Copy, H: Rule> Script<'_, F, H> {
             alloc: _,
         } = self;
         drop(stage.end());
+    }
+}
+
+// Keeps the line at which a play ends, as it is no command.
+fn keep_bad<K: Sink>(outcome: &Result<(), LineFault>, line: &mut Vec<u8>, output: &mut Output<K>)
+    ensures sink { output.new.sink ≡ output.old.sink }
+{
+    if let Err(LineFault::BadCommand) = outcome {
+        output.keep(line);
     }
 }
 

@@ -1,36 +1,161 @@
 // A manifest as its file describes it, with the bytes of the files that it names.
-ghost use Rattle.std.specs.Prelude.{◌≤◌, IfOk, IfSome, length};
+ghost use Rattle.std.specs.Prelude.{◌≤◌, IfOk, length};
 
+use crate::failure::Failure;
+use crate::reading::{Unread, bytes_of, cannot_read, taken};
 use ov_base::Bytes;
-use ov_server::Fault;
-use ov_wire::{blobs_of, table_of};
+use ov_script::Escaped;
+use ov_server::{Fault, Source, going_on};
+use ov_wire::{ManifestFault, blobs_of, table_of};
+use std::alloc::Global;
 use std::fs::Files;
-use std::io::Read;
-use std::path::{AsPath, Path};
-use std::{fs, io};
-use toml::Table;
+use std::io::Input;
+use std::path::Path;
+use toml::{Table, Value};
+
+/// The name by which a manifest is read from standard input.
+pub(crate) const STANDARD_INPUT: &str = "-";
 
 /// A manifest's table, and the bytes of its blobs.
 #[derive(Drop)]
 pub(crate) struct Described {
     pub(crate) table: Table,
     pub(crate) blobs: Vec<Bytes>,
+    /// How many layers a saved upper put above those of the manifest; none where it has no saved one.
+    pub(crate) above: Option<usize>,
 }
 
-/// What the file at a path describes, which has with its blobs at most so many bytes. No blob is read of a manifest whose whole is at
-/// fault.
-pub(crate) fn read_manifest<R: Files + AllocGlobal>(
+/// What a manifest describes, which has with its blobs at most so many bytes as are told. No blob is
+/// read of one whose whole is at fault. A saved upper takes the place of its own.
+pub(crate) fn read_manifest<R: Files + Input + AllocGlobal>(
+    rt: &R,
+    source: &Source<'_>,
+) -> Result<Described, Failure> {
+    match source.upper {
+        None => read_own(rt, source),
+        Some(file) => {
+            let saved = read_upper(rt, file, source.manifest_limit)?;
+            let described = read_own(rt, source)?;
+            over(rt.alloc(), saved, described)
+        }
+    }
+}
+
+// What the manifest itself describes.
+fn read_own<R: Files + Input + AllocGlobal>(
+    rt: &R,
+    source: &Source<'_>,
+) -> Result<Described, Failure> {
+    let (path, limit) = (source.manifest, source.manifest_limit);
+    let manifest = match bytes_named(rt, path, limit) {
+        Ok(manifest) => manifest,
+        Err(why) => return Err(cannot_read(
+            rt.alloc(),
+            Fault::CannotReadManifest,
+            path,
+            limit,
+            why,
+        )),
+    };
+    let left = limit - manifest.len() as u64;
+    let table = match table_of(rt.alloc(), manifest.as_slice()) {
+        Ok(table) => table,
+        Err(fault) => return Err(no_table(
+            rt.alloc(),
+            Fault::from(fault),
+            path,
+            manifest.as_slice(),
+        )),
+    };
+    let blobs = read_blobs(rt, path, &table, left)?;
+    Ok(Described {
+        table,
+        blobs,
+        above: None,
+    })
+}
+
+// The bytes of a file, or of standard input by its name.
+fn bytes_named<R: Files + Input + AllocGlobal>(
     rt: &R,
     path: &str,
     limit: u64,
-) -> Result<Described, Fault> {
-    let Some(manifest) = bytes_of(rt, path, limit)? else {
-        return Err(Fault::CannotReadManifest);
+) -> Result<Vec<u8>, Unread>
+    ensures { IfOk result (λ bytes. length bytes.items ≤ limit) }
+{
+    if path == STANDARD_INPUT {
+        taken(rt.alloc(), rt.reader(), limit)
+    } else {
+        bytes_of(rt, path, limit)
+    }
+}
+
+// The table of a saved upper.
+fn read_upper<R: Files + AllocGlobal>(rt: &R, path: &str, limit: u64) -> Result<Table, Failure> {
+    let saved = match bytes_of(rt, path, limit) {
+        Ok(saved) => saved,
+        Err(why) => return Err(cannot_read(rt.alloc(), Fault::CannotReadUpper, path, limit, why)),
     };
-    let left = limit - manifest.len() as u64;
-    let table = table_of(rt.alloc(), manifest.as_slice())?;
-    let blobs = read_blobs(rt, path, &table, left)?;
-    Ok(Described { table, blobs })
+    match table_of(rt.alloc(), saved.as_slice()) {
+        Ok(table) => Ok(table),
+        Err(fault) => Err(no_table(rt.alloc(), fault_of_upper(fault), path, saved.as_slice())),
+    }
+}
+
+// A saved upper over the lower layers of a manifest without a fault of its whole.
+fn over(alloc: Global, saved: Table, manifest: Described) -> Result<Described, Failure> {
+    let Described {
+        table,
+        blobs,
+        above: _,
+    } = manifest;
+    let has_upper = table.get("upper").and_then(Value::as_bool).unwrap_or(true);
+    let table = going_on(alloc, saved, table)?;
+    judge(alloc, &table)?;
+    Ok(Described {
+        table,
+        blobs,
+        above: Some(if has_upper { 0 } else { 1 }),
+    })
+}
+
+// The fault of a manifest's whole that came by its new upper. A key that is at fault then is the upper's.
+fn judge(alloc: Global, joined: &Table) -> Result<(), Fault> {
+    match blobs_of(alloc, joined) {
+        Ok(_) => Ok(()),
+        Err(ManifestFault::Key) => Err(Fault::Upper(ManifestFault::Key)),
+        Err(fault) => Err(Fault::from(fault)),
+    }
+}
+
+fn fault_of_upper(fault: ManifestFault) -> Fault {
+    match fault {
+        ManifestFault::Memory(_) => Fault::Memory,
+        fault => Fault::Upper(fault),
+    }
+}
+
+// Bytes that are no TOML: in which line, and why.
+fn no_table(alloc: Global, fault: Fault, path: &str, bytes: &[u8]) -> Failure {
+    let Err(error) = toml::table_from_slice(alloc, bytes) else {
+        return Failure::from(fault);
+    };
+    let Some(place) = error.span() else {
+        return Failure::from(Fault::Memory);
+    };
+    let line = line_of(bytes, place.start);
+    let message = error.message();
+    Failure::because(alloc, fault, format_args!("{path}, line {line}: {message}"))
+}
+
+// The line of a place, counted from 1.
+fn line_of(bytes: &[u8], place: usize) -> usize {
+    let breaks = bytes
+        .iter()
+        .take(place)
+        .filter(|byte| **byte == b'\n')
+        .count();
+    breaks.saturating_add(1)
 }
 
 // The bytes of the files that a manifest names, which have together at most so many.
@@ -39,13 +164,17 @@ fn read_blobs<R: Files + AllocGlobal>(
     path: &str,
     manifest: &Table,
     limit: u64,
-) -> Result<Vec<Bytes>, Fault> {
-    let names = blobs_of(rt.alloc(), manifest)?;
+) -> Result<Vec<Bytes>, Failure> {
+    let names = match blobs_of(rt.alloc(), manifest) {
+        Ok(names) => names,
+        Err(fault) => return Err(Failure::from(Fault::from(fault))),
+    };
     let mut left = limit;
     let mut blobs = Vec::with_capacity(rt.alloc(), names.len())?;
     for (blob, name) in names.iter().enumerate() {
-        let Some(bytes) = beside(rt, path, name, left)? else {
-            return Err(Fault::CannotReadBlob { blob });
+        let bytes = match beside(rt, path, name, left) {
+            Ok(bytes) => bytes,
+            Err(why) => return Err(no_blob(rt.alloc(), blob, name, left, why)),
         };
         left -= bytes.len() as u64;
         blobs.push(Bytes::from_vec(bytes))?;
@@ -59,28 +188,31 @@ fn beside<R: Files + AllocGlobal>(
     manifest: &str,
     name: &str,
     limit: u64,
-) -> Result<Option<Vec<u8>>, Fault>
-    ensures { IfOk result (λ found. IfSome found (λ bytes. length bytes.items ≤ limit)) }
+) -> Result<Vec<u8>, Unread>
+    ensures { IfOk result (λ bytes. length bytes.items ≤ limit) }
 {
-    let path = Path::new(manifest).with_file_name(rt.alloc(), name)?;
-    bytes_of(rt, path.as_path(), limit)
+    match Path::new(manifest).with_file_name(rt.alloc(), name) {
+        Ok(path) => bytes_of(rt, path.as_path(), limit),
+        Err(_) => Err(Unread::Memory),
+    }
 }
 
-// The bytes of a file, of which at most one over the limit is read; none where it can't be read, or has more.
-fn bytes_of<R: Files + AllocGlobal, P: AsPath>(
-    rt: &R,
-    path: P,
-    limit: u64,
-) -> Result<Option<Vec<u8>>, Fault>
-    ensures { IfOk result (λ found. IfSome found (λ bytes. length bytes.items ≤ limit)) }
-{
-    let Ok(file) = fs::open(rt, path) else {
-        return Ok(None);
-    };
-    let mut bytes = Vec::new(rt.alloc());
-    match file.take(limit.saturating_add(1)).read_to_end(&mut bytes) {
-        Ok(_) if bytes.len() as u64 <= limit => Ok(Some(bytes)),
-        Err(fault) if fault.kind() == io::ErrorKind::OutOfMemory => Err(Fault::Memory),
-        _ => Ok(None),
+// A blob that can't be read: which one, and why.
+fn no_blob(alloc: Global, blob: usize, name: &str, left: u64, why: Unread) -> Failure {
+    let fault = Fault::CannotReadBlob { blob };
+    let name = Escaped(name.as_bytes());
+    match why {
+        Unread::Memory => Failure::from(Fault::Memory),
+        Unread::Reason(error) => {
+            Failure::because(alloc, fault, format_args!("blob {blob}, {name}: {error}"))
+        }
+        Unread::TooLong => Failure::because(
+            alloc,
+            fault,
+            format_args!(
+                "blob {blob}, {name}: the limit was reached: it has more than the {left} bytes that \
+                 --manifest-limit leaves",
+            ),
+        ),
     }
 }

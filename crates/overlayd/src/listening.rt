@@ -1,4 +1,5 @@
 // The socket on which connections are waited for.
+use crate::failure::Failure;
 use ov_server::{Fault, Serving};
 use std::fs::Files;
 use std::io::{Eprint, ErrorKind};
@@ -6,17 +7,17 @@ use std::net::Net;
 use std::os::fd::{AsRawFd, IntoRawFd, RawFd};
 use std::os::unix::fs::FileTypeExt;
 use std::os::unix::net::{UnixListener, UnixStream};
-use std::{fs, io};
+use std::{fmt, fs, io};
 
 /// The descriptor of standard error. Those of standard input and output are before it.
 const STANDARD_ERROR: RawFd = 2;
 
 /// Listens on the socket that is served. Where that can't be made, it is told why if it is to be told
 /// what is served.
-pub(crate) fn listen<R: Files + Net + Eprint>(
+pub(crate) fn listen<R: Files + Net + Eprint + AllocGlobal>(
     rt: &R,
     serving: &Serving<'_>,
-) -> Result<UnixListener, Fault> {
+) -> Result<UnixListener, Failure> {
     match bind(rt, serving) {
         Ok(listener) => Ok(listener),
         Err(fault) => Err(no_socket(rt, serving, &fault)),
@@ -25,7 +26,10 @@ pub(crate) fn listen<R: Files + Net + Eprint>(
 
 /// Takes those descriptors that the program was started without, for good: what is told must never
 /// get into a file or a connection, which would else be given the number of standard error.
-pub(crate) fn hold_standard<R: Net + Eprint>(rt: &R, serving: &Serving<'_>) -> Result<(), Fault> {
+pub(crate) fn hold_standard<R: Net + Eprint + AllocGlobal>(
+    rt: &R,
+    serving: &Serving<'_>,
+) -> Result<(), Failure> {
     match hold(rt) {
         Ok(()) => Ok(()),
         Err(fault) => Err(no_socket(rt, serving, &fault)),
@@ -43,15 +47,23 @@ fn hold<R: Net>(rt: &R) -> io::Result<()> {
     Ok(())
 }
 
-// The fault of a socket that can't be made. It is told why if it is to be told what is served.
-fn no_socket<R: Eprint>(rt: &R, serving: &Serving<'_>, fault: &io::Error) -> Fault {
-    if fault.kind() == ErrorKind::OutOfMemory {
-        return Fault::Memory;
+// The failure of a socket that can't be made. It is told why at once if it is to be told what is served.
+fn no_socket<R: Eprint + AllocGlobal>(rt: &R, serving: &Serving<'_>, error: &io::Error) -> Failure {
+    if error.kind() == ErrorKind::OutOfMemory {
+        return Failure::from(Fault::Memory);
     }
+    let path = serving.socket;
+    let reason = Reason { path, error };
+    // A line that can't be written is lost.
     if serving.verbose {
-        tell_why(rt, serving.socket, fault);
+        let _ = eprintln!(rt; "overlayd: {reason}");
     }
-    Fault::Socket
+    let way_on = match error.kind() {
+        ErrorKind::AddrInUse if serving.unlink => "; a server listens there, or it is no socket",
+        ErrorKind::AddrInUse => "; --unlink takes the place of a socket on which nobody listens",
+        _ => "",
+    };
+    Failure::because(rt.alloc(), Fault::Socket, format_args!("{reason}{way_on}"))
 }
 
 // Makes the socket; what is left of another one is removed first if that is asked for. An empty path
@@ -84,13 +96,22 @@ fn is_left_behind<R: Files + Net>(rt: &R, path: &str) -> io::Result<bool> {
     }
 }
 
-// Tells why there is no socket. A line that can't be written is lost.
-fn tell_why<R: Eprint>(rt: &R, path: &str, fault: &io::Error) {
-    let _ = match fault.kind() {
-        ErrorKind::AddrInUse => eprintln!(rt; "overlayd: {path}: is there already"),
-        ErrorKind::NotFound if path.is_empty() => eprintln!(rt; "overlayd: the path is empty"),
-        ErrorKind::NotFound => eprintln!(rt; "overlayd: {path}: no such directory"),
-        ErrorKind::InvalidInput => eprintln!(rt; "overlayd: {path}: longer than 107 bytes"),
-        _ => eprintln!(rt; "overlayd: {path}: {fault}"),
-    };
+// Why there is no socket at a path.
+#[derive(Clone, Copy)]
+struct Reason<'a> {
+    path: &'a str,
+    error: &'a io::Error,
+}
+
+impl fmt::Display for Reason<'_> {
+    fn fmt<W: fmt::Write>(&self, f: &mut fmt::Formatter<W>) -> fmt::Result {
+        let (path, error) = (self.path, self.error);
+        match error.kind() {
+            ErrorKind::AddrInUse => write!(f, "{path}: is there already"),
+            ErrorKind::NotFound if path.is_empty() => write!(f, "the path is empty"),
+            ErrorKind::NotFound => write!(f, "{path}: no such directory"),
+            ErrorKind::InvalidInput => write!(f, "{path}: longer than 107 bytes"),
+            _ => write!(f, "{path}: {error}"),
+        }
+    }
 }

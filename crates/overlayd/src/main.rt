@@ -1,29 +1,39 @@
 //! The program: shows the merged tree of a manifest, plays a script on its mount, or serves it.
 #![tactic(auto)]
 
-ghost use Rattle.std.specs.Prelude.{IsSome};
+ghost use Rattle.std.specs.Prelude.{◌≡◌, ◌≢◌, IfOk, IsSome, None, OnOk};
 
+mod bad_line;
+mod bad_manifest;
 mod described;
 mod ending;
+mod explaining;
+mod failure;
+mod lines;
 mod listening;
 mod mounting;
+mod reading;
 mod saving;
 
-use crate::described::{Described, read_manifest};
+use crate::bad_line::why_bad;
+use crate::described::{Described, STANDARD_INPUT, read_manifest};
 use crate::ending::{close_at_end, closing_in, ending_of};
+use crate::explaining::tell;
+use crate::failure::Failure;
 use crate::listening::{hold_standard, listen};
 use crate::mounting::{Mounting, mounting_of};
 use crate::saving::Saver;
 use ov_devices::{CountedReader, CountedWriter};
 use ov_server::{
-    Fault, Invocation, Output, Serving, command_line, hooks_by_slot, play_run, show_run,
+    ByTag, Fault, Invocation, Output, Playing, ProgramRule, Serving, Source, command_line,
+    hooks_by_slot, play_run, show_run,
 };
 use socket_server::{Closing, ServeOptions, Served, serve_endless_on, serve_on};
 use std::alloc::Global;
 use std::env::Env;
 use std::fs::Files;
 use std::hash::RandomState;
-use std::io::{Eprint, Print, Read};
+use std::io::{Eprint, IsTerminal, Print, Read};
 use std::net::Net;
 use std::os::unix::net::UnixListener;
 use std::process::ExitCode;
@@ -42,15 +52,16 @@ fn main(rt: HostRuntime) -> ExitCode {
             Err(_) => Err(Fault::Memory),
         }
     };
-    match run(&rt, &closes_at_end) {
-        Ok(status) => ExitCode::from(status),
+    let is_terminal = rt.stderr().is_terminal();
+    match run(&rt, is_terminal, &closes_at_end) {
+        Ok(status) => status,
         Err(fault) => report(&rt, &fault),
     }
 }
 
-// The exit status, where nothing is to be told any more. A thread that closes a server when standard
-// input ends is made by what is given.
-fn run<R, W>(rt: &R, closes_at_end: &W) -> Result<u8, Fault>
+// The exit status, or the fault of a command line. A thread that closes a server when standard input
+// ends is made by what is given.
+fn run<R, W>(rt: &R, is_terminal: bool, closes_at_end: &W) -> Result<ExitCode, Fault>
 where
     R: Runtime + AllocGlobal + RandomSource + Net + Threads + Wait + Sync,
     W: Fn(Arc<Closing, Global>) -> Result<(), Fault>,
@@ -58,19 +69,39 @@ where
 {
     let words = words(rt)?;
     let invocation = command_line(rt.alloc(), words.as_slice())?;
+    let failure = match done(rt, &invocation, closes_at_end) {
+        Ok(status) => return Ok(ExitCode::from(status)),
+        Err(failure) => failure,
+    };
+    let source = source_of(&invocation);
+    let status = failure.fault.status();
+    // A fault that can't be told has its status all the same.
+    let _ = tell(rt, &source, is_terminal || source.explain, &failure);
+    Ok(ExitCode::from(status))
+}
+
+// Does what is asked for, and gives the exit status where nothing is to be told any more.
+fn done<R, W>(rt: &R, invocation: &Invocation<'_>, closes_at_end: &W) -> Result<u8, Failure>
+where
+    R: Runtime + AllocGlobal + RandomSource + Net + Threads + Wait + Sync,
+    W: Fn(Arc<Closing, Global>) -> Result<(), Fault>,
+    requires closes { (closing : _) → W.pre closes_at_end.now closing }
+{
     let keys = keys(rt)?;
     match invocation {
-        Invocation::Show {
-            manifest,
-            manifest_limit,
-        } => show(rt, keys, manifest, manifest_limit)?,
-        Invocation::Play {
-            manifest,
-            manifest_limit,
-        } => play(rt, keys, manifest, manifest_limit)?,
-        Invocation::Serve(serving) => return serve(rt, keys, &serving, closes_at_end),
+        Invocation::Show(source) => show(rt, keys, source)?,
+        Invocation::Play(playing) => play(rt, keys, playing)?,
+        Invocation::Serve(serving) => return serve(rt, keys, serving, closes_at_end),
     }
     Ok(0)
+}
+
+fn source_of<'a>(invocation: &Invocation<'a>) -> Source<'a> {
+    match invocation {
+        Invocation::Show(source) => *source,
+        Invocation::Play(playing) => playing.source,
+        Invocation::Serve(serving) => serving.source,
+    }
 }
 
 // The keys by which directories hash their names, from the system's randomness. Where it fails, that counts as a stream that failed.
@@ -94,33 +125,88 @@ fn words<R: Env + AllocGlobal>(rt: &R) -> Result<Vec<String>, Fault> {
 fn show<R: Runtime + AllocGlobal>(
     rt: &R,
     keys: RandomState,
-    manifest: &str,
-    limit: u64,
-) -> Result<(), Fault> {
-    let Described { table, blobs } = read_manifest(rt, manifest, limit)?;
+    source: &Source<'_>,
+) -> Result<(), Failure> {
+    let Described {
+        table,
+        blobs,
+        above,
+    } = read_manifest(rt, source)?;
     let mut output = Output::new(rt.alloc(), CountedWriter::new(io::writer(rt)));
-    show_run(rt.alloc(), keys, table, blobs, &mut output)
+    match show_run(rt.alloc(), keys, table, blobs, &mut output) {
+        Ok(()) => Ok(()),
+        Err(fault) => Err(Failure::of_mount(fault, above)),
+    }
 }
 
 fn play<R: Runtime + AllocGlobal>(
     rt: &R,
     keys: RandomState,
-    manifest: &str,
-    limit: u64,
-) -> Result<(), Fault> {
+    playing: &Playing<'_>,
+) -> Result<(), Failure> {
+    if playing.source.manifest == STANDARD_INPUT && playing.script.is_none() {
+        return Err(Failure::from(Fault::InputTwice));
+    }
     let hooks = hooks_by_slot(rt.alloc())?;
-    let Described { table, blobs } = read_manifest(rt, manifest, limit)?;
-    let mut input = CountedReader::new(rt.reader());
-    let mut output = Output::new(rt.alloc(), CountedWriter::new(io::writer(rt)));
-    play_run(
+    let hooks = hooks.as_slice();
+    match playing.script {
+        None => play_from(rt, keys, playing, hooks, rt.reader()),
+        Some(file) => match fs::open(rt, file) {
+            Ok(script) => play_from(rt, keys, playing, hooks, script),
+            Err(error) => Err(no_script(rt.alloc(), file, &error)),
+        },
+    }
+}
+
+fn no_script(alloc: Global, file: &str, error: &io::Error) -> Failure {
+    Failure::because(
+        alloc,
+        Fault::CannotReadScript,
+        format_args!("{file}: {error}"),
+    )
+}
+
+// Plays a script that is read from here.
+fn play_from<R: Runtime + AllocGlobal, S: Read + Drop>(
+    rt: &R,
+    keys: RandomState,
+    playing: &Playing<'_>,
+    hooks: &[Hook<ByTag, ProgramRule>],
+    script: S,
+) -> Result<(), Failure> {
+    let Described {
+        table,
+        blobs,
+        above,
+    } = read_manifest(rt, &playing.source)?;
+    let mut input = CountedReader::new(script);
+    let mut output = Output::new(rt.alloc(), CountedWriter::new(io::writer(rt))).echoing(
+        playing.echo,
+    );
+    let played = play_run(
         rt.alloc(),
         keys,
         table,
         blobs,
-        hooks.as_slice(),
+        hooks,
         &mut input,
         &mut output,
-    )
+    );
+    match played {
+        Ok(()) => Ok(()),
+        Err(fault) => Err(of_play(rt.alloc(), fault, above, output.refused())),
+    }
+}
+
+// The fault of a play, and where that is a bad line, why.
+fn of_play(alloc: Global, fault: Fault, above: Option<usize>, line: &[u8]) -> Failure {
+    match fault {
+        Fault::BadCommand { .. } => Failure {
+            fault,
+            why: why_bad(alloc, line).ok(),
+        },
+        fault => Failure::of_mount(fault, above),
+    }
 }
 
 fn serve<R, W>(
@@ -128,17 +214,20 @@ fn serve<R, W>(
     keys: RandomState,
     serving: &Serving<'_>,
     closes_at_end: &W,
-) -> Result<u8, Fault>
+) -> Result<u8, Failure>
 where
     R: Runtime + AllocGlobal + Net + Threads + Wait + Sync,
     W: Fn(Arc<Closing, Global>) -> Result<(), Fault>,
     requires closes { (closing : _) → W.pre closes_at_end.now closing }
 {
     if serving.save.is_some() && serving.sessions.is_none() && !serving.until_eof {
-        return Err(Fault::SaveWithoutEnd);
+        return Err(Failure::from(Fault::SaveWithoutEnd));
     }
     if serving.no_history && serving.history.is_some() {
-        return Err(Fault::HistoryOfNone);
+        return Err(Failure::from(Fault::HistoryOfNone));
+    }
+    if serving.until_eof && serving.source.manifest == STANDARD_INPUT {
+        return Err(Failure::from(Fault::InputTwice));
     }
     hold_standard(rt, serving)?;
     let hooks = hooks_by_slot(rt.alloc())?;
@@ -153,7 +242,7 @@ fn serve_with<F, H, R, W>(
     hooks: &[Hook<F, H>],
     serving: &Serving<'_>,
     closes_at_end: &W,
-) -> Result<u8, Fault>
+) -> Result<u8, Failure>
 where
     F: Callback + Copy + Send + Sync,
     H: Rule + Send + Sync,
@@ -161,8 +250,12 @@ where
     W: Fn(Arc<Closing, Global>) -> Result<(), Fault>,
     requires closes { (closing : _) → W.pre closes_at_end.now closing }
 {
-    let described = read_manifest(rt, serving.manifest, serving.manifest_limit)?;
-    let (mounting, places) = mounting_of(rt.alloc(), keys, described, serving)?;
+    let described = read_manifest(rt, &serving.source)?;
+    let above = described.above;
+    let (mounting, places) = match mounting_of(rt.alloc(), keys, described, serving) {
+        Ok(mounted) => mounted,
+        Err(fault) => return Err(Failure::of_mount(fault, above)),
+    };
     let mut mounting = Some(mounting);
     serve_lent(rt, &mut mounting, places, hooks, serving, closes_at_end)
 }
@@ -176,7 +269,7 @@ fn serve_lent<F, H, R, W>(
     hooks: &[Hook<F, H>],
     serving: &Serving<'_>,
     closes_at_end: &W,
-) -> Result<u8, Fault>
+) -> Result<u8, Failure>
 where
     F: Callback + Copy + Send + Sync,
     H: Rule + Send + Sync,
@@ -213,15 +306,20 @@ where
     F: Callback + Copy + Send + Sync,
     H: Rule + Send + Sync,
     R: Runtime + AllocGlobal + Net + Threads + Wait + Sync,
+    ensures saved { OnOk result (saver.new.target ≡ None) }
+    ensures stopped { IfOk result (λ end. options.now.closing ≡ None → end ≢ Served.Stopped) }
 {
     let alloc = rt.alloc();
-    let served = match mounting {
-        Mounting::Kept(blank) => serve_on(rt, alloc, listener, blank, hooks, options, saver)?,
-        Mounting::Endless(blank) => {
-            serve_endless_on(rt, alloc, listener, blank, hooks, options, saver)?
+    match mounting {
+        Mounting::Kept(blank) => {
+            let end = serve_on(rt, alloc, listener, blank, hooks, options, saver)?;
+            Ok(end)
         }
-    };
-    Ok(served)
+        Mounting::Endless(blank) => {
+            let end = serve_endless_on(rt, alloc, listener, blank, hooks, options, saver)?;
+            Ok(end)
+        }
+    }
 }
 
 // How a server is asked for, and what ends it.
@@ -241,11 +339,11 @@ fn options_of<'a>(
     }
 }
 
-// Tells a fault and gives the exit status. The texts of the command line are its parser's own.
+// Tells the fault of a command line and gives the exit status. The texts are its parser's own.
 fn report<R: Print + Eprint>(rt: &R, fault: &Fault) -> ExitCode {
     let told = match fault {
         Fault::CommandLine(error) => error.print(rt),
-        fault => tell(rt, fault),
+        fault => eprintln!(rt; "overlayd: {fault}"),
     };
     match told {
         Ok(()) => ExitCode::from(fault.status()),
@@ -256,13 +354,10 @@ fn report<R: Print + Eprint>(rt: &R, fault: &Fault) -> ExitCode {
 // The same where the telling failed: for help, which standard output didn't take, it is a fault of its own.
 fn report_untold<R: Eprint>(rt: &R, fault: &Fault) -> ExitCode {
     if fault.status() == 0 {
-        let _ = tell(rt, &Fault::Stream);
-        ExitCode::from(Fault::Stream.status())
+        let stream = Fault::Stream;
+        let _ = eprintln!(rt; "overlayd: {stream}");
+        ExitCode::from(stream.status())
     } else {
         ExitCode::from(fault.status())
     }
-}
-
-fn tell<R: Eprint>(rt: &R, fault: &Fault) -> io::Result<()> {
-    eprintln!(rt; "overlayd: {fault}")
 }

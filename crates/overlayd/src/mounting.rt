@@ -32,7 +32,11 @@ pub(crate) fn mounting_of<F: Callback + Drop, H: Rule>(
     ensures places { IfOk result (λ r. r.1 ≡ (core_options (core_in r.0)).history) }
     ensures endless { IfOk result (λ r. is_endless r.0 ≡ serving.now.no_history) }
 {
-    let Described { table, blobs } = manifest;
+    let Described {
+        table,
+        blobs,
+        above: _,
+    } = manifest;
     let core: Result<Core<F, H>, Fault> = core_of(
         alloc,
         keys,

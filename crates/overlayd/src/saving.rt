@@ -1,20 +1,23 @@
 // The file to which the upper of a served mount is written at the end.
+use crate::failure::Failure;
 use merged_lookup::Layers;
 use ov_devices::CountedWriter;
 use ov_script::Escaped;
 use ov_server::{DeviceFault, Fault, LeftOut, Output, Serving, save_upper};
 use overlay_core::Core;
 use socket_server::Keeper;
-use std::fs;
-use std::fs::Files;
-use std::io::Eprint;
+use std::fs::{File, Files, OpenFile};
+use std::io::{Eprint, ErrorKind};
+use std::{fs, io};
 use watch_table::{Callback, Rule};
 
-// A file that takes another's place when it is whole.
+/// How many names are tried for the file that takes the place of another.
+const NAMES_MOST: u32 = 100;
+
+// A file that is to take another's place.
 #[derive(Drop)]
-struct Target<'a, F> {
-    path: &'a str,
-    part: String,
+struct Part<F> {
+    name: String,
     file: F,
 }
 
@@ -22,38 +25,34 @@ struct Target<'a, F> {
 #[derive(Drop)]
 pub(crate) struct Saver<'a, R: Files> {
     rt: &'a R,
-    target: Option<Target<'a, R::File>>,
-    pub(crate) outcome: Result<(), Fault>,
+    target: Option<&'a str>,
+    pub(crate) outcome: Result<(), Failure>,
 }
 
 impl<'a, R: Files + AllocGlobal + Eprint> Saver<'a, R> {
-    /// Makes the file that is to have the upper, beside the one whose place it takes then, so that what
-    /// can't be written is told before anything is served.
-    pub(crate) fn new(rt: &'a R, serving: &Serving<'a>) -> Result<Saver<'a, R>, Fault> {
-        let target = match serving.save {
-            Some(path) => Some(target_of(rt, path)?),
-            None => None,
-        };
+    /// Tries whether the upper can be written to its file, so that what can't be is told before
+    /// anything is served. Nothing is left of that.
+    pub(crate) fn new(rt: &'a R, serving: &Serving<'a>) -> Result<Saver<'a, R>, Failure> {
+        if let Some(path) = serving.save {
+            let part = part_of(rt, path)?;
+            let _ = fs::remove_file(rt, part.name.as_str());
+        }
         Ok(Saver {
             rt,
-            target,
+            target: serving.save,
             outcome: Ok(()),
         })
     }
 }
 
-fn target_of<'a, R: Files + AllocGlobal>(
-    rt: &R,
-    path: &'a str,
-) -> Result<Target<'a, R::File>, Fault> {
-    let part = format!(in rt.alloc(); "{path}.part")?;
-    match fs::create(rt, part.as_str()) {
-        Ok(file) => Ok(Target { path, part, file }),
-        Err(_) => Err(Fault::CannotSave),
-    }
-}
-
 impl<R: Files + AllocGlobal + Eprint> Keeper for Saver<'_, R> {
+    ghost use Rattle.std.specs.Prelude.{◌≡◌, None};
+
+    // It saves the upper of any mount, and nothing is left to be saved then.
+    ghost takes = { λ saver mounted. Unit {0} };
+
+    ghost kept = { λ saver mounted entries. saver.target ≡ None };
+
     fn keep<F: Callback, H: Rule>(&mut self, core: &Core<F, H>) {
         if let Some(target) = self.target.take() {
             self.outcome = save(self.rt, target, core.layers());
@@ -61,33 +60,113 @@ impl<R: Files + AllocGlobal + Eprint> Keeper for Saver<'_, R> {
     }
 }
 
-// Writes the upper to the file, which takes its place then.
-fn save<R: Files + AllocGlobal + Eprint>(
-    rt: &R,
-    target: Target<'_, R::File>,
-    layers: &Layers,
-) -> Result<(), Fault> {
-    let Target { path, part, file } = target;
-    let mut output = Output::new(rt.alloc(), CountedWriter::new(file));
-    let left_out = match save_upper(rt.alloc(), layers, &mut output) {
-        Ok(left_out) => left_out,
-        Err(DeviceFault::Memory) => return Err(Fault::Memory),
-        Err(DeviceFault::Stream) => return Err(Fault::CannotSave),
-    };
-    match fs::rename(rt, part.as_str(), path) {
-        Ok(()) => told(rt, &left_out),
-        Err(_) => Err(Fault::CannotSave),
+// A new file beside a path, which is to take its place; nothing but a regular file may stand there. What
+// has the name of the new one is left, whatever it is, and another name is tried.
+fn part_of<R: Files + AllocGlobal>(rt: &R, path: &str) -> Result<Part<R::File>, Failure> {
+    check_place(rt, path)?;
+    for number in 0..NAMES_MOST {
+        let name = if number == 0 {
+            format!(in rt.alloc(); "{path}.part")?
+        } else {
+            format!(in rt.alloc(); "{path}.part{number}")?
+        };
+        match File::create_new(rt, name.as_str()) {
+            Ok(file) => return Ok(Part { name, file }),
+            Err(error) if error.kind() == ErrorKind::AlreadyExists => (),
+            Err(error) => return Err(unsaved(rt, name.as_str(), &error)),
+        }
+    }
+    let why = format_args!("{path}.part and {NAMES_MOST} further names are taken");
+    Err(Failure::because(rt.alloc(), Fault::CannotSave, why))
+}
+
+// Whether a regular file stands at a path, or nothing.
+fn check_place<R: Files + AllocGlobal>(rt: &R, path: &str) -> Result<(), Failure> {
+    match fs::symlink_metadata(rt, path) {
+        Ok(found) if found.is_file() => Ok(()),
+        Ok(_) => {
+            let why = format_args!("{path}: is there and no regular file");
+            Err(Failure::because(rt.alloc(), Fault::CannotSave, why))
+        }
+        Err(error) if error.kind() == ErrorKind::NotFound => Ok(()),
+        Err(error) => Err(unsaved(rt, path, &error)),
     }
 }
 
+// Writes the upper to a new file, which takes the place then. Where that fails it is removed.
+fn save<R: Files + AllocGlobal + Eprint>(
+    rt: &R,
+    path: &str,
+    layers: &Layers,
+) -> Result<(), Failure> {
+    let Part { name, mut file } = part_of(rt, path)?;
+    let written = match write(rt, &mut file, layers) {
+        Ok(left_out) => put_in_place(rt, &file, name.as_str(), path, left_out),
+        Err(fault) => Err(failed(rt, name.as_str(), fault)),
+    };
+    drop(file);
+    match written {
+        Ok(left_out) => told(rt, &left_out),
+        Err(failure) => {
+            let _ = fs::remove_file(rt, name.as_str());
+            Err(failure)
+        }
+    }
+}
+
+fn write<R: Files + AllocGlobal>(
+    rt: &R,
+    file: &mut R::File,
+    layers: &Layers,
+) -> Result<LeftOut, DeviceFault> {
+    let mut output = Output::new(rt.alloc(), CountedWriter::new(file));
+    save_upper(rt.alloc(), layers, &mut output)
+}
+
+// Gives a whole file its name, when its bytes are kept for good.
+fn put_in_place<R: Files + AllocGlobal>(
+    rt: &R,
+    file: &R::File,
+    name: &str,
+    path: &str,
+    left_out: LeftOut,
+) -> Result<LeftOut, Failure> {
+    if let Err(error) = file.sync_all() {
+        return Err(unsaved(rt, name, &error));
+    }
+    check_place(rt, path)?;
+    match fs::rename(rt, name, path) {
+        Ok(()) => Ok(left_out),
+        Err(error) => Err(unsaved(rt, path, &error)),
+    }
+}
+
+fn failed<R: AllocGlobal>(rt: &R, name: &str, fault: DeviceFault) -> Failure {
+    match fault {
+        DeviceFault::Memory => Failure::from(Fault::Memory),
+        DeviceFault::Stream => {
+            let why = format_args!("{name}: it can't be written, as where a disk is full");
+            Failure::because(rt.alloc(), Fault::CannotSave, why)
+        }
+    }
+}
+
+fn unsaved<R: AllocGlobal>(rt: &R, path: &str, error: &io::Error) -> Failure {
+    Failure::because(
+        rt.alloc(),
+        Fault::CannotSave,
+        format_args!("{path}: {error}"),
+    )
+}
+
 // Tells the first object that was left out. A line that can't be written is lost.
-fn told<R: Eprint>(rt: &R, left_out: &LeftOut) -> Result<(), Fault> {
+fn told<R: Eprint>(rt: &R, left_out: &LeftOut) -> Result<(), Failure> {
     let Some(path) = &left_out.first else {
         return Ok(());
     };
     let path = Escaped(path.as_slice());
     let _ = eprintln!(rt; "overlayd: not saved: {path}");
-    Err(Fault::LeftOut {
+    Err(Failure::from(Fault::LeftOut {
         objects: left_out.objects,
-    })
+    }))
 }

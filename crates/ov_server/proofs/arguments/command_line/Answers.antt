@@ -34,8 +34,7 @@ named app words m asked is has names =
     let parsed = (has (ap is_simple is ∙ simple)).1 in record {
       rows = names.rows;
       subcommand = ap (λ (a : App). subcommand_of a words) (sym is) ∙ sym parsed ∙ names.subcommand;
-      manifest = names.manifest;
-      limit = names.limit;
+      source = names.source;
       more = names.more;
     }
 

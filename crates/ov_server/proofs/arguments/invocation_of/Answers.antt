@@ -6,7 +6,6 @@ use Rattle.clap.specs.Simple.{subcommand_rows_of}
 use Rattle.clap.specs.Walk.{Row, rows_of}
 use Rattle.clap.specs.declared.parser.matches.ArgMatches.{ArgMatches}
 use Rattle.clap.specs.declared.parser.matches.ArgMatches.TheViews.{out-ArgMatches}
-use Rattle.clap.proofs.WalkLemmas.{first_value-rows}
 use Rattle.ov_server.proofs.arguments.invocation_of.Goals as goal
 
 -- texts that compare equal are the same
@@ -31,8 +30,7 @@ returns-then-eq c = record {
   rows = rows_of (found_of c.in_ok-name.inner.now);
   subcommand = subcommand_is c.args.matches.now (codes "show") (rows_of (found_of c.in_ok-name.inner.now))
       (sym c.in_ok-name.ensures.name ∙ ap (λ (n : List ℕ). Some n) (same_text c.in_ok-name.name.now (codes "show") c.eq.result c.eq.ensures c.if-eq.true)) (sym c.in_ok-name.ensures.rows);
-  manifest = sym (first_value-rows (found_of c.in_ok-name.inner.now) (codes "MANIFEST")) ∙ sym c.in_ok-manifest.ensures;
-  limit = c.in_ok-manifest_limit.ensures;
+  source = c.in_ok-source.ensures;
   more = tt;
 }
 
@@ -41,22 +39,17 @@ returns-then-eq-2 c = record {
   rows = rows_of (found_of c.in_ok-name.inner.now);
   subcommand = subcommand_is c.args.matches.now (codes "play") (rows_of (found_of c.in_ok-name.inner.now))
       (sym c.in_ok-name.ensures.name ∙ ap (λ (n : List ℕ). Some n) (same_text c.in_ok-name.name.now (codes "play") c.eq-else-eq.result c.eq-else-eq.ensures c.if-eq-2.true)) (sym c.in_ok-name.ensures.rows);
-  manifest = sym (first_value-rows (found_of c.in_ok-name.inner.now) (codes "MANIFEST")) ∙ sym c.in_ok-manifest.ensures;
-  limit = c.in_ok-manifest_limit.ensures;
-  more = tt;
+  source = rw c.playing_of-playing.ensures.source c.in_ok-source.ensures;
+  more = c.playing_of-playing.ensures.asks;
 }
 
 pub returns-in_ok-serving : goal.returns-in_ok-serving
 returns-in_ok-serving c =
-    let rows = rows_of (found_of c.in_ok-name.inner.now) in
-    let asked = c.in_ok-serving.ensures in
     let named = same_text c.in_ok-name.name.now (codes "serve") c.eq-else-eq-2.result
     c.eq-else-eq-2.ensures c.if-eq-3.true in record {
-      rows = rows;
-      subcommand = subcommand_is c.args.matches.now (codes "serve") rows
+      rows = rows_of (found_of c.in_ok-name.inner.now);
+      subcommand = subcommand_is c.args.matches.now (codes "serve") (rows_of (found_of c.in_ok-name.inner.now))
           (sym c.in_ok-name.ensures.name ∙ ap (λ (n : List ℕ). Some n) named) (sym c.in_ok-name.ensures.rows);
-      manifest = sym (first_value-rows (found_of c.in_ok-name.inner.now) (codes "MANIFEST")) ∙ sym c.in_ok-manifest.ensures
-          ∙ ap (λ (n : List ℕ). Some n) (sym asked.manifest);
-      limit = rw asked.limit c.in_ok-manifest_limit.ensures;
-      more = asked.more;
+      source = rw c.in_ok-serving.ensures.source c.in_ok-source.ensures;
+      more = c.in_ok-serving.ensures.asks;
     }

@@ -9,6 +9,7 @@ invariant-loop-read g l = record {
   played : Plays (layers_in l.initial.self.stage.core) (g.S.Source.remaining l.initial.input) (g.S.Source.remaining l.input) l.self.pending.items l.self.lines l.self.stage;
   few : l.self.lines ≤ 65536 * l._read;
   reads : g.S.Source.reads l.input ≡ g.S.Source.reads l.initial.input + l._read;
+  most : g.S.Source.most l.input ≡ g.S.Source.most l.initial.input;
   piece : length l.piece ≡ 65536;
   input : g.S.Source.failures l.input ≡ g.S.Source.failures l.initial.input;
   output : g.K.Sink.failures l.output.sink ≡ g.K.Sink.failures l.initial.output.sink;

@@ -1,5 +1,5 @@
 use Rattle.std.proofs.Common.{◌≡◌, map, take}
-use Rattle.ov_server.proofs.program_hooks.hooks_by_slot.Given as goal
+use Rattle.program_hooks.proofs.hooks_by_slot.Given as goal
 
 -- the hooks so far have the first tags
 abbrev pub invariant-loop-tag : goal.invariant-loop-tag

@@ -1,7 +1,10 @@
-// The hooks with which the program attaches each client.
+//! The hooks with which the program attaches each client, and so does the engine in a process of
+//! another.
+#![tactic(auto)]
+
 ghost use Rattle.std.specs.Prelude.{◌≡◌, ◌<◌, ◌^◌, IfOk, map};
-ghost use Rattle.ov_server.specs.ProgramHooks as rule;
-ghost use Rattle.ov_server.specs.ProgramHooks.{program_tags};
+ghost use Rattle.program_hooks.specs.Answering as rule;
+ghost use Rattle.program_hooks.specs.Answering.{program_tags};
 
 use ov_base::{Event, Notice};
 use std::alloc::{AllocError, Global};
@@ -13,8 +16,8 @@ const ISDIR: u32 = 0x4000_0000;
 /// The tags of the program's hooks, by slot.
 const TAGS: [u32; 16] = [0, 0, 0, 0, 0, 0, 0, 0, 0, 0, 1, 1, 2, 2, 3, 3];
 
-/// The callback of a tag: 0 answers each event as it is, 1 those of directories alone, 2 all others, 3 each without its name, any other
-/// none.
+/// The callback of a tag: 0 answers each event as it is, 1 those of directories alone, 2 all others,
+/// 3 each without its name, any other none.
 #[derive(Clone, Copy)]
 pub struct ByTag {
     tag: u32,
@@ -22,7 +25,7 @@ pub struct ByTag {
 
 impl Callback for ByTag {
     ghost use Rattle.plain_model.specs.Watching.{IsEvent};
-    ghost use Rattle.ov_server.specs.ProgramHooks.{answer_of};
+    ghost use Rattle.program_hooks.specs.Answering.{answer_of};
 
     ghost may = { λ c event. IsEvent event.now };
 
@@ -38,7 +41,7 @@ impl Callback for ByTag {
 pub struct ProgramRule;
 
 impl Rule for ProgramRule {
-    ghost use Rattle.ov_server.specs.ProgramHooks.{answer_of};
+    ghost use Rattle.program_hooks.specs.Answering.{answer_of};
 
     ghost shows = { λ tag event answer. answer ≡ answer_of tag event };
 }
