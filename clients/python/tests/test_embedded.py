@@ -1,0 +1,142 @@
+"""A mount in this process, by the C library: the same calls as over a server's socket."""
+
+import errno
+import os
+import pathlib
+import re
+import threading
+import unittest
+
+import overlayd
+
+from . import real_server, scripts
+
+ROOT = pathlib.Path(__file__).resolve().parents[3]
+ROWS = ROOT / "crates" / "side_by_side" / "data"
+TWO_EMPTY = "layer = [{}, {}]\n"
+ONE_FILE = "layer = [{}, {entry = [{path = '/f', kind = 'file', text = 'hello'}]}]\n"
+
+
+def library():
+    """The library that OVERLAYD_LIBRARY names, or that was built here; None without one."""
+    built = ROOT / "out" / "liboverlayd.so.0"
+    named = os.environ.get("OVERLAYD_LIBRARY")
+    return named or (str(built) if built.is_file() else None)
+
+
+def setUpModule():
+    if library() is None:
+        raise unittest.SkipTest("make lib made no library, and OVERLAYD_LIBRARY names none")
+
+
+def mounted(manifest, blobs=()):
+    return overlayd.mount(manifest, blobs, library=library())
+
+
+class Sessions(unittest.TestCase):
+    def test_places_and_refusals(self):
+        with mounted(TWO_EMPTY) as mount:
+            client = mount.attach()
+            client.stat("/")
+            self.assertEqual(client.last_place, 1)
+            client.mkdir("/a", 0o755)
+            with self.assertRaises(FileNotFoundError) as refused:
+                client.stat("/x")
+            self.assertEqual(refused.exception.place, 3)
+            with self.assertRaises(OSError) as refused:
+                client.stat("x")
+            self.assertEqual((refused.exception.errno, refused.exception.place),
+                             (errno.EINVAL, None))
+            client.detach()
+            self.assertEqual(client.last_place, 4)
+            with self.assertRaises(ConnectionError):
+                client.stat("/")
+
+    def test_files_and_notices_of_two_clients(self):
+        with mounted(ONE_FILE) as mount, mount.attach() as first, mount.attach() as second:
+            first.arm(0, "/f", 0x18)
+            with second.open("/f", os.O_RDWR) as file:
+                self.assertEqual(file.read(), b"hello")
+                file.write(b", " + bytes(70_000))
+            self.assertEqual(second.stat("/f").st_size, 70_007)
+            self.assertEqual([(n.wd, int(n.mask)) for n in first.notices()], [(1, 8)])
+
+    def test_pipelines(self):
+        with mounted(TWO_EMPTY) as mount, mount.attach() as client:
+            with client.pipeline() as batch:
+                pending = [batch.mkdir(f"/d{n}") for n in range(100)]
+            self.assertEqual([it.place for it in pending], list(range(1, 101)))
+
+    def test_blobs(self):
+        manifest = ("blobs = ['a', 'b']\nlayer = [{}, {entry = ["
+                    "{path = '/a', kind = 'file', blob = 0, at = 1, size = 2},"
+                    "{path = '/b', kind = 'file', blob = 1}]}]\n")
+        with mounted(manifest, [b"abc", b"xyz"]) as mount, mount.attach() as client:
+            with client.open("/a") as a, client.open("/b") as b:
+                self.assertEqual((a.read(), b.read()), (b"bc", b"xyz"))
+
+    def test_faults(self):
+        for manifest, fault in (("", "manifest: layers"), ("x", "manifest: not TOML"),
+                                ("layer = [{entry = [{}]}, {}]", "layer 0 entry 0: kind")):
+            with self.assertRaisesRegex(ValueError, f"^{re.escape(fault)}$"):
+                mounted(manifest)
+
+    def test_at_most_64_clients_and_none_of_a_closed_mount(self):
+        mount = mounted(TWO_EMPTY)
+        clients = [mount.attach() for _ in range(64)]
+        with self.assertRaises(OSError) as refused:
+            mount.attach()
+        self.assertEqual(refused.exception.errno, errno.ENFILE)
+        clients[5].close()
+        mount.attach().stat("/")
+        mount.close()
+        with self.assertRaises(ValueError):
+            mount.attach()
+        with self.assertRaises(ConnectionError):
+            clients[0].stat("/")
+
+    def test_threads_share_a_mount(self):
+        done = []
+
+        def work(number):
+            with mount.attach() as client:
+                for _ in range(100):
+                    client.mkdir(f"/t{number}")
+                    client.rmdir(f"/t{number}")
+            done.append(number)
+
+        with mounted(TWO_EMPTY) as mount:
+            threads = [threading.Thread(target=work, args=(n,)) for n in range(8)]
+            for thread in threads:
+                thread.start()
+            for thread in threads:
+                thread.join()
+            with mount.attach() as client:
+                self.assertEqual(client.listdir("/"), [])
+        self.assertEqual(sorted(done), list(range(8)))
+
+
+class Rows(unittest.TestCase):
+    """Each worked script that clients can make, as the program plays it."""
+
+    def setUp(self):
+        reason = real_server.why_not()
+        if reason:
+            self.skipTest(reason)
+
+    def test_rows(self):
+        count = 0
+        for name, manifest, script in scripts.rows(ROWS):
+            if "history" in manifest or "blob" in manifest:
+                continue
+            wanted, status = real_server.played(manifest, script)
+            if status != 0 or any(line.startswith("not attached") for line in wanted):
+                continue
+            with self.subTest(name), mounted(manifest) as mount:
+                self.assertEqual(scripts.played_through(mount.attach, script), wanted)
+            count += 1
+        self.assertGreater(count, 100)
+
+
+if __name__ == "__main__":
+    unittest.main()

@@ -1,0 +1,11 @@
+pub mod Blocks
+pub mod Calls
+pub mod Clients
+pub mod Copies
+pub mod Handled
+pub mod Held
+pub mod Jobs
+pub mod Manifests
+pub mod Moves
+pub mod Pieces
+pub mod Places

@@ -1,0 +1,53 @@
+-- The mount of what a manifest gave.
+use Rattle.std.proofs.Common.{◌≡◌, ℕ, Bool, not, List, ◌∷◌, Option, Some, None, IfSome, sym, ap, subst, map, is_none, is_some}
+use Rattle.toml.specs.Data.{Items, Members}
+use Rattle.toml.specs.Parse.{parse_document}
+use Rattle.layer_tree.specs.Tree.{Tree, layer_of, layers_given}
+use Rattle.merged_lookup.specs.declared.layers.Layers.{Layers}
+use Rattle.ov_wire.specs.ManifestLayers.{AreSpelled, IsTold, fault_of, manifest_of}
+use Rattle.ov_wire.specs.declared.manifest.fault.ManifestFault.{ManifestFault}
+use Rattle.ov_wire.specs.declared.manifest.fault.ManifestFault.TheVariants as manifest
+use Rattle.overlay_core.specs.declared.mounted.Core.{Core}
+use Rattle.watch_table.specs.declared.hook.Callback.{Ghosts as Callback}
+use Rattle.watch_table.specs.declared.hook.Rule.{Ghosts as Rule}
+use Rattle.ov_embedded.specs.Mounting.{IsMountOf, IsMounted, IsUnmountable, layers_told, of_manifest, pieces_of}
+
+-- a fault of the layers is one of the manifest, or memory ran out
+pub told_fault : (blobs : List (List ℕ)) (m : Members) (f : ManifestFault) →
+    IsTold (fault_of (manifest_of blobs m)) f → IsUnmountable blobs m (of_manifest f)
+told_fault blobs m f =
+    elim f as (λ x.
+    IsTold (fault_of (manifest_of blobs m)) x → IsUnmountable blobs m (of_manifest x)) [
+      | manifest.Memory e ↦ λ told. tt
+      | _ ↦ λ told. told
+    ]
+
+-- a mount is read-only where it is given no upper
+pub given_upper : (upper : Option Tree) (read_only : Bool) → read_only ≡ is_none upper →
+    not read_only ≡ is_some upper
+given_upper None read_only e = ap not e
+given_upper (Some U) read_only e = ap not e
+
+-- layers that were made of what a manifest gave hold what its entries say
+pub held_by : (limit : ℕ) (blobs : List (List ℕ)) (upper : Option Tree) (lowers : List Tree)
+    (l : Layers) (b : Bool) (items : Items) →
+    IfSome upper (λ given. l.upper ≡ given) → l.lowers.items ≡ lowers → b ≡ is_some upper →
+    AreSpelled limit blobs (layers_given upper lowers) items →
+    AreSpelled limit blobs (layers_told b l) items
+held_by limit blobs None lowers l b items above below has spelled =
+    subst (λ x. AreSpelled limit blobs (layers_told x l) items) (sym has)
+    (subst (λ (xs : List Tree). AreSpelled limit blobs (map layer_of xs) items) (sym below) spelled)
+held_by limit blobs (Some u) lowers l b items above below has spelled =
+    subst (λ x. AreSpelled limit blobs (layers_told x l) items) (sym has)
+    (subst (λ (x : Tree). AreSpelled limit blobs (layer_of x ∷ map layer_of l.lowers.items) items)
+    (sym above)
+    (subst (λ (xs : List Tree). AreSpelled limit blobs (layer_of u ∷ map layer_of xs) items)
+    (sym below) spelled))
+
+-- so of the bytes of the manifest and of its blobs'
+pub mounted_of : {F G : Type 0} {asks : Callback F} {rule : Rule G} (bytes all lengths : List ℕ)
+    (m : Members) (blobs : List (List ℕ)) (core : Core F G asks rule) →
+    parse_document bytes ≡ Some m → blobs ≡ pieces_of lengths all → IsMountOf blobs m core →
+    IsMounted bytes all lengths core
+mounted_of bytes all lengths m blobs core document parts mount =
+    (m, document, subst (λ b. IsMountOf b m core) parts mount)

@@ -1,0 +1,13 @@
+use Rattle.std.proofs.Common.{Err, refl}
+use Rattle.ov_embedded.specs.Moving.{ReadsOff}
+use Rattle.ov_embedded.specs.declared.outcome.Outcome.TheVariants as outcome
+use Rattle.ov_embedded.proofs.Handled.{through_some}
+use Rattle.ov_embedded.proofs.through_jobs.read_through.Goals as goal
+
+pub returns-clause-reads : goal.returns-clause-reads
+returns-clause-reads c =
+    let made = c.read-count in
+    through_some (Err outcome.NotMounted) (ReadsOff c.args.client c.args.descriptor c.args.room.now made.new.room)
+    c.args.handle.now.mounted c.of.result.mounted c.in-Some.mounted.value c.deref_mut.result.now
+    made.new.self made.new.self made.result c.in-Some.ensures.mounted
+    c.deref_mut.ensures.value made.ensures refl c.of.ensures

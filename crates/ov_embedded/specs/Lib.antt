@@ -1,0 +1,9 @@
+pub mod Attending
+pub mod Calling
+pub mod Holding
+pub mod Jobs
+pub mod Mounting
+pub mod Moving
+pub mod Placing
+pub mod Stepping
+pub mod Through
