@@ -2,14 +2,18 @@
 """bench/mounts.py OVERLAYD [BRIDGE]: programs on a mount of the bridge and of overlayfs, in turn.
 
 As root, with /dev/fuse, git, make and cc. OVERLAYD is the program, BRIDGE the bridge
-(out/overlayd-fuse). Each load runs on the bridge, on the kernel's overlayfs and, where it is
-installed, on fuse-overlayfs, over the same lower layer, each time on a new mount, in turn, ROUNDS
-times (variable, 5). Lower layers, uppers and the server's socket are on a tmpfs. The least time of
-each counts. `clone`, `make` and `rm` end with what was written being with the file system (`sync
--f`). What is printed is a table, in seconds, and the load of the machine.
+(out/overlayd-fuse). Each load runs on the bridge, on a server and, where it is built so, with the
+engine inside, without and with --poll, on the kernel's overlayfs and, where it is installed, on
+fuse-overlayfs, over the same lower layer, each time on a new mount, in turn, ROUNDS times
+(variable, 5). The variable MEMFS is a command that mounts a file system in memory on the directory
+behind it, and stays in the foreground; it joins them. Lower layers, uppers and the server's socket
+are on a tmpfs. The least time of each counts. `clone`, `make` and `rm` end with what was written
+being with the file system (`sync -f`). What is printed is a table, in seconds, and the load of the
+machine.
 """
 
 import os
+import shlex
 import shutil
 import subprocess
 import sys
@@ -32,6 +36,13 @@ LOADS = {
     "find again": ("find tree -type f -size +0 > /dev/null",
                    "find tree -type f -size +0 -perm -u=r > /dev/null"),
     "rm": ("true", "rm -r tree; sync -f ."),
+    "tar x": ("tar cf tree.tar tree; sync -f .", "mkdir out; tar xf tree.tar -C out; sync -f ."),
+    "cp -a": ("true", "cp -a tree copy; sync -f ."),
+    "grep -r": ("true", "grep -r nothing.of.this tree || true"),
+    "git status": ("true", "git -C repository status > /dev/null"),
+    "write 64 MiB": ("true", "dd if=/dev/zero of=large bs=1M count=64 status=none; sync -f ."),
+    "read 64 MiB": ("dd if=/dev/zero of=large bs=1M count=64 status=none; sync -f ."
+                    "; dd if=large iflag=nocache count=0 status=none", "cat large > /dev/null"),
 }
 
 
@@ -115,16 +126,47 @@ class Bridge(Mount):
 
     def begin(self):
         socket = os.path.join(self.folder, "socket")
-        self.start([self.overlayd, "serve", self.manifest, socket])
+        self.start([self.overlayd, "serve", self.manifest, socket, "--no-history"])
         self.wait_for(lambda: os.path.exists(socket))
         self.start([self.bridge, socket, self.at, "-f"])
         self.wait_for(lambda: os.path.ismount(self.at))
 
 
+class Inside(Bridge):
+    name = "bridge inside"
+    options_more = ()
+
+    def begin(self):
+        self.start([self.bridge, "--manifest", self.manifest, self.at, "-f", *self.options_more])
+        self.wait_for(lambda: os.path.ismount(self.at))
+
+
+class Polling(Inside):
+    name = "with --poll 15"
+    options_more = ("--poll", "15")
+
+
+class Memory(Mount):
+    name = "in memory"
+    program = os.environ.get("MEMFS")
+
+    def begin(self):
+        self.start([*shlex.split(self.program), self.at])
+        self.wait_for(lambda: os.path.ismount(self.at))
+        subprocess.run(["cp", "-a", self.lower + "/.", self.at], check=True)
+
+
+def has_engine(bridge):
+    """Whether a bridge was built with the engine."""
+    done = subprocess.run([bridge, "--manifest", os.devnull, os.devnull], stdin=subprocess.DEVNULL,
+                          capture_output=True, check=False)
+    return b"isn't built in" not in done.stderr
+
+
 def imported(lower, folder):
     manifest = os.path.join(folder, "mount.toml")
     subprocess.run([sys.executable, "-m", "overlayd.importer", "-q", "--redirect-dir", "on",
-                    "--history", "1000000", lower, "-o", manifest], check=True,
+                    "--file-limit", str(1 << 28), lower, "-o", manifest], check=True,
                    env=dict(os.environ, PYTHONPATH=os.path.join(ROOT, "clients", "python")))
     return manifest
 
@@ -145,22 +187,25 @@ def measured(kind, lower, load, folder):
 
 
 def table(kinds, times):
-    rest = [kind for kind in kinds if kind is not Bridge]
+    ours = Inside if Inside in kinds else Bridge
+    rest = [kind for kind in kinds if not issubclass(kind, Bridge)]
     print("| load | " + " | ".join(kind.name for kind in kinds)
-          + "".join(f" | bridge to {kind.name}" for kind in rest) + " |")
+          + "".join(f" | {ours.name} to {kind.name}" for kind in rest) + " |")
     print("|---" * (1 + len(kinds) + len(rest)) + "|")
     for load in LOADS:
         least = {kind: min(times[load, kind]) for kind in kinds}
         print(f"| `{load}` | " + " | ".join(f"{least[kind]:.3f}" for kind in kinds)
-              + "".join(f" | {least[Bridge] / least[kind]:.1f}" for kind in rest) + " |")
+              + "".join(f" | {least[ours] / least[kind]:.1f}" for kind in rest) + " |")
 
 
 def main(words):
     if not 1 <= len(words) <= 2 or os.geteuid() != 0:
         sys.exit(__doc__)
-    kinds = [Bridge, Kernel] + [FuseOverlayfs] * (shutil.which("fuse-overlayfs") is not None)
     Bridge.overlayd = os.path.abspath(words[0])
     Bridge.bridge = os.path.abspath((words + ["out/overlayd-fuse"])[1])
+    kinds = [Bridge, *([Inside, Polling] if has_engine(Bridge.bridge) else []), Kernel,
+             *([FuseOverlayfs] if shutil.which("fuse-overlayfs") else []),
+             *([Memory] if Memory.program else [])]
     folder = tempfile.mkdtemp()
     subprocess.run(["mount", "-t", "tmpfs", "tmpfs", folder], check=True)
     try:

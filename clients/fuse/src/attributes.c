@@ -192,7 +192,7 @@ void stat_of(const struct bridge *bridge, const struct node *node, struct stat *
 {
     const struct timespec *began = &bridge->began;
     memset(stat, 0, sizeof *stat);
-    stat->st_ino = node->number;
+    stat->st_ino = node->shown;
     stat->st_mode = type_of(node) | node->attr.mode;
     stat->st_nlink = node->attr.links;
     stat->st_uid = shown_id(&bridge->options.uids, node->attr.uid);

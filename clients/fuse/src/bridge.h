@@ -5,11 +5,17 @@
 #include "frames.h"
 
 #include <sys/stat.h>
+#include <sys/statvfs.h>
 #include <sys/types.h>
 #include <time.h>
 
 #define FUSE_USE_VERSION 35
 #include <fuse_lowlevel.h>
+
+/* The engine as a library, where the bridge is built with it. */
+#ifdef WITH_ENGINE
+#include <overlayd.h>
+#endif
 
 enum { SESSIONS_MAX = 64, ROOT = FUSE_ROOT_ID };
 
@@ -33,12 +39,23 @@ struct ids {
 };
 
 struct options {
-    const char *socket, *mountpoint;
+    const char *source, *mountpoint;  /* what is shown: a server's socket, or a manifest */
+    bool inside;                 /* it is a manifest: the engine runs in this process */
+    const char *upper, *save;    /* of a mount inside, or NULL */
+    uint64_t manifest_limit;     /* bytes of the manifest and of what it names */
+    uint64_t size;               /* bytes that a mount inside may grow by, or 0 */
     unsigned sessions, max_sessions, wait, keep;
+    unsigned poll;               /* microseconds in which it asks again before it sleeps */
     bool shared, times, devices, foreground, verbose;
     struct ids uids, gids;
-    char places[2][PATH_BYTES];  /* room for socket and mountpoint */
+    char places[2][PATH_BYTES];  /* room for source and mountpoint */
     int kernel;  /* a descriptor that is spoken to in the kernel's place, or -1 */
+};
+
+/* Where an object lies: its number in one of the layers, of which the upper is the first. Other
+   objects never share it at one time; a copy-up changes it. */
+struct place {
+    size_t layer, key;
 };
 
 struct bridge;
@@ -53,14 +70,24 @@ struct transport {
     /* Has the batch answered, and its replies judged; false where they aren't right. */
     bool (*exchange)(struct bridge *bridge, struct connection *connection);
     void (*drop)(struct bridge *bridge, struct connection *connection);
+    bool is_near;  /* a request costs next to nothing, so none is kept back */
+    /* Bytes without a frame, from where a descriptor stands, up to PIECE_MAX of them; an error
+       number, or 0. Not over a socket. */
+    int (*read)(struct bridge *bridge, const struct connection *connection, uint32_t descriptor,
+                void *bytes, size_t length, size_t *count);
+    int (*write)(struct bridge *bridge, const struct connection *connection, uint32_t descriptor,
+                 const void *bytes, size_t length, size_t *count);
+    /* Where an object lies; false where that isn't told, as over a socket. */
+    bool (*place)(struct bridge *bridge, const char *path, struct place *place);
 };
-extern const struct transport socket_transport;
+extern const struct transport socket_transport, inside_transport;
 
 /* A connection to the engine, which is a client of its own there. */
 struct connection {
     bool is_open;
     bool is_fresh;        /* it was asked something since it was last looked after */
     int socket;           /* of the transport over a socket */
+    uint64_t client;      /* its number, of the transport inside */
     unsigned wait;        /* as the socket was told it */
     unsigned generation;  /* how often it ended */
     uint64_t used;        /* descriptors of the server that are open, a bit for each */
@@ -76,6 +103,11 @@ struct times {
 /* A file, directory or link, for as long as the kernel or the bridge has to know it. */
 struct node {
     uint64_t number, lookups;
+    uint64_t shown;           /* its inode number */
+    struct place place;       /* where it lay when its inode number was made */
+    bool has_place;
+    bool is_linked;           /* it had several names then */
+    struct node *of_place;    /* the next of the same slot of places */
     struct node *next;        /* of the same slot */
     struct name *names;       /* where it stands; none once it was removed */
     struct name *children;    /* of a directory: the names that are known in it */
@@ -111,6 +143,7 @@ struct nodes {
     struct node **by_number;
     struct name **by_name;
     size_t number_slots, name_slots, node_count, name_count;
+    struct places *places;
     uint64_t last_number;
     uint64_t key[2];           /* of the hashes, which nobody else knows */
 };
@@ -126,6 +159,16 @@ struct opened {
     unsigned generation;       /* of the connection, when it was opened */
     uint32_t descriptor;
     uint64_t place;            /* at which the engine stands, or PLACE_UNKNOWN */
+    struct node *node;         /* where opens aren't told: whose it is, */
+    struct opened *newer, *older;  /* and those used before and after it */
+    bool is_listed;
+};
+
+/* What is open though the kernel doesn't tell opens, in the order of its last use. */
+struct untold {
+    bool is_on;
+    struct opened *newest, *oldest;
+    unsigned count;
 };
 
 /* What the kernel has open. */
@@ -154,13 +197,32 @@ struct kernel {
     uint64_t init;              /* the number of the request that began all */
     int signals;                /* a descriptor that tells signals, or -1 */
     int64_t next_care;          /* when connections are looked after next, in milliseconds */
+    int64_t next_turn;          /* when signals are looked at, though requests come */
     pid_t syncer;               /* a process that has the kernel write all that it holds, or 0 */
-    bool drains, unsaved;
+    bool drains, unsaved, in_background;
     int64_t last;               /* when it ends, though the kernel still asks, in milliseconds */
 };
 
+/* Where the upper is saved in the end: a name in a directory, which is open from the beginning. */
+struct saving {
+    int directory;
+    const char *name;
+};
+
+/* The memory of a mount in this process. */
+struct space {
+    uint64_t first;    /* bytes that were taken when it was mounted */
+    uint64_t spare;    /* bytes that may be asked for before it is counted anew */
+};
+enum { SPACE_OBJECT = 1024 };  /* about what an object or a change takes */
+
 struct bridge {
     struct options options;
+#ifdef WITH_ENGINE
+    ovl_mount engine;
+#endif
+    struct saving saving;
+    struct space space;
     const struct transport *transport;
     unsigned wait;              /* seconds that an answer may take now */
     struct connection connections[SESSIONS_MAX];
@@ -169,6 +231,7 @@ struct bridge {
     struct connection *asked;   /* the connection of the batch */
     bool told_full;             /* that the server's history is full */
     struct kernel kernel;
+    struct untold untold;
     struct batch batch;
     struct nodes nodes;
     struct handle **handles;    /* by number; a free one is NULL */
@@ -186,6 +249,8 @@ struct bridge {
 /* connections.c */
 bool connections_begin(struct bridge *bridge);
 void connections_end(struct bridge *bridge);
+/* What doesn't answer right isn't asked again: it is made anew, and what was open on it is lost. */
+void connection_drop(struct bridge *bridge, struct connection *connection);
 /* Asks each connection that was silent, so that the server doesn't end it. */
 void connections_care(struct bridge *bridge);
 /* Begins a batch on any connection, on one, or on one with a free descriptor: for a file that stays
@@ -204,11 +269,35 @@ int ask_end(struct bridge *bridge);
 int refused(const struct bridge *bridge, size_t number);
 int64_t milliseconds(void);
 
+/* inside.c */
+/* The engine in this process; a line tells why it can't be. */
+bool inside_begin(struct bridge *bridge);
+void inside_end(struct bridge *bridge);
+
+/* saving.c */
+/* Whether the upper can be saved where it has to be; a line tells why not. */
+bool saving_begin(struct bridge *bridge);
+/* Saves it, where that is asked for; whether all of it was. */
+bool save(struct bridge *bridge);
+
+/* space.c */
+void space_begin(struct bridge *bridge);
+/* ENOSPC where so many bytes more, and an object, would be more than --size says. */
+int space_for(struct bridge *bridge, uint64_t bytes);
+/* The same for a file that is to have this size in the upper. */
+int space_for_bytes(struct bridge *bridge, const struct node *node, uint64_t size);
+void space_told(const struct bridge *bridge, struct statvfs *stat);
+
 /* kernel.c */
 bool kernel_begin(struct bridge *bridge);
 void kernel_end(struct bridge *bridge);
+
+/* notify.c */
 /* Tells systemd, where that waits for it. */
 void notify(const char *text);
+/* Tells a line on standard error, or in the background to the system's log. */
+void tell(const struct bridge *bridge, const char *format, ...)
+    __attribute__((format(printf, 2, 3)));
 
 /* ids.c */
 bool ids_add(struct ids *ids, const char *text);
@@ -235,6 +324,20 @@ void node_settle(struct bridge *bridge, struct node *node);
 int path_of(const struct node *node, char *path);
 int path_in(const struct node *parent, const char *name, char *path);
 unsigned names_of(const struct node *node);
+
+/* places.c */
+bool places_begin(struct bridge *bridge);
+void places_end(struct bridge *bridge);
+/* The node for what was found or made there, at a name that isn't known: a new one, or that of
+   another name of the same file of the upper. */
+struct node *place_found(struct bridge *bridge, const struct node *parent, const char *name,
+                         const struct attr *attr);
+/* What was made there is new, whatever lay at its place before. */
+void place_made(struct bridge *bridge, struct node *node);
+/* The file lies in the upper now. */
+void place_touched(struct bridge *bridge, struct node *node);
+/* Before the node goes: its inode number stays that of the object, also where it was copied up. */
+void place_left(struct bridge *bridge, struct node *node);
 
 /* attributes.c */
 struct look {
@@ -286,6 +389,20 @@ struct opened *live_opened(const struct node *node, bool writes);
 void node_touched(struct bridge *bridge, struct node *node);
 void node_written(struct bridge *bridge, struct node *node);
 unsigned open_flags(const struct bridge *bridge, int flags);
+
+/* A node goes, and what is open of it. */
+void opened_end(struct bridge *bridge, struct node *node);
+
+/* untold.c */
+/* Whether opens needn't be told, where the kernel can do without. */
+void untold_begin(struct bridge *bridge);
+/* By which a file is read or written; an error number where there is none. */
+int untold_open(struct bridge *bridge, struct node *node, bool writes, struct opened **opened);
+/* What was opened as it was made. */
+void untold_new(struct bridge *bridge, struct node *node, struct opened *opened);
+/* Before the last name of a node goes. */
+int untold_hold(struct bridge *bridge, struct node *node);
+void untold_leave(struct bridge *bridge, struct opened *opened);
 
 /* privileges.c */
 /* Whether a change of bytes, as it is asked for, takes set-user-ID bits; and taking them. */

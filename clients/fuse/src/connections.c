@@ -19,7 +19,7 @@ int64_t milliseconds(void)
     return (int64_t)time.tv_sec * 1000 + time.tv_nsec / 1000000;
 }
 
-static void drop(struct bridge *bridge, struct connection *connection)
+void connection_drop(struct bridge *bridge, struct connection *connection)
 {
     if (!connection->is_open)
         return;
@@ -42,7 +42,7 @@ static bool is_ready(struct bridge *bridge, struct connection *connection)
 {
     if (connection->is_open && bridge->transport->ready(bridge, connection))
         return true;
-    drop(bridge, connection);
+    connection_drop(bridge, connection);
     return open_anew(bridge, connection) == 0;
 }
 
@@ -90,7 +90,7 @@ static bool attach_further(struct bridge *bridge)
         bridge->attached++;
         return true;
     }
-    drop(bridge, connection);
+    connection_drop(bridge, connection);
     bridge->epoch = epoch;  /* nothing that was known came by it */
     bridge->next_attach = second + AGAIN;
     return false;
@@ -168,7 +168,7 @@ static void tell_full(struct bridge *bridge)
 {
     if (!bridge->told_full)
         fprintf(stderr, "overlayd-fuse: %s: the server's history is full, and each call is refused "
-                "from now on; serve with --no-history\n", bridge->options.socket);
+                "from now on; serve with --no-history\n", bridge->options.source);
     bridge->told_full = true;
 }
 
@@ -202,7 +202,7 @@ int ask_end(struct bridge *bridge)
     bridge->trips++;
     bridge->frames += bridge->batch.count;
     if (!bridge->transport->exchange(bridge, bridge->asked)) {
-        drop(bridge, bridge->asked);
+        connection_drop(bridge, bridge->asked);
         return EIO;
     }
     account(bridge);
@@ -222,7 +222,7 @@ bool connections_begin(struct bridge *bridge)
     bridge->wait = bridge->options.wait < FIRST_WAIT ? bridge->options.wait : FIRST_WAIT;
     int fault = open_anew(bridge, &bridge->connections[0]);
     if (fault) {
-        fprintf(stderr, "overlayd-fuse: %s: %s\n", bridge->options.socket, strerror(fault));
+        fprintf(stderr, "overlayd-fuse: %s: %s\n", bridge->options.source, strerror(fault));
         return false;
     }
     while (bridge->attached < wanted
@@ -256,7 +256,7 @@ static void detach_idle(struct bridge *bridge)
         if (open_on(last) > 0)
             return;
         unsigned epoch = bridge->epoch;
-        drop(bridge, last);
+        connection_drop(bridge, last);
         bridge->epoch = epoch;
         bridge->attached--;
     }
@@ -276,6 +276,6 @@ void connections_care(struct bridge *bridge)
 void connections_end(struct bridge *bridge)
 {
     for (unsigned i = 0; i < SESSIONS_MAX; i++)
-        drop(bridge, &bridge->connections[i]);
+        connection_drop(bridge, &bridge->connections[i]);
     batch_free(&bridge->batch);
 }

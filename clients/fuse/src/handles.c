@@ -18,10 +18,10 @@ static bool make_room(struct bridge *bridge)
 
 struct handle *handle_new(struct bridge *bridge, struct node *node)
 {
-    size_t number = bridge->handle_free;
+    size_t number = bridge->handle_free ? bridge->handle_free : 1;  /* 0 is said of what has none */
     while (number < bridge->handle_room && bridge->handles[number])
         number++;
-    if (number == bridge->handle_room && !make_room(bridge))
+    if (number >= bridge->handle_room && !make_room(bridge))
         return NULL;
     struct handle *handle = calloc(1, sizeof *handle);
     if (!handle)

@@ -142,7 +142,8 @@ int keep_attributes(struct bridge *bridge, const struct node *node, struct kept 
 {
     char path[PATH_BYTES];
     *kept = NULL;
-    bool is_needed = node && node->handles && node->names && !node->names->of_node
+    bool is_open = node && (node->handles || bridge->untold.is_on);
+    bool is_needed = is_open && node->names && !node->names->of_node
         && node->bare != bridge->epoch;
     if (!is_needed)
         return 0;

@@ -19,7 +19,8 @@
 
 enum {
     DRAINED = 50,      /* milliseconds without a request, after which there are no more */
-    DRAINS_MOST = 2000 /* and milliseconds after which it ends though there are */
+    DRAINS_MOST = 2000,/* and milliseconds after which it ends though there are */
+    TURN = 20          /* milliseconds after which signals are looked at in any case */
 };
 
 /* What libfuse doesn't tell of a request. */
@@ -205,17 +206,53 @@ static bool is_asked(struct bridge *bridge, int descriptor)
     return waits[0].revents != 0;
 }
 
+static int64_t nanoseconds(void)
+{
+    struct timespec time;
+    clock_gettime(CLOCK_MONOTONIC, &time);
+    return (int64_t)time.tv_sec * 1000000000 + time.tv_nsec;
+}
+
+/* With --poll: tries for so long before it sleeps, since waking up takes longer than an answer.
+   Now and then all else has its turn. */
+static ssize_t read_soon(struct bridge *bridge, int descriptor, void *buffer, size_t room)
+{
+    struct kernel *kernel = &bridge->kernel;
+    int64_t end = nanoseconds() + (int64_t)bridge->options.poll * 1000;
+    ssize_t got;
+    if (milliseconds() >= kernel->next_turn) {
+        kernel->next_turn = milliseconds() + TURN;
+        errno = EAGAIN;
+        return -1;
+    }
+    do
+        got = read(descriptor, buffer, room);
+    while (got < 0 && errno == EAGAIN && nanoseconds() < end);
+    return got;
+}
+
+static ssize_t read_now(struct bridge *bridge, int descriptor, void *buffer, size_t room)
+{
+    return bridge->options.kernel >= 0 ? read_message(descriptor, buffer, room)
+        : read(descriptor, buffer, room);
+}
+
 static ssize_t read_request(int descriptor, void *buffer, size_t room, void *userdata)
 {
     struct bridge *bridge = userdata;
-    ssize_t got = -1;
+    bool polls = bridge->options.poll > 0 && bridge->options.kernel < 0;
     while (!fuse_session_exited(bridge->session)) {
-        if (!is_asked(bridge, descriptor))
-            continue;
-        if (fuse_session_exited(bridge->session))
-            break;
-        got = bridge->options.kernel >= 0 ? read_message(descriptor, buffer, room)
-            : read(descriptor, buffer, room);
+        ssize_t got = -1;
+        errno = EAGAIN;
+        if (polls && !bridge->kernel.drains)
+            got = read_soon(bridge, descriptor, buffer, room);
+        if (got < 0 && errno == EAGAIN) {
+            if (!is_asked(bridge, descriptor))
+                continue;
+            if (fuse_session_exited(bridge->session))
+                break;
+            got = read_now(bridge, descriptor, buffer, room);
+        }
         if (got >= 0)
             note_request(&bridge->kernel, buffer, (size_t)got);
         if (got >= 0 || (errno != EAGAIN && errno != EINTR && errno != ENOENT))
@@ -243,7 +280,7 @@ static bool hear_signals(struct bridge *bridge)
 }
 
 /* Into the background once the mount stands, so that who started the bridge can use it. */
-static bool go_to_background(void)
+static bool go_to_background(struct kernel *kernel)
 {
     pid_t child = fork();
     if (child > 0)
@@ -251,6 +288,7 @@ static bool go_to_background(void)
     if (child < 0)
         return false;
     setsid();
+    kernel->in_background = true;
     int nothing = open("/dev/null", O_RDWR);
     for (int i = 0; nothing >= 0 && i < 3; i++)
         dup2(nothing, i);
@@ -266,9 +304,9 @@ static bool mount_it(struct bridge *bridge)
     if (fuse_session_mount(bridge->session, options->mountpoint) != 0)
         return false;
     if (options->verbose)
-        fprintf(stderr, "overlayd-fuse: %s is mounted on %s, sessions: %u\n", options->socket,
+        fprintf(stderr, "overlayd-fuse: %s is mounted on %s, sessions: %u\n", options->source,
                 options->mountpoint, options->sessions);
-    if (!options->foreground && !go_to_background())
+    if (!options->foreground && !go_to_background(&bridge->kernel))
         return false;
     snprintf(text, sizeof text, "MAINPID=%ld\nREADY=1", (long)getpid());
     notify(text);

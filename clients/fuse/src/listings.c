@@ -277,7 +277,7 @@ static void add_dots(struct page *page, off_t *at)
 {
     struct fuse_entry_param entry = {.attr.st_mode = S_IFDIR};
     const struct name *name = page->parent->names;
-    uint64_t numbers[] = {page->parent->number, name ? name->parent->number : ROOT};
+    uint64_t numbers[] = {page->parent->shown, name ? name->parent->shown : ROOT};
     for (; *at < DOTS; (*at)++) {
         entry.attr.st_ino = numbers[*at];
         add(page, *at == 0 ? "." : "..", &entry, *at + 1);

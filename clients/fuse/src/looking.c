@@ -138,13 +138,11 @@ static void do_readlink(fuse_req_t request, fuse_ino_t number)
     fuse_reply_readlink(request, target);
 }
 
-/* The server has no such numbers; these are large enough for whoever asks before it writes. */
 static void do_statfs(fuse_req_t request, fuse_ino_t number)
 {
-    struct statvfs stat = {.f_bsize = 4096, .f_frsize = 4096, .f_namemax = 255};
+    struct statvfs stat;
     (void)number;
-    stat.f_blocks = stat.f_bfree = stat.f_bavail = 1 << 28;
-    stat.f_files = stat.f_ffree = stat.f_favail = 1 << 28;
+    space_told(bridge_of(request), &stat);
     fuse_reply_statfs(request, &stat);
 }
 
@@ -168,13 +166,21 @@ static void do_forget_multi(fuse_req_t request, size_t count, struct fuse_forget
     fuse_reply_none(request);
 }
 
-/* The kernel judges locks; which set-user-ID bits go it clears itself or tells. */
+/* The kernel judges locks; which set-user-ID bits go it clears itself or tells. With a bound it
+   keeps back nothing that is written, since that may have to be refused. */
 static void do_init(void *userdata, struct fuse_conn_info *connection)
 {
-    const struct bridge *bridge = userdata;
+    struct bridge *bridge = userdata;
     unsigned wanted = FUSE_CAP_READDIRPLUS;
     unsigned unwanted = FUSE_CAP_READDIRPLUS_AUTO | FUSE_CAP_HANDLE_KILLPRIV;
-    unsigned cached = FUSE_CAP_WRITEBACK_CACHE | FUSE_CAP_CACHE_SYMLINKS;
+    unsigned cached = FUSE_CAP_CACHE_SYMLINKS | (bridge->options.size ? 0
+                                                 : FUSE_CAP_WRITEBACK_CACHE);
+    if (bridge->options.size)
+        unwanted |= FUSE_CAP_WRITEBACK_CACHE;
+    if (connection->capable & FUSE_CAP_NO_OPEN_SUPPORT)
+        untold_begin(bridge);
+    if (bridge->untold.is_on)
+        unwanted |= FUSE_CAP_ATOMIC_O_TRUNC;  /* so that the cut of an open is told by itself */
     if (bridge->options.shared)
         unwanted |= cached;
     else
@@ -182,6 +188,7 @@ static void do_init(void *userdata, struct fuse_conn_info *connection)
     if (!bridge->options.shared)
         unwanted |= FUSE_CAP_AUTO_INVAL_DATA;
     connection->want = (connection->want | (connection->capable & wanted)) & ~unwanted;
+    space_begin(bridge);  /* all buffers of the bridge are there by now */
 }
 
 void looking_operations(struct fuse_lowlevel_ops *operations)

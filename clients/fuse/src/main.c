@@ -1,7 +1,9 @@
-/* overlayd-fuse: shows a mount that `overlayd serve` serves as a file system of this machine. */
+/* overlayd-fuse: shows a mount as a file system of this machine. The engine of the mount runs here,
+   or in `overlayd serve`. */
 #include "options.h"
 
 #include <stdio.h>
+#include <string.h>
 #include <unistd.h>
 
 /* The beginning of 1980, which no format of archives refuses. */
@@ -13,8 +15,8 @@ static int serve(struct bridge *bridge)
 {
     int status = fuse_session_loop(bridge->session) < 0 ? STATUS_FAILED : 0;
     if (bridge->kernel.unsaved) {
-        fprintf(stderr, "overlayd-fuse: %s: what was written last may be lost: the kernel could "
-                "not write all that it held\n", bridge->options.mountpoint);
+        tell(bridge, "%s: what was written last may be lost: the kernel could not write all that "
+             "it held", bridge->options.mountpoint);
         status = STATUS_FAILED;
     }
     return status;
@@ -33,8 +35,11 @@ static int run(struct bridge *bridge, struct fuse_args *arguments)
     bridge->session = fuse_session_new(arguments, &operations, sizeof operations, bridge);
     if (!bridge->session)
         return STATUS_USAGE;
-    int status = kernel_begin(bridge) ? serve(bridge) : STATUS_FAILED;
+    bool begun = kernel_begin(bridge);
+    int status = begun ? serve(bridge) : STATUS_FAILED;
     kernel_end(bridge);
+    if (begun && !save(bridge))
+        status = STATUS_FAILED;
     fuse_session_destroy(bridge->session);
     return status;
 }
@@ -42,13 +47,13 @@ static int run(struct bridge *bridge, struct fuse_args *arguments)
 static bool begin(struct bridge *bridge)
 {
     bridge->epoch = 1;
-    bridge->transport = &socket_transport;
+    bridge->transport = bridge->options.inside ? &inside_transport : &socket_transport;
     bridge->began = bridge->options.times ? LONG_AGO : now();
     if (!nodes_begin(bridge)) {
         fputs("overlayd-fuse: out of memory\n", stderr);
         return false;
     }
-    return connections_begin(bridge);
+    return (!bridge->options.inside || inside_begin(bridge)) && connections_begin(bridge);
 }
 
 static void end(struct bridge *bridge)
@@ -59,26 +64,48 @@ static void end(struct bridge *bridge)
     connections_end(bridge);
     handles_end(bridge);
     nodes_end(bridge);
+    inside_end(bridge);
+}
+
+/* A mount of a manifest has its name, so that mount(8) knows it by fstab(5). */
+static bool add_name(struct fuse_args *arguments, const struct options *options)
+{
+    char text[2 * PATH_BYTES + 16] = "-ofsname=";
+    char *to = text + strlen(text);
+    if (!options->inside)
+        return fuse_opt_insert_arg(arguments, 1, "-ofsname=overlayd") == 0;
+    for (const char *at = options->source; *at && to < text + sizeof text - 3; at++) {
+        if (*at == ',' || *at == '\\')
+            *to++ = '\\';
+        *to++ = *at;
+    }
+    *to = 0;
+    return fuse_opt_insert_arg(arguments, 1, text) == 0;
 }
 
 /* The kernel checks permissions by the modes and owners that it is told. */
-static bool add_defaults(struct fuse_args *arguments)
+static bool add_defaults(struct fuse_args *arguments, const struct options *options)
 {
     const char *defaults = geteuid() == 0
-        ? "-odefault_permissions,fsname=overlayd,subtype=overlayd,allow_other"
-        : "-odefault_permissions,fsname=overlayd,subtype=overlayd";
-    return fuse_opt_insert_arg(arguments, 1, defaults) == 0;
+        ? "-odefault_permissions,subtype=overlayd,allow_other"
+        : "-odefault_permissions,subtype=overlayd";
+    return add_name(arguments, options) && fuse_opt_insert_arg(arguments, 1, defaults) == 0;
 }
 
 int main(int count, char **words)
 {
     static struct bridge bridge;
     struct fuse_args arguments = FUSE_ARGS_INIT(0, NULL);
+    char *room[HELPER_WORDS];
     int status = STATUS_FAILED;
+    if (is_helper(words[0])) {
+        count = helper_words(count, words, room);
+        words = room;
+    }
     if (fuse_opt_add_arg(&arguments, words[0]) == 0
         && read_options(count, words, &bridge.options, &arguments, &status)) {
         status = STATUS_FAILED;
-        if (add_defaults(&arguments) && begin(&bridge))
+        if (add_defaults(&arguments, &bridge.options) && begin(&bridge))
             status = run(&bridge, &arguments);
         end(&bridge);
     }

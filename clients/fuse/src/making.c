@@ -44,7 +44,8 @@ static int begin(fuse_req_t request, fuse_ino_t parent, const char *name, mode_t
         return EOVERFLOW;
     if (gives_group)
         making->gid = making->parent->attr.gid;
-    return path_in(making->parent, name, bridge->path);
+    int fault = space_for(bridge, 0);
+    return fault ? fault : path_in(making->parent, name, bridge->path);
 }
 
 /* Gives what was made its owner, and only then its mode; what can't be given is removed again. */
@@ -108,6 +109,7 @@ static struct node *made_node(struct bridge *bridge, const struct making *making
         node->attr.uid = making->uid;
         node->attr.gid = making->gid;
     }
+    place_made(bridge, node);
     node_see(bridge, node, attr);
     node->touched = true;
     node->written = true;
@@ -200,6 +202,8 @@ static int link_on_server(struct bridge *bridge, struct node *node, struct node 
     if (!fault)
         fault = path_in(parent, name, bridge->path);
     if (!fault)
+        fault = space_for_bytes(bridge, node, node->attr.size);
+    if (!fault)
         fault = ask_any(bridge);
     if (fault)
         return fault;
@@ -278,41 +282,48 @@ static int create_on_server(struct bridge *bridge, struct making *making, int ho
     return open_made(bridge, making, file);
 }
 
-/* A handle on what was opened, or else nothing of it stays open. */
-static struct handle *created(struct bridge *bridge, const struct making *making,
-                              const struct file *file)
+/* A handle on what was opened, but where opens aren't told; or else nothing of it stays open. */
+static struct node *created(struct bridge *bridge, const struct making *making,
+                            const struct file *file, struct handle **handle)
 {
     struct node *node = made_node(bridge, making, &file->attr);
-    struct handle *handle = node ? handle_new(bridge, node) : NULL;
+    bool has_handle = !bridge->untold.is_on;
+    *handle = node && has_handle ? handle_new(bridge, node) : NULL;
     bridge->asked = file->connection;
-    if (handle)
-        handle->opened = opened_new(bridge, node, file->flags, file->descriptor);
-    if (handle && handle->opened) {
-        handle->opened->handles = 1;
-        handle->opened->generation = file->generation;
-        return handle;
+    struct opened *opened = node && (*handle || !has_handle)
+        ? opened_new(bridge, node, file->flags, file->descriptor) : NULL;
+    if (opened) {
+        opened->handles = has_handle;
+        opened->generation = file->generation;
+        if (*handle)
+            (*handle)->opened = opened;
+        else
+            untold_new(bridge, node, opened);
+        return node;
     }
-    if (!handle)
+    if (!*handle)
         file->connection->closing |= file->connection->used & UINT64_C(1) << file->descriptor;
     else
-        handle_free(bridge, handle);
+        handle_free(bridge, *handle);
     return NULL;
 }
 
-static void reply_created(fuse_req_t request, struct bridge *bridge, struct handle *handle,
-                          struct fuse_file_info *info)
+static void reply_created(fuse_req_t request, struct bridge *bridge, struct node *node,
+                          struct handle *handle, struct fuse_file_info *info)
 {
     struct fuse_entry_param entry;
-    struct node *node = handle->node;
     entry_of(bridge, node, &entry);
-    info->fh = handle->number;
+    info->fh = handle ? handle->number : 0;
     info->direct_io = bridge->options.shared;
     info->keep_cache = !bridge->options.shared;
     node->lookups++;
-    if (fuse_reply_create(request, &entry, info) != 0) {
-        node->lookups--;
+    if (fuse_reply_create(request, &entry, info) == 0)
+        return;
+    node->lookups--;
+    if (handle)
         handle_free(bridge, handle);
-    }
+    else
+        node_settle(bridge, node);
 }
 
 static void do_create(fuse_req_t request, fuse_ino_t parent, const char *name, mode_t mode,
@@ -324,16 +335,17 @@ static void do_create(fuse_req_t request, fuse_ino_t parent, const char *name, m
     int fault = begin(request, parent, name, mode, &making);
     if (!fault)
         fault = create_on_server(bridge, &making, info->flags, &file);
-    struct handle *handle = fault ? NULL : created(bridge, &making, &file);
-    if (!handle) {
+    struct handle *handle = NULL;
+    struct node *node = fault ? NULL : created(bridge, &making, &file, &handle);
+    if (!node) {
         fuse_reply_err(request, fault ? fault : ENOMEM);
         return;
     }
     if (making.was_there && (file.flags & OPEN_EMPTY) && takes_bits(bridge))
-        take_bits(bridge, handle->node);
-    keep_meta(bridge, handle->node);
+        take_bits(bridge, node);
+    keep_meta(bridge, node);
     keep_meta(bridge, making.parent);
-    reply_created(request, bridge, handle, info);
+    reply_created(request, bridge, node, handle, info);
 }
 
 void making_operations(struct fuse_lowlevel_ops *operations)

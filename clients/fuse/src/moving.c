@@ -3,6 +3,7 @@
 
 #include <errno.h>
 #include <stdio.h>
+#include <string.h>
 
 #ifndef RENAME_NOREPLACE
 #define RENAME_NOREPLACE 1
@@ -29,11 +30,18 @@ static void lose(struct bridge *bridge, struct node *parent, const char *name, s
         keep_meta(bridge, node);
 }
 
-/* What isn't there is told by the call itself. */
+/* What isn't there is told by the call itself. The paths of the call are kept beside. */
 static int keep_before(struct bridge *bridge, const struct node *parent, const char *name,
                        struct kept **kept)
 {
-    int fault = keep_attributes(bridge, node_at(bridge, parent, name), kept);
+    char path[PATH_BYTES];
+    struct node *node = node_at(bridge, parent, name);
+    int fault = keep_attributes(bridge, node, kept);
+    if (!fault && bridge->untold.is_on) {
+        memcpy(path, bridge->path, sizeof path);
+        fault = untold_hold(bridge, node);
+        memcpy(bridge->path, path, sizeof path);
+    }
     return fault == ENOENT || fault == ENOTDIR ? 0 : fault;
 }
 

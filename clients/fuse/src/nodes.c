@@ -29,7 +29,7 @@ bool nodes_begin(struct bridge *bridge)
         return false;
     root->lookups = 1;
     root->attr.kind = KIND_DIRECTORY;
-    return true;
+    return places_begin(bridge);
 }
 
 void nodes_end(struct bridge *bridge)
@@ -43,11 +43,13 @@ void nodes_end(struct bridge *bridge)
     for (size_t i = 0; nodes->by_number && i < nodes->number_slots; i++)
         for (struct node *node = nodes->by_number[i], *next; node; node = next) {
             next = node->next;
+            opened_end(bridge, node);
             kept_free(node->kept);
             free(node);
         }
     free(nodes->by_name);
     free(nodes->by_number);
+    places_end(bridge);
 }
 
 /* The tables grow where there is memory for it; else their slots have longer chains. */
@@ -101,7 +103,7 @@ struct node *node_new(struct bridge *bridge)
     if (!node)
         return NULL;
     grow_numbers(nodes);
-    node->number = ++nodes->last_number;
+    node->number = node->shown = ++nodes->last_number;
     struct node **slot = &nodes->by_number[node->number % nodes->number_slots];
     node->next = *slot;
     *slot = node;
@@ -227,12 +229,13 @@ struct node *node_found(struct bridge *bridge, struct node *parent, const char *
         return node;
     if (node)
         node_unname(bridge, parent, text);
-    node = node_new(bridge);
+    node = place_found(bridge, parent, text, attr);
+    bool is_new = node && !node->names;
     if (node && !node_name(bridge, parent, text, node)) {
-        node_free(&bridge->nodes, node);
+        node_settle(bridge, node);
         return NULL;
     }
-    if (node)
+    if (is_new)
         node->attr = *attr;
     return node;
 }
@@ -245,6 +248,8 @@ void node_settle(struct bridge *bridge, struct node *node)
         if (node->names && (is_kept || node->names->of_node))
             return;
         struct node *parent = NULL;
+        place_left(bridge, node);
+        opened_end(bridge, node);
         if (node->names) {
             parent = node->names->parent;
             name_free(&bridge->nodes, name_slot(&bridge->nodes, parent, node->names->text));

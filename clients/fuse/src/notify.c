@@ -1,11 +1,28 @@
-/* What systemd is told, as sd_notify(3) does it. */
+/* What is told: systemd, as sd_notify(3) does it, and in a line who runs the bridge. */
 #include "bridge.h"
 
+#include <stdarg.h>
+#include <stdio.h>
 #include <stdlib.h>
 #include <string.h>
 #include <sys/socket.h>
 #include <sys/un.h>
+#include <syslog.h>
 #include <unistd.h>
+
+/* In the background nobody reads standard error, so the system's log is told. */
+void tell(const struct bridge *bridge, const char *format, ...)
+{
+    char text[2 * PATH_BYTES];
+    va_list values;
+    va_start(values, format);
+    vsnprintf(text, sizeof text, format, values);
+    va_end(values);
+    if (bridge->kernel.in_background)
+        syslog(LOG_DAEMON | LOG_ERR, "%s", text);
+    else
+        fprintf(stderr, "overlayd-fuse: %s\n", text);
+}
 
 void notify(const char *text)
 {

@@ -58,7 +58,8 @@ static void close_later(struct bridge *bridge, const struct opened *opened)
     if (!is_alive(opened))
         return;
     connection->closing |= UINT64_C(1) << opened->descriptor;
-    if (bridge->options.shared && ask_on(bridge, connection) == 0)
+    bool is_now = bridge->options.shared || bridge->transport->is_near;
+    if (is_now && ask_on(bridge, connection) == 0)
         ask_end(bridge);
 }
 
@@ -71,8 +72,15 @@ void opened_release(struct bridge *bridge, struct node *node, struct opened *ope
     while (*at != opened)
         at = &(*at)->next;
     *at = opened->next;
+    untold_leave(bridge, opened);
     close_later(bridge, opened);
     free(opened);
+}
+
+void opened_end(struct bridge *bridge, struct node *node)
+{
+    while (node->opened)
+        opened_release(bridge, node, node->opened);
 }
 
 struct opened *live_opened(const struct node *node, bool writes)
@@ -122,6 +130,7 @@ void node_touched(struct bridge *bridge, struct node *node)
     if (node->touched || node->attr.kind != KIND_FILE)
         return;
     node->touched = true;
+    place_touched(bridge, node);
     reopen_readers(bridge, node);
 }
 
@@ -132,6 +141,7 @@ void node_written(struct bridge *bridge, struct node *node)
         return;
     node->touched = true;
     node->written = true;
+    place_touched(bridge, node);
     reopen_readers(bridge, node);
 }
 

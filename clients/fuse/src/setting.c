@@ -42,8 +42,11 @@ static void ask_size(struct bridge *bridge, const struct setting *setting)
         ask_truncate(&bridge->batch, setting->opened->descriptor, size);
         return;
     }
-    ask_opening(bridge, OPEN_WRITE, 0, bridge->path, &descriptor);
-    ask_truncate(&bridge->batch, descriptor, size);
+    bool is_emptied = size == 0 && bridge->transport->is_near;  /* then nothing is copied up */
+    ask_opening(bridge, is_emptied ? OPEN_WRITE | OPEN_EMPTY : OPEN_WRITE, 0, bridge->path,
+                &descriptor);
+    if (!is_emptied)
+        ask_truncate(&bridge->batch, descriptor, size);
     ask_closing(bridge, descriptor);
 }
 
@@ -51,6 +54,10 @@ static int begin(struct bridge *bridge, struct setting *setting)
 {
     struct node *node = setting->node;
     if (asks(setting, FUSE_SET_ATTR_SIZE)) {
+        if (bridge->untold.is_on && (!setting->by_path || setting->wanted->st_size > 0)) {
+            int fault = untold_open(bridge, setting->node, true, &setting->opened);
+            return fault ? fault : ask_opened(bridge, setting->opened);
+        }
         if (setting->opened && !is_alive(setting->opened))
             return EIO;
         if (!setting->opened || setting->opened->access == OPEN_READ)
@@ -124,6 +131,16 @@ static void set_times(struct bridge *bridge, const struct setting *setting)
         node->times.status = wanted->st_ctim;
 }
 
+/* A change takes room for what is copied up by it, and a longer file for what it gets; a cut, which
+   gives some back, is never refused. */
+static int space_for_change(struct bridge *bridge, const struct setting *setting)
+{
+    const struct node *node = setting->node;
+    uint64_t size = asks(setting, FUSE_SET_ATTR_SIZE) ? (uint64_t)setting->wanted->st_size
+        : node->attr.size;
+    return node->attr.kind == KIND_FILE ? space_for_bytes(bridge, node, size) : 0;
+}
+
 static int set(struct bridge *bridge, struct setting *setting)
 {
     bool changes = asks(setting, SET_CALLS)
@@ -131,7 +148,9 @@ static int set(struct bridge *bridge, struct setting *setting)
     bool looks = setting->by_path && !is_sure(bridge, setting->node);
     if (asks(setting, FUSE_SET_ATTR_MODE) && setting->node->attr.kind == KIND_LINK)
         return EOPNOTSUPP;
-    int fault = changes || looks ? set_on_server(bridge, setting) : 0;
+    int fault = changes ? space_for_change(bridge, setting) : 0;
+    if (!fault && (changes || looks))
+        fault = set_on_server(bridge, setting);
     if (fault) {
         setting->node->sure = 0;  /* some of it may have been made */
         return fault;

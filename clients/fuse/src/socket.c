@@ -29,10 +29,10 @@ static void set_wait(struct bridge *bridge, struct connection *connection)
 static int open_socket(struct bridge *bridge, struct connection *connection)
 {
     struct sockaddr_un address = {.sun_family = AF_UNIX};
-    size_t length = strlen(bridge->options.socket);
+    size_t length = strlen(bridge->options.source);
     if (length >= sizeof address.sun_path)
         return ENAMETOOLONG;
-    memcpy(address.sun_path, bridge->options.socket, length + 1);
+    memcpy(address.sun_path, bridge->options.source, length + 1);
     int descriptor = socket(AF_UNIX, SOCK_STREAM | SOCK_CLOEXEC, 0);
     if (descriptor < 0)
         return errno;

@@ -1,5 +1,7 @@
 /* The operations on attributes. Those of the classes `security.` and `trusted.` are kept under
-   names of the bridge's own among the user attributes, since the engine has no others. */
+   names of the bridge's own among the user attributes, since the engine has no others; and so are
+   those of the class `user.` whose values no manifest can say, where the upper is the bridge's to
+   save: such a name is that one's twin, and never are both there. */
 #include "bridge.h"
 
 #include <errno.h>
@@ -73,6 +75,44 @@ static bool from_digits(const char *digits, size_t length, char *bytes)
     return fits;
 }
 
+/* Twins. */
+
+static size_t follow_of(unsigned char byte)
+{
+    return byte < 0x80 ? 0 : byte >= 0xc2 && byte < 0xe0 ? 1 : byte >= 0xe0 && byte < 0xf0 ? 2
+        : byte >= 0xf0 && byte < 0xf5 ? 3 : SIZE_MAX;
+}
+
+/* UTF-8 as a manifest has it: the shortest form, no surrogates, nothing beyond U+10FFFF. */
+static bool is_utf8(const char *bytes, size_t length)
+{
+    const unsigned char *at = (const unsigned char *)bytes;
+    for (size_t i = 0, follow; i < length; i += 1 + follow) {
+        follow = follow_of(at[i]);
+        if (follow > length - i - 1)
+            return false;
+        for (size_t k = 1; k <= follow; k++)
+            if ((at[i + k] & 0xc0) != 0x80)
+                return false;
+        bool is_wrong = (at[i] == 0xe0 && at[i + 1] < 0xa0) || (at[i] == 0xed && at[i + 1] > 0x9f)
+            || (at[i] == 0xf0 && at[i + 1] < 0x90) || (at[i] == 0xf4 && at[i + 1] > 0x8f);
+        if (is_wrong)
+            return false;
+    }
+    return true;
+}
+
+static bool twin_of(const struct bridge *bridge, const struct asked *asked, struct asked *twin)
+{
+    if (!bridge->transport->is_near || asked->is_other
+        || strlen(OTHER) + strlen(asked->name) >= sizeof twin->name)
+        return false;
+    *twin = (struct asked){.node = asked->node, .is_other = true};
+    strcpy(twin->name, OTHER);
+    strcat(twin->name, asked->name);
+    return true;
+}
+
 /* Whether it is known that there is nothing to be shown, so that nobody has to be asked. */
 static bool is_bare(const struct bridge *bridge, const struct node *node)
 {
@@ -132,11 +172,31 @@ static int get(struct bridge *bridge, const struct asked *asked, const char **va
     return fault;
 }
 
+/* The value as it is shown, for which there may be need of room. */
+static int get_shown(struct bridge *bridge, const struct asked *asked, char *room,
+                     const char **value, size_t *length)
+{
+    struct asked twin;
+    bool is_digits = asked->is_other;
+    int fault = get(bridge, asked, value, length);
+    if (fault == ENODATA && twin_of(bridge, asked, &twin)) {
+        is_digits = true;
+        fault = get(bridge, &twin, value, length);
+    }
+    if (fault || !is_digits)
+        return fault;
+    fault = from_digits(*value, *length, room) ? 0 : ENODATA;
+    *value = room;
+    *length /= 2;
+    return fault;
+}
+
 static int must_be(struct bridge *bridge, const struct asked *asked, int flags)
 {
+    char room[OTHER_BYTES];
     const char *value;
     size_t length;
-    int fault = get(bridge, asked, &value, &length);
+    int fault = get_shown(bridge, asked, room, &value, &length);
     if (fault && fault != ENODATA)
         return fault;
     if (fault ? flags & XATTR_REPLACE : flags & XATTR_CREATE)
@@ -184,24 +244,44 @@ static void note_change(struct bridge *bridge, struct node *node)
     keep_meta(bridge, node);
 }
 
+/* What a manifest can't say goes to the twin, and the other of the two goes. */
+static int set_one(struct bridge *bridge, struct asked *asked, const char *value, size_t size)
+{
+    char digits[2 * OTHER_BYTES];
+    struct asked twin, other = *asked;
+    bool has_twin = twin_of(bridge, asked, &twin);
+    bool is_said = !has_twin || is_nameless(asked->node) || is_utf8(value, size);
+    other = is_said ? twin : *asked;
+    if (!is_said)
+        *asked = twin;
+    if (size > (asked->is_other ? OTHER_BYTES : UINT16_MAX))
+        return ENOSPC;
+    if (asked->is_other) {
+        to_digits(value, size, digits);
+        value = digits;
+        size *= 2;
+    }
+    bool has_none = is_bare(bridge, asked->node);
+    int fault = set(bridge, asked, value, size);
+    if (!fault && has_twin && !has_none)
+        drop(bridge, &other);
+    return fault;
+}
+
 static void do_setxattr(fuse_req_t request, fuse_ino_t number, const char *name,
                         const char *value, size_t size, int flags)
 {
     struct bridge *bridge = bridge_of(request);
     struct asked asked = {.node = node_of(bridge, number)};
-    char digits[2 * OTHER_BYTES];
     int fault = asked.node ? take_name(&asked, name, EPERM) : ESTALE;
     if (!fault && size > (asked.is_other ? OTHER_BYTES : UINT16_MAX))
         fault = ENOSPC;
-    if (!fault && asked.is_other) {
-        to_digits(value, size, digits);
-        value = digits;
-        size *= 2;
-    }
     if (!fault && flags)
         fault = must_be(bridge, &asked, flags);
     if (!fault)
-        fault = set(bridge, &asked, value, size);
+        fault = space_for(bridge, size);
+    if (!fault)
+        fault = set_one(bridge, &asked, value, size);
     if (!fault)
         note_change(bridge, asked.node);
     fuse_reply_err(request, as_xattr(fault));
@@ -210,10 +290,15 @@ static void do_setxattr(fuse_req_t request, fuse_ino_t number, const char *name,
 static void do_removexattr(fuse_req_t request, fuse_ino_t number, const char *name)
 {
     struct bridge *bridge = bridge_of(request);
-    struct asked asked = {.node = node_of(bridge, number)};
+    struct asked twin, asked = {.node = node_of(bridge, number)};
     int fault = asked.node ? take_name(&asked, name, ENODATA) : ESTALE;
     if (!fault)
         fault = drop(bridge, &asked);
+    if ((!fault || fault == ENODATA) && asked.node && twin_of(bridge, &asked, &twin)
+        && begins(asked.name, "user.")) {
+        int other = drop(bridge, &twin);
+        fault = fault ? other : 0;
+    }
     if (!fault)
         note_change(bridge, asked.node);
     fuse_reply_err(request, as_xattr(fault));
@@ -235,15 +320,10 @@ static void do_getxattr(fuse_req_t request, fuse_ino_t number, const char *name,
     struct asked asked = {.node = node_of(bridge, number)};
     const char *value;
     size_t length;
-    char bytes[OTHER_BYTES];
+    char room[OTHER_BYTES];
     int fault = asked.node ? take_name(&asked, name, ENODATA) : ESTALE;
     if (!fault)
-        fault = get(bridge, &asked, &value, &length);
-    if (!fault && asked.is_other) {
-        fault = from_digits(value, length, bytes) ? 0 : ENODATA;
-        value = bytes;
-        length /= 2;
-    }
+        fault = get_shown(bridge, &asked, room, &value, &length);
     if (fault)
         fuse_reply_err(request, fault);
     else
@@ -254,8 +334,16 @@ static void do_getxattr(fuse_req_t request, fuse_ino_t number, const char *name,
 struct shown {
     char text[LIST_MAX];
     size_t length;
-    bool is_root, is_full;
+    bool is_root, is_full, has_twins;
 };
+
+static bool is_there(const struct shown *shown, const char *name)
+{
+    for (size_t at = 0; at < shown->length; at += strlen(shown->text + at) + 1)
+        if (strcmp(shown->text + at, name) == 0)
+            return true;
+    return false;
+}
 
 static void show(struct shown *shown, const char *name, size_t length)
 {
@@ -265,11 +353,12 @@ static void show(struct shown *shown, const char *name, size_t length)
     memcpy(own, name, length);
     own[length] = 0;
     const char *at = begins(own, OTHER) ? own + strlen(OTHER) : own;
+    bool is_twin = at != own && shown->has_twins && begins(at, "user.") && !begins(at, OWN);
     bool is_hidden = at == own ? begins(own, OWN)
-        : !is_other(at) || (begins(at, "trusted.") && !shown->is_root);
+        : !(is_other(at) || is_twin) || (begins(at, "trusted.") && !shown->is_root);
     size_t count = strlen(at) + 1;
     shown->is_full |= count > sizeof shown->text - shown->length;
-    if (is_hidden || shown->is_full)
+    if (is_hidden || shown->is_full || is_there(shown, at))
         return;
     memcpy(shown->text + shown->length, at, count);
     shown->length += count;
@@ -304,7 +393,8 @@ static void do_listxattr(fuse_req_t request, fuse_ino_t number, size_t size)
 {
     struct bridge *bridge = bridge_of(request);
     struct node *node = node_of(bridge, number);
-    struct shown shown = {.is_root = bridge->kernel.caller == 0};
+    struct shown shown = {.is_root = bridge->kernel.caller == 0,
+                          .has_twins = bridge->transport->is_near};
     int fault = node ? list(bridge, node, &shown) : ESTALE;
     if (!fault && shown.is_full)
         fault = E2BIG;

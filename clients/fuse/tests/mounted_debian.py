@@ -16,8 +16,9 @@ import real_server
 from overlayd.exporter.command import main as export_command
 from overlayd.importer.command import main as import_command
 
+from .bridges import INSIDE, of_sockets
 from .kernel import WAIT
-from .mounts import Mounted, tree, why_not
+from .mounts import Mounted, times, tree, why_not
 
 DEBIAN = os.environ.get("DEBIAN")
 PATIENCE = WAIT * 30
@@ -65,7 +66,10 @@ class Root(Mounted):
         super().__init__(lambda base: None, "--times", overlay=False)
 
     def serve(self, base):
-        server = real_server.Server(imported(self.path("mount.toml"), *self.sources))
+        text = imported(self.path("mount.toml"), *self.sources)
+        if INSIDE:
+            return None
+        server = real_server.Server(text)
         server.client().close()
         return server
 
@@ -155,15 +159,25 @@ class Debian(unittest.TestCase):
             ./hello""")
         self.assertEqual(told, "built\n")
 
-    def test_the_export_over_the_import_is_the_same_tree(self):
-        self.root.run("""
+    CHANGES = """
             rm -r /usr/share/doc/base-files
             echo changed >> /etc/hostname.changed
             mv /etc/skel /etc/skel.moved
             mkdir /etc/skel; echo new > /etc/skel/new
             chmod 700 /usr/share/base-files
             ln -s hostname.changed /etc/link; cp /usr/bin/perl /root/perl
-            rm /usr/bin/perl; cp -a /root/perl /usr/bin/perl""")
+            rm /usr/bin/perl; cp -a /root/perl /usr/bin/perl"""
+
+    @unittest.skipUnless(INSIDE, "nothing is saved by a server's mount")
+    def test_a_mount_of_what_was_saved_is_the_same_tree(self):
+        self.root.run(self.CHANGES)
+        before = tree(self.root.here, link_owners=False), times(self.root.here)
+        self.root.remount()
+        self.assertEqual((tree(self.root.here, link_owners=False), times(self.root.here)), before)
+
+    @of_sockets
+    def test_the_export_over_the_import_is_the_same_tree(self):
+        self.root.run(self.CHANGES)
         subprocess.run(["sync", "-f", self.root.here], check=True)
         layer = self.root.path("change.tar")
         with contextlib.redirect_stderr(io.StringIO()) as told:

@@ -13,7 +13,7 @@ import unittest
 
 import real_server
 
-from .bridges import ENVIRONMENT, PROGRAM
+from .bridges import ENVIRONMENT, PROGRAM, of_sockets
 from .kernel import WAIT
 from .mounts import why_not
 
@@ -36,6 +36,7 @@ def as_nobody(*words):
     return done.returncode, done.stdout.strip(), done.stderr.strip()
 
 
+@of_sockets
 class Life(unittest.TestCase):
     def setUp(self):
         reason = why_not()

@@ -11,6 +11,7 @@ import sys
 import unittest
 
 from .kernel import WAIT
+from .bridges import of_sockets
 from .mounts import Mounted, MountedCase, times, tree, trips, why_not
 
 OUTER = {name: value for name, value in os.environ.items() if not name.startswith("MAKE")}
@@ -247,6 +248,7 @@ class Limits(AloneCase):
                      os.O_TMPFILE | os.O_RDWR)
 
 
+@of_sockets
 class RoundTrips(AloneCase):
     """With the kernel's own caching, nothing of it filled."""
 

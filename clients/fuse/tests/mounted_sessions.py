@@ -8,12 +8,14 @@ import unittest
 
 import real_server
 
+from .bridges import of_sockets
 from .kernel import WAIT
 from .mounts import why_not
 
 EXAMPLES = real_server.ROOT / "examples"
 
 
+@of_sockets
 class Sessions(unittest.TestCase):
     @classmethod
     def setUpClass(cls):

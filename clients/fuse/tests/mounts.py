@@ -14,7 +14,7 @@ import unittest
 import real_server
 from overlayd.importer.command import main as import_command
 
-from .bridges import ENVIRONMENT, NO_SERVER, PATIENCE, PROGRAM
+from .bridges import ENGINE, ENVIRONMENT, INSIDE, NO_SERVER, PATIENCE, PROGRAM, why_no_engine
 from .kernel import WAIT
 
 FUSE = "/dev/fuse"
@@ -23,8 +23,9 @@ OVERLAY = "redirect_dir=on,index=off,xino=off,metacopy=off"
 
 def why_not():
     """Why nothing can be mounted here, or None."""
-    if NO_SERVER:
-        return NO_SERVER
+    reason = why_no_engine() if INSIDE else NO_SERVER
+    if reason:
+        return reason
     if os.geteuid() != 0:
         return "not root"
     if not os.path.exists(FUSE):
@@ -69,19 +70,31 @@ class Mounted:
         return os.path.join(self.folder, name)
 
     def serve(self, base):
+        """A server of the directory; inside there is none, but a manifest."""
         imported = self.path("imported.toml")
         with contextlib.redirect_stderr(io.StringIO()) as told:
             if import_command(["-q", "--no-times", str(base), "-o", imported]) != 0:
                 raise AssertionError(told.getvalue())
         manifest = pathlib.Path(imported).read_text("utf-8")
-        server = real_server.Server('history = 1000000\nredirect_dir = "on"\n' + manifest)
+        manifest = 'history = 1000000\nredirect_dir = "on"\n' + manifest
+        if INSIDE:
+            pathlib.Path(self.path("mount.toml")).write_text(manifest, "utf-8")
+            return None
+        server = real_server.Server(manifest)
         server.client().close()
         return server
 
+    def words(self):
+        """What a bridge shows; inside it goes on with what another one has saved."""
+        if not INSIDE:
+            return [PROGRAM, self.server.path]
+        saved = self.path("saved.toml")
+        upper = ["--upper", saved] if os.path.exists(saved) else []
+        return [ENGINE, "--manifest", self.path("mount.toml"), "--save", saved, *upper]
+
     def mount(self):
         self.process = subprocess.Popen(
-            [PROGRAM, self.server.path, self.here, "-f", "--verbose", "--wait", PATIENCE,
-             *self.options],
+            [*self.words(), self.here, "-f", "--verbose", "--wait", PATIENCE, *self.options],
             stdin=subprocess.DEVNULL, stderr=subprocess.PIPE, text=True, env=ENVIRONMENT)
         limit = time.monotonic() + WAIT
         while not os.path.ismount(self.here):
@@ -106,7 +119,8 @@ class Mounted:
         return told
 
     def remount(self):
-        """A new bridge and an empty cache: what is there then is what the server has."""
+        """A new bridge and an empty cache: what is there then is what the server has, or what was
+        saved."""
         self.unmount()
         self.mount()
 
@@ -117,7 +131,8 @@ class Mounted:
         finally:
             if self.has_overlay:
                 subprocess.run(["umount", "--lazy", self.there], check=True)
-            self.server.__exit__(None, None, None)
+            if self.server:
+                self.server.__exit__(None, None, None)
             shutil.rmtree(self.folder)
 
 
@@ -192,6 +207,8 @@ class MountedCase(unittest.TestCase):
     @classmethod
     def setUpClass(cls):
         reason = why_not() or why_no_overlay()
+        if not reason and INSIDE and "--shared" in cls.OPTIONS:
+            reason = "--shared is for a server"
         if reason:
             raise unittest.SkipTest(reason)
         cls.mounted = Mounted(cls.fill, *cls.OPTIONS)

@@ -4,7 +4,7 @@ import errno
 import os
 import unittest
 
-from .bridges import Bridge, ServerCase
+from .bridges import Bridge, INSIDE, ServerCase
 from .kernel import ROOT, SET_MODE, SET_UID
 
 CREATE, REPLACE = 1, 2
@@ -110,7 +110,8 @@ class Attributes(ServerCase):
             self.refused(errno.ENODATA, kernel.getxattr, f, "security.capability")
 
     def test_what_others_wrote_under_the_bridges_names(self):
-        """Only names of these two classes are shown, and values of the form that a bridge writes."""
+        """Names of these two classes alone are shown, inside also those of users, and values of the
+        form that a bridge writes."""
         server = self.served()
         client = self.client(server)
         for name in ("user.a", "", "system.posix_acl_access", "security.s"):
@@ -120,7 +121,7 @@ class Attributes(ServerCase):
         client.setxattr("/f", "user.overlayd.xattr.trusted.upper", b"5A")
         kernel = self.bridge(server)
         f = kernel.walk("/f").nodeid
-        self.assertEqual(kernel.listxattr(f), [
+        self.assertEqual(kernel.listxattr(f), [b"user.a"] * INSIDE + [
             b"security.s", b"trusted.t", b"trusted.odd", b"trusted.upper"])
         self.assertEqual(kernel.getxattr(f, "trusted.t"), b"Z\0\xff")
         for name in ("security.s", "trusted.odd", "trusted.upper"):

@@ -10,7 +10,7 @@ import time
 import unittest
 
 from . import played
-from .bridges import ENVIRONMENT, PROGRAM, Bridge
+from .bridges import ENVIRONMENT, PROGRAM, Bridge, of_sockets
 from .kernel import (CAPABLE, OPEN_KILLS, ROOT, SET_CTIME, SET_FH, SET_KILLS, SET_MTIME, SET_SIZE,
                      WRITE_CACHE, WRITE_KILLS, Flag)
 from .played import attr, frame, made, refused, texts
@@ -235,6 +235,7 @@ class Listings(HostileCase):
             self.assertEqual(len(kernel.page(ROOT, kernel.opendir(ROOT).fh, 0, plus=False)), 128)
 
 
+@of_sockets
 class Silence(PlayedCase):
     """A server with --idle ends who is silent, and with a connection all that is open on it."""
 

@@ -5,7 +5,7 @@ import os
 import stat
 import unittest
 
-from .bridges import Bridge, ServerCase
+from .bridges import Bridge, ServerCase, of_sockets
 from .kernel import OPEN_CACHE_DIR, ROOT, Flag
 
 TREE = """layer = [{}, { entry = [
@@ -104,6 +104,7 @@ class Looks(ServerCase):
         self.assertEqual(kernel.readlink(made.nodeid), b"x" * 4095)
         self.refused(errno.EEXIST, kernel.symlink, ROOT, "s", "y")
 
+    @of_sockets
     def test_numbers_of_the_file_system(self):
         blocks, free, available, _, _, size, longest, fragment = self.bridge(self.served()).statfs()
         self.assertEqual((blocks, available, longest, size), (free, free, 255, fragment))

@@ -7,7 +7,7 @@ import time
 import unittest
 
 from . import played
-from .bridges import Bridge, run
+from .bridges import Bridge, of_sockets, run
 from .kernel import ROOT
 from .played import Played, attr, frame, made, refused, texts
 
@@ -121,6 +121,7 @@ class Lies(PlayedCase):
                 with self.subTest(told, call=name):
                     self.check(kernel, call, op, reply)
 
+    @of_sockets
     def test_two_replies_to_one_request(self):
         """Where the second is taken for another request's it is known by what is left over."""
         kernel = self.bridge()
@@ -184,6 +185,7 @@ class Losses(PlayedCase):
             self.assertEqual(kernel.lookup(ROOT, "f").attr.size, 4)
         self.assertEqual(self.server.accepted, 1 + len(whole))
 
+    @of_sockets
     def test_bytes_that_nobody_asked_for(self):
         kernel = self.bridge()
         kernel.lookup(ROOT, "f")
@@ -191,6 +193,7 @@ class Losses(PlayedCase):
         self.assertEqual(kernel.lookup(ROOT, "f").attr.size, 4)
         self.assertEqual(self.server.accepted, 2)
 
+    @of_sockets
     def test_a_connection_that_ends_between_calls_is_made_anew(self):
         kernel = self.bridge()
         node = kernel.lookup(ROOT, "f").nodeid
@@ -203,6 +206,7 @@ class Losses(PlayedCase):
         fh = kernel.open(node).fh
         self.assertEqual(kernel.read(node, fh, 0, 9), b"four")
 
+    @of_sockets
     def test_other_connections_keep_what_is_open_on_them(self):
         kernel = self.bridge(sessions=2)
         nodes = [kernel.lookup(ROOT, name).nodeid for name in ("f", "g")]
@@ -216,6 +220,7 @@ class Losses(PlayedCase):
                 reads.append(error.errno)
         self.assertEqual(sorted(reads, key=str), [errno.EIO, b"four"])
 
+    @of_sockets
     def test_a_server_that_is_gone_and_comes_back(self):
         kernel = self.bridge()
         node = kernel.lookup(ROOT, "f").nodeid
@@ -237,6 +242,7 @@ class Losses(PlayedCase):
         fh = kernel.open(node).fh
         self.assertEqual(kernel.read(node, fh, 0, 9), b"four")
 
+    @of_sockets
     def test_a_server_that_says_nothing(self):
         kernel = self.bridge("--wait", "1")
         self.server.lies[played.STAT] = lambda session, body: True
@@ -245,6 +251,7 @@ class Losses(PlayedCase):
         self.assertGreater(time.monotonic() - since, 0.9)
         self.assertEqual(kernel.lookup(ROOT, "f").attr.size, 4)
 
+    @of_sockets
     def test_a_server_that_never_ends_a_reply(self):
         kernel = self.bridge("--wait", "1")
 
@@ -275,6 +282,7 @@ class Losses(PlayedCase):
         self.server.lies.clear()
         self.assertEqual(len(kernel.page(ROOT, kernel.opendir(ROOT).fh, 0)), 4)
 
+    @of_sockets
     def test_who_cannot_be_attached(self):
         kernel = self.bridge()
 
@@ -286,6 +294,7 @@ class Losses(PlayedCase):
         self.refused(errno.ENFILE, kernel.lookup, ROOT, "f")
         self.assertEqual(kernel.lookup(ROOT, "f").attr.size, 4)
 
+    @of_sockets
     def test_an_open_that_is_refused_with_what_goes_with_it(self):
         kernel = self.bridge()
         node = kernel.lookup(ROOT, "f").nodeid
@@ -296,6 +305,7 @@ class Losses(PlayedCase):
         self.assertEqual(kernel.read(node, fh, 0, 9), b"four")
 
 
+@of_sockets
 class Beginnings(PlayedCase):
     def test_no_server(self):
         done = run("/nowhere/s", "/mnt")
@@ -325,7 +335,15 @@ class Beginnings(PlayedCase):
                       ("s", "m", "--map-uids", "0:1:x"), ("s", "m", "--map-uids", "0:4294967290:9"),
                       ("s", "m", "--map-gids", "0:0:9", "--map-gids", "8:20:1"),
                       ("s", "m", "--map-gids", "0:0:9", "--map-gids", "20:8:1"),
-                      ("s", "m", "--map-uids", "0:0:9", "--squash")):
+                      ("s", "m", "--map-uids", "0:0:9", "--squash"),
+                      ("--manifest", "s"), ("--manifest", "s", "m", "x"),
+                      ("--manifest", "", "m"), ("--manifest", "s", "--manifest", "s", "m"),
+                      ("--manifest", "s", "m", "--shared"), ("s", "m", "--save", "x"),
+                      ("s", "m", "--upper", "x"), ("s", "m", "--size", "4096"),
+                      ("--manifest", "s", "m", "--size", "0"), ("s", "m", "-o", "size"),
+                      ("--manifest", "s", "m", "--size", "1K"), ("s", "m", "-o", "shared=1"),
+                      ("--manifest", "s", "m", "--save", "x", "-o", "save=y"),
+                      ("s", "m", "--poll", "1001"), ("s", "m", "-o", "ro,wait=0")):
             done = run(*words)
             self.assertEqual(done.returncode, 2, words)
             self.assertRegex(done.stderr, ONE_LINE)
@@ -334,7 +352,7 @@ class Beginnings(PlayedCase):
         self.assertRegex(done.stdout, r"\Aoverlayd-fuse \d+\.\d+\.\d+\n\Z")
         done = run("--help")
         self.assertEqual((done.returncode, done.stderr), (0, ""))
-        self.assertIn("usage: overlayd-fuse SOCKET MOUNTPOINT", done.stdout)
+        self.assertIn("overlayd-fuse SOCKET MOUNTPOINT", done.stdout)
 
 
 if __name__ == "__main__":

@@ -13,6 +13,38 @@ void kept_free(struct kept *kept)
     (void)kept;
 }
 
+void opened_end(struct bridge *bridge, struct node *node)
+{
+    (void)bridge;
+    (void)node;
+}
+
+bool places_begin(struct bridge *bridge)
+{
+    (void)bridge;
+    return true;
+}
+
+void places_end(struct bridge *bridge)
+{
+    (void)bridge;
+}
+
+void place_left(struct bridge *bridge, struct node *node)
+{
+    (void)bridge;
+    (void)node;
+}
+
+struct node *place_found(struct bridge *bridge, const struct node *parent, const char *name,
+                         const struct attr *attr)
+{
+    (void)parent;
+    (void)name;
+    (void)attr;
+    return node_new(bridge);
+}
+
 static int fail(const char *what, size_t number)
 {
     printf("%s: %zu\n", what, number);

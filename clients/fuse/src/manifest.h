@@ -1,0 +1,28 @@
+/* What a mount in this process is made of: a manifest's text, and the bytes of its blobs. */
+#ifndef MANIFEST_H
+#define MANIFEST_H
+
+#include <stdbool.h>
+#include <stddef.h>
+#include <stdint.h>
+
+struct manifest {
+    char *text;
+    size_t length;
+    char *blobs;              /* one behind the other */
+    size_t blobs_length;
+    size_t *lengths, count;   /* of each of them */
+};
+
+/* Reads a manifest and the files that it names, which have at most `limit` bytes together; with
+   `upper`, a saved upper is its upper layer. A line tells why that can't be. */
+bool manifest_read(const char *path, const char *upper, uint64_t limit,
+                   struct manifest *manifest);
+void manifest_free(struct manifest *manifest);
+
+/* joining.c: the text of a mount that goes on: the options of `base`, the one layer of `saved`, and
+   the lower layers of `base`. NULL with the file's name at fault and why. */
+char *joined(const struct manifest *base, const struct manifest *saved, size_t *length,
+             bool *is_base, const char **why);
+
+#endif
