@@ -9,7 +9,8 @@
 """
 
 from .client import Client
-from .errors import BadReply, Disconnected, NoReply, place_of
+from .embedded import Mount, mount
+from .errors import BadReply, Disconnected, NoReply, UnknownRefusal, place_of
 from .files import File
 from .frames import Stat
 from .habits import DirEntry
@@ -19,6 +20,6 @@ from .tree_watch import CHANGES, TreeNotice, TreeWatch
 from .watches import Mask, Notice
 
 __version__ = "0.4.0"
-__all__ = ["BadReply", "CHANGES", "Client", "DirEntry", "Disconnected", "File", "Mask", "MountPath",
-           "NoReply", "Notice", "Pending", "Pipeline", "Stat", "TreeNotice", "TreeWatch",
-           "place_of"]
+__all__ = ["BadReply", "CHANGES", "Client", "DirEntry", "Disconnected", "File", "Mask", "Mount",
+           "MountPath", "NoReply", "Notice", "Pending", "Pipeline", "Stat", "TreeNotice", "TreeWatch",
+           "UnknownRefusal", "mount", "place_of"]

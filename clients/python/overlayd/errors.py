@@ -6,7 +6,7 @@ import errno
 import os
 from typing import Any, Optional
 
-__all__ = ["BadReply", "Disconnected", "NoReply", "place_of", "refusal"]
+__all__ = ["BadReply", "Disconnected", "NoReply", "UnknownRefusal", "place_of", "refusal"]
 
 
 class Disconnected(ConnectionError):
@@ -21,6 +21,15 @@ class BadReply(Disconnected):
     """The server sent bytes that are no reply to what it was asked."""
 
 
+class UnknownRefusal(OSError):
+    """A refusal by a number from which Python would conclude that the connection is lost."""
+
+
+# What Python makes of numbers that say something about a connection or a signal. No call is
+# refused by one of them; should a server do so, it is still a refusal, and the connection stands.
+_NO_REFUSALS = (ConnectionError, BlockingIOError, InterruptedError, TimeoutError)
+
+
 def refusal(number: int, place: Optional[int], paths: tuple[Any, ...]) -> OSError:
     """The exception of a refused call, with its paths as `os` has them.
 
@@ -32,7 +41,10 @@ def refusal(number: int, place: Optional[int], paths: tuple[Any, ...]) -> OSErro
         # No call is answered so: the server refuses the client itself.
         text, paths = f"{text}: the client wasn't attached", ()
     first, second = (*paths, None, None)[:2]
-    error = OSError(number, text, first, None, second)
+    parts = (number, text, first, None, second)
+    error = OSError(*parts)
+    if isinstance(error, _NO_REFUSALS):
+        error = UnknownRefusal(*parts)
     setattr(error, "place", place)
     return error
 

@@ -16,7 +16,7 @@ from typing import Any, Callable, Dict, List, NamedTuple, Optional, Tuple
 from .errors import BadReply
 from .watches import Mask, Notice
 
-__all__ = ["FRAME_LIMIT", "REFUSALS", "TEXT_LIMIT", "Op", "Reply", "Splitter", "Stat", "TooLong",
+__all__ = ["FRAME_LIMIT", "TEXT_LIMIT", "Op", "Reply", "Splitter", "Stat", "TooLong",
            "reply", "request"]
 
 FRAME_LIMIT = 70_000
@@ -189,9 +189,6 @@ class _Reader:
             raise BadReply("a reply has bytes behind its end")
 
 
-# The refusals that there are, all others are no reply: the table of docs/FORMATS.md.
-REFUSALS = frozenset((1, 2, 9, 12, 16, 17, 18, 20, 21, 22, 23, 24, 27, 28, 30, 36, 39, 40, 61, 75,
-                      95))
 _MODE_LIMIT, _SIZE_LIMIT, _NAME_LIMIT, _TARGET_LIMIT = 0o7777, 2**63 - 1, 255, 4_095
 
 _KINDS = {1: stat.S_IFDIR, 2: stat.S_IFREG, 3: stat.S_IFLNK}
@@ -279,8 +276,9 @@ def reply(op: Op, body: bytes) -> Reply:
         place = reader.number(8)
     if status in (1, 2):
         refused = reader.number(1)
-        if refused not in REFUSALS:
-            raise BadReply(f"a reply has the unknown error {refused}")
+        # A number that docs/FORMATS.md doesn't have is a refusal too, of a server that is newer.
+        if not refused:
+            raise BadReply("a reply refuses by the error 0, which is none")
     elif status == 0:
         answer = _ANSWERS[op](reader) if op in _ANSWERS else None
     else:

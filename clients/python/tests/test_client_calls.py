@@ -6,7 +6,7 @@ import pathlib
 import stat
 import unittest
 
-from overlayd import BadReply, Client, Mask, Notice, Stat, calls, place_of
+from overlayd import BadReply, Client, Mask, Notice, Stat, UnknownRefusal, calls, place_of
 from overlayd.files import wire_flags
 
 from .scripted import ScriptedCase, h
@@ -226,13 +226,32 @@ class Refusals(ScriptedCase):
             error = self.refused(2, number, lambda c: c.stat("/x"), "00000005 01 0002 2f78")
             self.assertEqual((error.errno, error.filename, error.place), (number, "/x", None))
 
-    def test_all_other_numbers_are_no_replies(self):
-        for number in (0, 3, 4, 11, errno.EPIPE, 255):
-            answer = h("0000000a 01 0000000000000009") + bytes((number,))
-            with self.subTest(number), self.client(("00000005 01 0002 2f78", answer)) as c:
-                with self.assertRaises(BadReply):
-                    c.stat("/x")
-                self.assertTrue(c.closed)
+    def test_all_other_numbers_are_refusals_too(self):
+        for number in set(range(1, 256)) - set(NUMBERS):
+            error = self.refused(1, number, lambda c: c.stat("/x"), "00000005 01 0002 2f78")
+            with self.subTest(number):
+                self.assertEqual((error.errno, error.filename, error.place), (number, "/x", 9))
+                self.assertNotIsInstance(error, (ConnectionError, BlockingIOError, TimeoutError))
+
+    def test_a_number_that_would_speak_of_the_connection(self):
+        error = self.refused(1, errno.EPIPE, lambda c: c.stat("/x"), "00000005 01 0002 2f78")
+        self.assertIs(type(error), UnknownRefusal)
+
+    def test_a_call_after_a_number_that_is_unknown(self):
+        refused = h("0000000a 01 0000000000000009") + bytes((133,))
+        with self.client(("00000005 01 0002 2f78", refused),
+                         ("00000005 0c 0002 2f66", "00000009 00 000000000000000a")) as c:
+            with self.assertRaises(OSError):
+                c.stat("/x")
+            c.unlink("/f")
+            self.assertEqual(c.last_place, 10)
+
+    def test_the_number_0_is_no_refusal(self):
+        answer = h("0000000a 01 0000000000000009 00")
+        with self.client(("00000005 01 0002 2f78", answer)) as c:
+            with self.assertRaises(BadReply):
+                c.stat("/x")
+            self.assertTrue(c.closed)
 
     def test_both_paths_are_told(self):
         error = self.refused(1, errno.EXDEV, lambda c: c.rename("/a", "/b"),

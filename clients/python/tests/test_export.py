@@ -3,7 +3,11 @@
 import contextlib
 import io
 import os
+import signal
+import socket
 import stat
+import subprocess
+import sys
 import tarfile
 import tempfile
 import unittest
@@ -220,6 +224,36 @@ class CommandTest(unittest.TestCase):
                              (1, "overlayd-export: /nonexistent: No such file or directory\n"))
         status, told = self.ended("--layer", "-")
         self.assertEqual((status, "m.toml" in told), (1, True))
+
+
+    def test_signals(self) -> None:
+        """One line, and nothing half done, where it is ended while it waits for a server."""
+        with tempfile.TemporaryDirectory() as folder:
+            manifest, layer = Path(folder, "m.toml"), Path(folder, "out", "l.tar")
+            manifest.write_text("[[layer]]\n[[layer]]\n")
+            layer.parent.mkdir()
+            for number, wanted in ((signal.SIGINT, (130, "overlayd-export: interrupted\n")),
+                                   (signal.SIGTERM, (143, ""))):
+                with self.subTest(number), socket.socket(socket.AF_UNIX) as server:
+                    server.bind(f"{folder}/s{number}")
+                    server.listen()
+                    self.assertEqual(asked_and_ended(server, number, str(manifest), str(layer)),
+                                     wanted)
+                    self.assertEqual(os.listdir(layer.parent), [])
+
+
+def asked_and_ended(server: socket.socket, number: int, manifest: str,
+                    layer: str) -> Tuple[int, str]:
+    """The status and the lines of an export that a signal ends when it has asked a server."""
+    with subprocess.Popen(
+            [sys.executable, "-m", "overlayd.exporter", manifest, server.getsockname(), "--layer",
+             layer], stderr=subprocess.PIPE, text=True,
+            env={**os.environ, "PYTHONPATH": str(Path(__file__).resolve().parents[1])}) as export:
+        with server.accept()[0] as asked:
+            asked.recv(1)
+            export.send_signal(number)
+            told = export.communicate(timeout=120)[1]
+    return export.returncode, told
 
 
 class KernelTest(ExportCase):

@@ -10,9 +10,10 @@ import tarfile
 import tempfile
 import unittest
 from pathlib import Path
-from typing import Any, Callable, Iterator, List
+from typing import Any, Dict, List
 from unittest import mock
 
+from overlayd import Mask
 from overlayd.exporter import DirectoryTree, Entry, LowerTree, MountTree, Unsayable
 from overlayd.exporter.command import main
 
@@ -20,6 +21,7 @@ from . import import_tools as tools
 from . import real_server
 from . import test_import_kernel as kernel
 from .export_tools import ExportCase
+from .folder_client import FolderClient
 
 LINES = r"""redirect_dir = "on"
 metacopy = "on"
@@ -178,103 +180,6 @@ class LowerTest(unittest.TestCase):
                 self.tree(text)
 
 
-class Answer:
-    """A call's result, as the client's pipeline has it."""
-
-    def __init__(self, call: Callable[[], Any]) -> None:
-        self._error = None
-        try:
-            self._result = call()
-        except OSError as error:
-            self._error = error
-
-    def exception(self) -> Any:
-        """Why there is none."""
-        return self._error
-
-    def result(self) -> Any:
-        """The result or the refusal."""
-        if self._error is not None:
-            raise self._error
-        return self._result
-
-
-class FolderClient:
-    """The calls of a client that reads, on a folder; it keeps count of them."""
-
-    def __init__(self, root: str) -> None:
-        self._root = root
-        self.calls = 0
-
-    def __enter__(self) -> "FolderClient":
-        return self
-
-    def __exit__(self, *what: Any) -> None:
-        pass
-
-    def _at(self, path: str) -> str:
-        self.calls += 1
-        return self._root + path
-
-    def stat(self, path: str) -> os.stat_result:
-        """As `os.lstat`."""
-        return os.lstat(self._at(path))
-
-    def open(self, path: str, flags: int = os.O_RDONLY) -> Any:
-        """A file to read, or a directory to list."""
-        there = self._at(path)
-        return FolderListing(there) if flags & os.O_DIRECTORY else open(there, "rb")
-
-    @contextlib.contextmanager
-    def pipeline(self) -> Iterator["FolderPipeline"]:
-        """Calls that are made at once."""
-        yield FolderPipeline(self, self._at)
-
-
-class FolderListing:
-    """An open directory, as the engine lists it: without the whiteouts that the kernel lists."""
-
-    def __init__(self, path: str) -> None:
-        self._names = [name for name in os.listdir(path)
-                       if os.path.lexists(os.path.join(path, name))]
-
-    def __enter__(self) -> "FolderListing":
-        return self
-
-    def __exit__(self, *what: Any) -> None:
-        pass
-
-    def names(self, count: int = 256) -> List[str]:
-        """The next names."""
-        found, self._names = self._names[:count], self._names[count:]
-        return found
-
-
-class FolderPipeline:
-    """The calls of a pipeline."""
-
-    def __init__(self, client: FolderClient, at: Callable[[str], str]) -> None:
-        self._client = client
-        self._at = at
-
-    def stat(self, path: str) -> Answer:
-        """As the client's."""
-        return Answer(lambda: self._client.stat(path))
-
-    def readlink(self, path: str) -> Answer:
-        """As the client's."""
-        return Answer(lambda: os.readlink(self._at(path)))
-
-    def listxattr(self, path: str) -> Answer:
-        """As the client's: user attributes alone."""
-        return Answer(lambda: [name for name in os.listxattr(self._at(path))
-                               if name.startswith("user.")])
-
-    def getxattr(self, path: str, name: str) -> Answer:
-        """As the client's."""
-        return Answer(lambda: os.getxattr(self._at(path), name))
-
-
 def export(root: str, *words: str) -> List[str]:
     """Runs the command on a folder in place of a mount; its lines."""
     errors = io.StringIO()
@@ -359,11 +264,15 @@ class MountTest(unittest.TestCase):
         (self.root / "new").write_text("3")
         os.link(self.root / "new", self.root / "more")
         layer = self.root.parent / "layer.tar"
+        os.symlink("to", self.root / "way")
+        os.link(self.root / "way", self.root / "way2", follow_symlinks=False)
         self.assertEqual(export(str(self.root), str(manifest), "socket", "--layer", str(layer)), [
-            "overlayd-export: 2 names of files that have several are written as files of their own",
-            "overlayd-export: 2 objects, 1 whiteouts"])
+            "overlayd-export: 2 names of objects that have several are written as objects of their "
+            "own", "overlayd-export: 4 objects, 1 whiteouts"])
         with tarfile.open(layer) as tar:
-            self.assertEqual(tar.getnames(), [".wh.gone", "more", "new"])
+            self.assertEqual([(member.name, member.type, member.linkname) for member in tar], [
+                (".wh.gone", b"0", ""), ("more", b"0", ""), ("new", b"1", "more"),
+                ("way", b"2", "to"), ("way2", b"2", "to")])
 
     def test_nothing_to_export(self) -> None:
         """A mount without an upper is refused, before the server is asked and anything written."""
@@ -409,18 +318,18 @@ class KernelTest(ExportCase):
                     lines, answers = self.shown(base / "m")
                 finally:
                     kernel.unmount(base)
-                self.compare(base, self.each_alone(base, lines), answers)
+                self.compare(base, self.links_alone(base, lines), answers)
 
     @staticmethod
-    def each_alone(base: Path, lines: List[str]) -> List[str]:
-        """The names that the upper has are files of their own."""
+    def links_alone(base: Path, lines: List[str]) -> List[str]:
+        """The symbolic links that the upper has are objects of their own."""
         alone = []
         for line in lines:
             words = line.split(" ")
             raw = words[6].encode("ascii").decode("unicode_escape").encode("latin-1")
             with contextlib.suppress(FileNotFoundError):
                 status = os.lstat(os.fsencode(base / "up") + raw)
-                words[5] = "1" if not stat.S_ISDIR(status.st_mode) else words[5]
+                words[5] = "1" if stat.S_ISLNK(status.st_mode) else words[5]
             alone.append(" ".join(words))
         return alone
 
@@ -432,6 +341,34 @@ class ServerTest(unittest.TestCase):
         reason = real_server.why_not()
         if reason:
             tools.skip(self.id(), reason)
+
+    def test_names_of_one_file(self) -> None:
+        """Files that are alike in all but that are told apart, and the mount stays as it is."""
+        with tempfile.TemporaryDirectory() as name:
+            folder = Path(name)
+            (folder / "low").mkdir()
+            (folder / "low/a").write_text("x")
+            os.link(folder / "low/a", folder / "low/b")
+            tools.import_to(folder / "m.toml", [str(folder / "low")])
+            with real_server.Server((folder / "m.toml").read_text()) as server:
+                with server.client() as client:
+                    for path in ("/m", "/n"):
+                        client.write_bytes(path, b"y")
+                        client.link(path, path + "2")
+                    client.link("/n", "/n3")
+                    client.chmod("/a", 0o600)
+                    named: Dict[Any, List[str]] = {}
+                    for entry in MountTree(client).entries():
+                        if entry.links > 1 and entry.kind == "file":
+                            self.assertIsNotNone(entry.same)
+                            named.setdefault(entry.same, []).append(entry.path)
+                    self.assertEqual(sorted(named.values()), [
+                        ["/b"], ["/m", "/m2"], ["/n", "/n2", "/n3"]])
+                    client.arm(9, "/", Mask.ATTRIB)
+                    for entry in MountTree(client).entries():
+                        self.assertIsNone(entry.same)
+                    client.chmod("/m", 0o600)
+                    self.assertEqual(client.notices()[-1].name, "m")
 
     def test_session(self) -> None:
         """Import, serve, change by the client, export, import again, show."""

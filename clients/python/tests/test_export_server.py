@@ -194,7 +194,7 @@ class ServedTest(ExportCase):
                 options += ["--metacopy", "on"] if seed % 4 == 3 else []
                 tools.import_to(base / "m.toml", [*options, str(base / "first"), str(base / "low")])
                 shown, told = self.change(base, seed)
-                lines = self.each_alone(base / "up", shown.lines)
+                lines = self.links_alone(base / "up", shown.lines)
                 self.compare(base, lines, [shown.script, shown.answers])
                 self.again(base, lines, any("several" in line for line in told))
 
@@ -219,15 +219,16 @@ class ServedTest(ExportCase):
         return shown, told
 
     @staticmethod
-    def each_alone(upper: Path, lines: List[str]) -> List[str]:
-        """The names that the upper has are files of their own: that is what no export says."""
+    def links_alone(upper: Path, lines: List[str]) -> List[str]:
+        """The symbolic links that the upper has are objects of their own: that is what no export
+        from a server says."""
         alone = []
         for line in lines:
             words = line.split(" ")
             raw = words[6].encode("ascii").decode("unicode_escape").encode("latin-1")
             with contextlib.suppress(FileNotFoundError, NotADirectoryError):
                 os.lstat(os.fsencode(upper) + raw)
-                words[5] = "1"
+                words[5] = "1" if words[0] == "l" else words[5]
             alone.append(" ".join(words))
         return alone
 

@@ -92,6 +92,13 @@ class ImportTest(BlobTest):
             with self.subTest(name):
                 manifest = self.manifest("--blobs", tar, name=name)
                 self.assertEqual(head(manifest)[0], f'blobs = ["{wanted}"]')
+        other = self.write("x/a.tar", tar_of([file("f", b"y")]))
+        (self.folder / "x/deep").mkdir()
+        (self.folder / "y").mkdir()
+        (self.folder / "y/way").symlink_to(self.folder / "x/deep")
+        (self.folder / "away").mkdir()
+        named = self.manifest("--blobs", str(self.folder / "y/way/../a.tar"), name="away/m")
+        self.assertEqual(head(named)[0], f'blobs = ["{other}"]')
         with contextlib.redirect_stdout(io.TextIOWrapper(io.BytesIO())) as out, \
                 contextlib.redirect_stderr(io.StringIO()):
             self.assertEqual(main(["--blobs", "-q", tar]), 0)

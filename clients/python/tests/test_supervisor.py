@@ -283,6 +283,18 @@ class Manifests(unittest.TestCase):
             target = "to"
             """))
 
+    def test_further_names_lead_to_what_was_written(self):
+        mounted = MemoryTree([
+            Entry("/b\udcff", "file", 0o644, links=3, same=1),
+            Entry("/c", "file", 0o644, links=3, same=1), Entry("/f", "file", 0o644, links=2, same=2),
+            Entry("/g", "file", 0o644, links=2, same=2)],
+            {"/b\udcff": b"x", "/c": b"x", "/f": b"y"})
+        text, left_out = self.written(changes(MemoryTree([]), mounted), mounted)
+        self.assertEqual(left_out, ["/b\udcff"])
+        self.assertEqual([line for line in text.splitlines() if "=" in line], [
+            'path = "/c"', 'kind = "file"', 'text = "x"', 'path = "/f"', 'kind = "file"',
+            'text = "y"', 'path = "/g"', 'kind = "link"', 'to = "/f"'])
+
     def test_what_no_manifest_can_say_is_left_out_with_what_is_in_it(self):
         mounted = MemoryTree([
             Entry("/b\udcff", "dir"), Entry("/b\udcff/x", "dir"), Entry("/c", "dir"),
@@ -345,8 +357,9 @@ kind = "file"
                 client.unlink("/gone")
                 client.mkdir("/n", 0o700)
                 client.setxattr("/n", "user.a", b"v")
-                changed = ["d 0755 0 0 0 1 /", "d 0755 0 0 0 1 /d", "f 0644 0 0 4 1 /d/f",
-                           "d 0700 0 0 0 1 /n"]
+                client.link("/d/f", "/d/g")
+                changed = ["d 0755 0 0 0 1 /", "d 0755 0 0 0 1 /d", "f 0644 0 0 4 2 /d/f",
+                           "f 0644 0 0 4 2 /d/g", "d 0700 0 0 0 1 /n"]
                 self.wait_for(lambda: self.saved.exists() and self.saved.stat().st_size
                               and self.shown() == changed)
                 client.rmdir("/n")

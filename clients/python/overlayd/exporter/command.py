@@ -48,12 +48,13 @@ A mount without an upper layer (upper = false) can't be changed: there is nothin
 which is refused.
 
 A directory that was moved is written whole, and so is a file that was copied up without its bytes
-(metacopy). Names of one file are written as one with --manifest; a server doesn't tell which they
-are, so that of it they are written as files of their own, which is told. A socket isn't in a layer,
-which is told. Refused are attributes that begin with user.overlay. or trusted.overlay., as they
-would be marks of overlayfs, and a character device 0/0; in a layer names that begin with .wh.; and
-in an upper the owner and the group 4294967295, which no file system has. What a server says is
-judged: a name that is none, or a file over the manifest's file_limit, ends the export.
+(metacopy). Several names of one file are written as one: a server tells by watches which they are.
+It watches no symbolic links, so that names of one are written as links of their own, which is told;
+with --manifest they are one too. A socket isn't in a layer, which is told. Refused are attributes
+that begin with user.overlay. or trusted.overlay., as they would be marks of overlayfs, and a
+character device 0/0; in a layer names that begin with .wh.; and in an upper the owner and the group
+4294967295, which no file system has. What a server says is judged: a name that is none, or a file
+over the manifest's file_limit, ends the export.
 
 The manifest is read as a stream where it has one `key = value` on each line, as overlayd-import
 writes it. Others are read whole, from Python 3.11 on.
@@ -190,7 +191,7 @@ def _sum_up(found: List[Change], is_layer: bool) -> None:
     linked = sum(change.entry is not None and change.entry.links > 1 and change.entry.same is None
                  for change in found)
     if linked:
-        _say(f"{linked} names of files that have several are written as files of their own")
+        _say(f"{linked} names of objects that have several are written as objects of their own")
     for change in found:
         if is_layer and change.entry is not None and change.entry.kind == SOCKET:
             _say(f"left out: {shown(change.path)}: a socket")

@@ -12,6 +12,7 @@ from ..importer.objects import PIECE
 from ..importer.telling import shown
 from ..pipeline import Pending
 from .described import described
+from .same_files import SameFiles
 from .trees import DIRECTORY, FILE, SYMLINK, Entry, Tree, raw_of
 from .unsayable import Unsayable
 
@@ -24,7 +25,8 @@ _READ_MOST = 1 << 23
 class MountTree(Tree):
     """What a mount shows. Each name takes some calls, and each call a place of the history.
 
-    The server doesn't tell which names lead to one object. Nobody should change the mount
+    Which names lead to one file is told by watches of the client at slot 9, where it has none of
+    its own; of symbolic links it isn't. Nobody should change the mount
     meanwhile; what goes away between two calls is passed over. What the server says is judged: a
     name that is none, a name twice, a file of more than `most` bytes or one that doesn't end are
     refused.
@@ -40,7 +42,7 @@ class MountTree(Tree):
             if entry.kind != DIRECTORY:
                 raise Unsayable("/: the server says that the root is no directory")
             yield entry
-        todo = ["/"]
+        todo, several = ["/"], []
         while todo:
             directory = todo.pop()
             try:
@@ -51,9 +53,13 @@ class MountTree(Tree):
                 paths = [os.path.join(directory, name)
                          for name in names[first:first + _TOGETHER]]
                 for entry in self._described(self._found(paths)):
+                    if entry.links > 1 and entry.kind not in (DIRECTORY, SYMLINK):
+                        several.append(entry)
+                        continue
                     yield entry
                     if entry.kind == DIRECTORY:
                         todo.append(entry.path)
+        yield from SameFiles(self._client).told(several)
 
     def _listed(self, directory: str) -> List[str]:
         """The names of a directory, judged."""

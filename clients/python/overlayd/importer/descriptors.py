@@ -6,14 +6,19 @@ import stat
 import weakref
 from typing import Iterator, List, NamedTuple, Optional, Tuple
 
-from .objects import PIECE, zeros
+from .objects import PIECE, ZEROS, zeros
 from .telling import Refused, shown
 
 Identity = Tuple[int, int]
 _DIRECTORY = os.O_RDONLY | os.O_DIRECTORY | os.O_NOFOLLOW | os.O_CLOEXEC
-_FILE = os.O_RDONLY | os.O_NOFOLLOW | os.O_NONBLOCK | os.O_CLOEXEC
+FILE_FLAGS = os.O_RDONLY | os.O_NOFOLLOW | os.O_NONBLOCK | os.O_CLOEXEC
 # How many directories of a way are open at once.
 _OPEN_MOST = 64
+# How many bytes at once are looked at to find one that isn't zero.
+_LOOKED_AT = 1 << 16
+# Why a system may not copy from this file to that one.
+_NOT_COPIED = (errno.EXDEV, errno.EINVAL, errno.ENOSYS, errno.EOPNOTSUPP, errno.EPERM,
+               errno.EBADF, errno.ETXTBSY)
 _CHANGED = (errno.ELOOP, errno.ENOTDIR, errno.ENXIO)
 
 
@@ -48,7 +53,7 @@ class Root:
         """Opens a file that was seen; refused where it isn't there any more."""
         above, _, name = place.raw.rpartition(b"/")
         try:
-            found = os.open(name, _FILE, dir_fd=self._directory(above))
+            found = os.open(name, FILE_FLAGS, dir_fd=self._directory(above))
         except OSError as error:
             raise self._told(error, place.raw) from None
         status = os.fstat(found)
@@ -60,7 +65,7 @@ class Root:
     def open_below(self, raw: bytes) -> int:
         """Opens a file by its path, of which no name may be a link."""
         above, _, name = raw.rpartition(b"/")
-        return os.open(name, _FILE, dir_fd=self._directory(above))
+        return os.open(name, FILE_FLAGS, dir_fd=self._directory(above))
 
     def link_below(self, raw: bytes) -> Optional[bytes]:
         """Where a symbolic link leads; None where there is none."""
@@ -148,7 +153,7 @@ class Ways:
 
 def open_at(name: str, directory: int, is_directory: bool) -> int:
     """Opens a file or directory that a listing has, and no link."""
-    return os.open(name, _DIRECTORY if is_directory else _FILE, dir_fd=directory)
+    return os.open(name, _DIRECTORY if is_directory else FILE_FLAGS, dir_fd=directory)
 
 
 def is_change(error: OSError) -> bool:
@@ -167,15 +172,15 @@ def read_small(descriptor: int, most: int) -> bytes:
     return data
 
 
-def pieces(descriptor: int, size: int, name: str) -> Iterator[bytes]:
-    """The bytes of a long file, piece by piece; its holes aren't read."""
+def pieces(descriptor: int, size: int, name: str, most: int = PIECE) -> Iterator[bytes]:
+    """The bytes of a long file, in pieces of at most `most`; its holes aren't read."""
     at = 0
     while at < size:
         begin, end = _stretch(descriptor, at, size)
         yield from zeros(begin - at)
         at = begin
         while at < end:
-            data = os.pread(descriptor, min(PIECE, end - at), at)
+            data = os.pread(descriptor, min(most, end - at), at)
             if not data:
                 raise changed(name)
             yield data
@@ -190,3 +195,46 @@ def _stretch(descriptor: int, at: int, size: int) -> Tuple[int, int]:
                                                      size)
     except OSError as error:
         return (size, size) if error.errno == errno.ENXIO else (at, size)
+
+
+def copy(descriptor: int, size: int, out: int, place: int, name: str) -> bool:
+    """Copies a long file to a place of another one, where its holes are left as they are. Nothing
+    is written, and False returned, where all of its bytes are zeros."""
+    at = _zeros_before(descriptor, size, name)
+    if at == size:
+        return False
+    while at < size:
+        begin, end = _stretch(descriptor, at, size)
+        _copy_stretch(descriptor, begin, end, out, place + begin, name)
+        at = end
+    return True
+
+
+def _zeros_before(descriptor: int, size: int, name: str) -> int:
+    """How many zeros are before the first piece that has more than zeros."""
+    count = 0
+    for piece in pieces(descriptor, size, name, _LOOKED_AT):
+        if piece is not ZEROS and piece.strip(b"\0"):
+            return count
+        count += len(piece)
+    return count
+
+
+def _copy_stretch(descriptor: int, begin: int, end: int, out: int, place: int, name: str) -> None:
+    """Copies a stretch, by the system where it does so between these files."""
+    is_by_system = hasattr(os, "copy_file_range")
+    while begin < end:
+        count = 0
+        try:
+            if is_by_system:
+                count = os.copy_file_range(descriptor, out, end - begin, begin, place)
+        except OSError as error:
+            if error.errno not in _NOT_COPIED:
+                raise
+        is_by_system = count > 0
+        if not count:
+            data = os.pread(descriptor, min(PIECE, end - begin), begin)
+            count = os.pwrite(out, data, place) if data else 0
+            if not count:
+                raise changed(name)
+        begin, place = begin + count, place + count

@@ -6,20 +6,23 @@ descriptors, links aren't followed, and what is read is the object that was seen
 
 import os
 import stat
+from operator import attrgetter
 from typing import Dict, Iterable, Iterator, List, NamedTuple, Optional, Set, Tuple, Union
 
 from . import limits, marks
-from .descriptors import (Identity, Place, Root, Ways, changed, identity_of, is_change, open_at,
-                          pieces, read_small)
+from .descriptors import (Identity, Place, Root, Ways, changed, copy, identity_of, is_change,
+                          open_at, pieces, read_small)
 from .keeping import Keep
 from .merging import Layer, Merge
 from .meta import KINDS
 from .metacopy import read_through
 from .objects import PIECE, WHITEOUT, Content, Data, Directory, File, Inode, Long, Object, Symlink
+from .plain_files import PlainFiles
 from .telling import ATTRIBUTE, OTHER_KIND, OVER_LIMIT, UNSAYABLE, Refused, Report, shown
 from .writing import Files, LayerWriter, write_tree
 
 _HAS_ATTRIBUTES = hasattr(os, "listxattr")
+_NAME_OF = attrgetter("name")
 _LETTERS = {stat.S_IFIFO: "p", stat.S_IFSOCK: "s", stat.S_IFCHR: "c", stat.S_IFBLK: "b"}
 
 
@@ -43,6 +46,14 @@ class _Open(NamedTuple):
     node: Directory
 
 
+class _Sizes:
+    """What a look at the sizes in one directory found: the largest, and the directories in it."""
+
+    def __init__(self) -> None:
+        self.largest = 0
+        self.names: List[str] = []
+
+
 class DirectoryLayer(Content, Layer):
     """A directory of the file system as a layer; `below` has the layers under it. What `keep`
     doesn't say is left out."""
@@ -58,6 +69,7 @@ class DirectoryLayer(Content, Layer):
         self._skip = skip
         self._below = below
         self._tree: Optional[Directory] = None
+        self._largest: Optional[int] = None
         self._shared: Dict[Identity, Union[File, Symlink]] = {}
         self._warned = False
 
@@ -82,32 +94,44 @@ class DirectoryLayer(Content, Layer):
 
     def largest(self) -> int:
         """How many bytes its largest file has. Where no tree was needed before, none is made:
-        sizes alone are asked for."""
+        sizes alone are asked for, once."""
         if self._tree is not None:
             return super().largest()
+        if self._largest is None:
+            self._largest = self._largest_below()
+        return self._largest
+
+    def _largest_below(self) -> int:
         ways, largest = Ways(self._root), 0
-        todo = [_listed(ways.here)]
+        todo = [self._looked(ways.here)]
         try:
             while todo:
-                entry = next(todo[-1], None)
-                if entry is None:
+                largest = max(largest, todo[-1].largest)
+                if todo[-1].names:
+                    name = todo[-1].names.pop()
+                    ways.down(self._opened(name, ways, os.fsencode(name), True))
+                    todo.append(self._looked(ways.here))
+                else:
                     todo.pop()
                     ways.up()
-                elif entry.is_dir(follow_symlinks=False):
-                    ways.down(self._opened(entry.name, ways, os.fsencode(entry.name), True))
-                    todo.append(_listed(ways.here))
-                elif entry.is_file(follow_symlinks=False):
-                    largest = max(largest, self._counted(entry.name, ways))
         finally:
             ways.close()
         return largest
 
-    def _counted(self, name: str, ways: Ways) -> int:
-        """The size of a file; 0 where it is left out for that, or is the unfinished manifest."""
-        status = os.stat(name, dir_fd=ways.here, follow_symlinks=False)
-        if identity_of(status) in self._skip or status.st_size > self.most:
-            return 0
-        return status.st_size
+    def _looked(self, directory: int) -> "_Sizes":
+        """The largest size of the files in an open directory, and what directories are in it. What
+        is left out for its size doesn't count, nor does the unfinished manifest."""
+        found = _Sizes()
+        with os.scandir(directory) as entries:
+            for entry in entries:
+                if entry.is_dir(follow_symlinks=False):
+                    found.names.append(entry.name)
+                elif entry.is_file(follow_symlinks=False):
+                    status = entry.stat(follow_symlinks=False)
+                    if (found.largest < status.st_size <= self.most
+                            and identity_of(status) not in self._skip):
+                        found.largest = status.st_size
+        return found
 
     def write(self, layer: LayerWriter) -> None:
         """Writes the layer, as it is walked where no tree was needed before."""
@@ -116,7 +140,8 @@ class DirectoryLayer(Content, Layer):
             return
         root, later = self.root(), Files()
         layer.plain("/", root)
-        for step in self._walk(root):
+        plain = PlainFiles(layer, self._keep.times, self.most, self._skip)
+        for step in self._walk(root, plain):
             self._write_step(layer, step, later)
         later.write(layer)
 
@@ -154,14 +179,17 @@ class DirectoryLayer(Content, Layer):
             finally:
                 os.close(descriptor)
 
-    def _walk(self, root: Directory) -> Iterator[Step]:
-        """Each name below the root, a directory before what is in it, names by their bytes."""
+    def _walk(self, root: Directory, plain: Optional[PlainFiles] = None) -> Iterator[Step]:
+        """Each name below the root, a directory before what is in it, names by their bytes; but
+        those of plain files, which `plain` writes."""
         ways = Ways(self._root)
         stack = [_Open(b"", "/", _listed(ways.here), root)]
         merge = self._below.under(root)
         try:
             while stack:
-                entry = next(stack[-1].entries, None)
+                here = stack[-1]
+                entry = (next(here.entries, None) if plain is None
+                         else plain.write(here.entries, ways.here, here.base))
                 if entry is None:
                     stack.pop()
                     ways.up()
@@ -342,7 +370,8 @@ class DirectoryLayer(Content, Layer):
                 self._too_large(path, size)
                 return None
             name = f"{shown(self.name)}: {shown(path)}"
-            return Long(size, lambda: pieces(descriptor, size, name))
+            return Long(size, lambda: pieces(descriptor, size, name),
+                        lambda out, at: copy(descriptor, size, out, at, name))
         data = os.read(descriptor, file.size + 1)
         if len(data) != file.size:
             data += read_small(descriptor, self.most + 1 - len(data))
@@ -355,11 +384,7 @@ class DirectoryLayer(Content, Layer):
 def _listed(descriptor: int) -> Iterator["os.DirEntry[str]"]:
     """The names of a directory by their bytes."""
     with os.scandir(descriptor) as entries:
-        return iter(sorted(entries, key=_name_of))
-
-
-def _name_of(entry: "os.DirEntry[str]") -> str:
-    return entry.name
+        return iter(sorted(entries, key=_NAME_OF))
 
 
 def _by_name(directory: int, name: str) -> bytes:

@@ -4,7 +4,9 @@ Nothing that a header says makes it slow or large: each header rises in the tar,
 a bound, and what is of another form is `Broken`.
 """
 
+from functools import lru_cache
 from typing import BinaryIO, Dict, Iterator, List, Optional, Tuple
+from zlib import adler32
 
 from .blobs import Blob, Broken, reading, skip
 from .meta import SECOND, is_time
@@ -21,6 +23,7 @@ _READ_PAST = 1 << 16
 _STRETCHES_MOST = 1 << 17
 _SIZE_MOST = 1 << 62
 _EMPTY = bytes(BLOCK)
+_BLANKS = b" " * 8
 _CHARSETS = ("BINARY", "ISO-IR 10646 2000 UTF-8")
 Headers = Dict[str, str]
 Stretches = Optional[List[Tuple[int, int]]]
@@ -70,6 +73,9 @@ def text_of(raw: bytes) -> str:
 
 def _number(field: bytes) -> int:
     """A number of a header: octal digits, or in base 256."""
+    digits = field[:-1]
+    if not field[-1] and digits.isdigit():
+        return _octal(digits)
     if field[0] in (0x80, 0xFF):
         return int.from_bytes(field[1:], "big") - (256 ** (len(field) - 1) if field[0] & 1 else 0)
     digits = field.partition(b"\0")[0].strip()
@@ -77,26 +83,39 @@ def _number(field: bytes) -> int:
         return 0
     if not digits.isdigit():
         raise Broken("a header with a number of another form")
-    return _whole(digits, 8)
+    return _octal(digits)
 
 
-def _whole(digits: bytes, base: int = 10) -> int:
+# Modes and owners are the same again and again.
+_repeated_number = lru_cache(maxsize=4096)(_number)
+
+
+def _octal(digits: bytes) -> int:
+    """A number by its octal digits."""
+    try:
+        return int(digits, 8)
+    except ValueError:
+        raise Broken("a header with a number of another form") from None
+
+
+def _whole(digits: bytes) -> int:
     """A whole number of at most 20 digits."""
     try:
         if len(digits) <= 20 and (digits.isdigit() or digits[:1] == b"-" and digits[1:].isdigit()):
-            return int(digits, base)
+            return int(digits)
     except ValueError:
         pass
     raise Broken("a header with a number of another form")
 
 
 def _check_sum(block: bytes) -> None:
-    """Whether the sum of a header is right, by bytes with or without a sign."""
+    """Whether the sum of a header is right, by bytes with or without a sign. The lower half of an
+    Adler-32 is one more than the sum of up to 256 bytes."""
     told = _number(block[148:156])
-    if sum(block) - sum(block[148:156]) + 256 == told:
+    rest = block[:148] + _BLANKS + block[156:]
+    if (adler32(rest[:256]) & 0xFFFF) + (adler32(rest[256:]) & 0xFFFF) - 2 == told:
         return
-    rest = block[:148] + block[156:]
-    if sum(byte - 256 if byte > 127 else byte for byte in rest) + 256 != told:
+    if sum(byte - 256 if byte > 127 else byte for byte in rest) != told:
         raise Broken("a header whose sum is wrong")
 
 
@@ -169,8 +188,9 @@ class _Reader:
         else:
             kind_of = kind
         member = Member(kind_of, name, size)
-        member.mode = _number(block[100:108])
-        member.uid, member.gid = _number(block[108:116]), _number(block[116:124])
+        member.mode = _repeated_number(block[100:108])
+        member.uid = _repeated_number(block[108:116])
+        member.gid = _repeated_number(block[116:124])
         member.mtime = _number(block[136:148]) * SECOND
         if kind_of in (LINK, SYMLINK):
             member.linkname = text_of(block[157:257])

@@ -65,10 +65,12 @@ class Part(NamedTuple):
 
 class Long(NamedTuple):
     """Bytes that are too many to be held at once: how many, and what gives them from their start,
-    piece by piece, as often as it is called."""
+    piece by piece, as often as it is called. Of a file `copy` writes them to a descriptor, from a
+    place on, without its holes; where all of them are zeros it writes none, and returns False."""
 
     size: int
     pieces: Callable[[], Iterator[bytes]]
+    copy: Optional[Callable[[int, int], bool]] = None
 
 
 Data = Union[bytes, Part, Long]

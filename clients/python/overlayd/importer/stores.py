@@ -2,7 +2,7 @@
 
 import os
 import tempfile
-from typing import BinaryIO, Set, Tuple, cast
+from typing import BinaryIO, Callable, Set, Tuple, cast
 
 from .objects import ZEROS, Data, Long, Part
 
@@ -36,7 +36,16 @@ class Store:
                 return data
             self._stream.write(data)
             return self._part(len(data))
-        return self._keep_long(data)
+        return self._keep_long(data) if data.copy is None else self._copy_long(data, data.copy)
+
+    def _copy_long(self, data: Long, copy: Callable[[int, int], bool]) -> Data:
+        """What the system itself copies."""
+        self._stream.flush()
+        if not copy(self._stream.fileno(), self._size):
+            return data
+        os.ftruncate(self._stream.fileno(), self._size + data.size)
+        self._stream.seek(self._size + data.size)
+        return self._part(data.size)
 
     def _keep_long(self, data: Long) -> Data:
         """The holes of a sparse file are holes here too; one of zeros alone isn't here."""

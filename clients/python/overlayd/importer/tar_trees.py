@@ -83,7 +83,7 @@ class _Reading:
         names = self._names(member, member.name)
         if names is None:
             return
-        if any(name.startswith(_MARK) for name in names):
+        if _MARK in member.name and any(name.startswith(_MARK) for name in names):
             self._mark(member, names)
             return
         if not names:
@@ -350,9 +350,9 @@ class _Reading:
         return lambda group, why: self._leave_out(member, group, why)
 
     def _owner(self, member: Member) -> Tuple[int, int]:
-        owners = (member.uid, member.gid)
-        if all(0 <= owner <= limits.OWNER_MOST for owner in owners):
-            return owners
+        uid, gid = member.uid, member.gid
+        if 0 <= uid <= limits.OWNER_MOST and 0 <= gid <= limits.OWNER_MOST:
+            return uid, gid
         self._leave_out(member, ATTRIBUTE, f"owner {member.uid}:{member.gid}: 0:0 is written")
         return 0, 0
 
@@ -363,7 +363,7 @@ class _Reading:
 
 def _parts(path: str) -> List[str]:
     """The names in a path of a tar."""
-    return [part for part in path.split("/") if part not in ("", ".")]
+    return [part for part in path.split("/") if part and part != "."]
 
 
 def _take_over(node: Inode, below: Inode) -> None:

@@ -88,7 +88,12 @@ class TarLayer(Content, Layer):
     def _taken(self, stream: BinaryIO, size: int, stored: int, stretches: Stretches) -> Data:
         """The bytes of a file that begins here; long ones are kept in a temporary file."""
         if size <= PIECE and stored <= PIECE:
-            return _whole(stream, size, stretches)
+            if stretches is not None:
+                return b"".join(_pieces(stream, size, stretches))
+            data = stream.read(size)
+            if len(data) < size:
+                raise EOFError("it ends too early")
+            return data
         kept = cast(BinaryIO, tempfile.TemporaryFile(prefix="overlayd-import-"))
         for piece in _read(stream, stored):
             kept.write(piece)
@@ -142,7 +147,3 @@ def _pieces(stream: BinaryIO, size: int, stretches: Stretches) -> Iterator[bytes
         yield from _read(stream, length)
         at = start + length
     yield from zeros(size - at)
-
-
-def _whole(stream: BinaryIO, size: int, stretches: Stretches) -> bytes:
-    return b"".join(_pieces(stream, size, stretches))

@@ -3,10 +3,11 @@
 import codecs
 import re
 from binascii import hexlify
+from functools import lru_cache
 from typing import BinaryIO, Dict, Iterator, List, Optional, Sequence, Tuple
 
-from .limits import ATTRIBUTES_MOST, text_of
-from .meta import META, Meta, changed_at, meta_text
+from .limits import ATTRIBUTES_MOST, MODE_BITS, text_of
+from .meta import META, SECOND, Meta, changed_at, meta_text
 from .objects import (ZEROS, Content, Data, Directory, File, Inode, Long, Object,
                       Part, Symlink, Whiteout, walk)
 from .stores import Store
@@ -14,28 +15,41 @@ from .telling import ATTRIBUTE, Refused, Report, shown
 
 _CONTROLS = bytes(set(range(0x20)) - set(b"\n\t")) + b"\x7f"
 _SHORT = b"\\\"\n\t"
+_PRINTABLE = bytes(set(range(0x20, 0x7F)) - set(_SHORT))
 _SHORT_ESCAPES = [(b"\\", b"\\\\"), (b'"', b'\\"'), (b"\n", b"\\n"), (b"\t", b"\\t")]
 _ESCAPES = [(bytes([code]), b"\\u%04x" % code) for code in _CONTROLS]
-_PLAIN = re.compile(r'[ !#-\[\]-~]*')
+# Whether a text of TOML has these characters as they are.
+is_plain = re.compile(r'[ !#-\[\]-~]*').fullmatch
 _UTF8 = codecs.getincrementaldecoder("utf-8")
 _ZERO_DIGITS = hexlify(ZEROS)
+# The modes that a manifest doesn't say.
+_FILE_MODE, _DIRECTORY_MODE = 0o644, 0o755
+_META = META.encode("ascii")
 
 
-def _added(raw: bytes) -> int:
-    """How many bytes escapes add to these."""
-    short = len(raw) - len(raw.translate(None, _SHORT))
-    return short + 5 * _controls(raw)
+def _special(raw: bytes) -> bytes:
+    """Those of the bytes that don't stand for themselves in a TOML text of ASCII alone."""
+    return raw.translate(None, _PRINTABLE)
+
+
+def _added(special: bytes) -> int:
+    """How many bytes escapes add to what has these special ones."""
+    others = special.translate(None, _SHORT)
+    return len(special) - len(others) + (5 * _controls(others) if others else 0)
 
 
 def _controls(raw: bytes) -> int:
     return len(raw) - len(raw.translate(None, _CONTROLS))
 
 
-def _escaped(raw: bytes) -> bytes:
-    """The inside of a TOML text, of bytes that are UTF-8."""
+def _escaped(raw: bytes, special: bytes) -> bytes:
+    """The inside of a TOML text, of bytes that are UTF-8 and have these special ones."""
+    if not special.strip(b"\n"):
+        return raw.replace(b"\n", b"\\n")
     for plain, escape in _SHORT_ESCAPES:
-        raw = raw.replace(plain, escape)
-    if _controls(raw):
+        if plain in special:
+            raw = raw.replace(plain, escape)
+    if _controls(special):
         for plain, escape in _ESCAPES:
             raw = raw.replace(plain, escape)
     return raw
@@ -43,9 +57,28 @@ def _escaped(raw: bytes) -> bytes:
 
 def quoted(text: str) -> str:
     """A TOML text."""
-    if _PLAIN.fullmatch(text):
+    if is_plain(text):
         return f'"{text}"'
-    return f'"{_escaped(text.encode("utf-8")).decode("utf-8")}"'
+    raw = text.encode("utf-8")
+    return f'"{_escaped(raw, _special(raw)).decode("utf-8")}"'
+
+
+def entry_head(base: str) -> bytes:
+    """The beginning of an entry, to which the end of its path, of plain characters, is added."""
+    return f"\n[[layer.entry]]\npath = {quoted(base)[:-1]}".encode("utf-8")
+
+
+@lru_cache(maxsize=4096)
+def mode_and_owner(mode: int, uid: int, gid: int) -> bytes:
+    """The lines of a file's entry that say so much."""
+    node = File(mode & MODE_BITS, uid, gid, (), 0)
+    return "".join(f"{line}\n" for line in _inode_lines(node, _FILE_MODE)).encode("utf-8")
+
+
+def time_line(mtime: int) -> bytes:
+    """The line of an entry that says the time, and nothing more of attributes."""
+    time = b"%d.%09d" % divmod(mtime, SECOND)
+    return b'attrs = [["%b", "1 - 0 %b %b %b"]]\n' % (_META, time, time, time)
 
 
 def bytes_line(data: bytes) -> bytes:
@@ -54,8 +87,9 @@ def bytes_line(data: bytes) -> bytes:
         return b""
     if not data[0] and not data.strip(b"\0"):
         return b"zeros = %d\n" % len(data)
-    if _added(data) <= len(data) and text_of(data) is not None:
-        return b'text = "%b"\n' % _escaped(data)
+    special = _special(data)
+    if _added(special) <= len(data) and (special.isascii() or text_of(data) is not None):
+        return b'text = "%b"\n' % _escaped(data, special)
     return b'hex = "%b"\n' % hexlify(data)
 
 
@@ -78,7 +112,7 @@ def long_lines(data: Long, path: str) -> Iterator[bytes]:
         count += len(piece)
         if form == "text":
             _go_on(decoder, piece, path)
-            yield _escaped(piece)
+            yield _escaped(piece, _special(piece))
         else:
             yield _ZERO_DIGITS if piece is ZEROS else hexlify(piece)
     if form == "text":
@@ -108,7 +142,7 @@ def _form_of(data: Long) -> str:
         if is_text:
             try:
                 decoder.decode(piece)
-                added += 5 * len(piece) if piece is ZEROS else _added(piece)
+                added += 5 * len(piece) if piece is ZEROS else _added(_special(piece))
             except UnicodeDecodeError:
                 is_text = False
         if not is_text and not is_zero:
@@ -159,11 +193,11 @@ class ManifestWriter:
         """Says what the root of the layer is like, where it isn't as a root is by default."""
         plain = (node.mode, node.uid, node.gid, node.attrs, node.mtime)
         if plain != (0o755, 0, 0, (), None):
-            self._entry("/", "dir", self._inode_lines(node, 0o755))
+            self._entry("/", "dir", _inode_lines(node, _DIRECTORY_MODE))
 
     def directory(self, path: str, node: Directory) -> None:
         """A directory other than the root."""
-        lines = self._inode_lines(node, 0o755)
+        lines = _inode_lines(node, _DIRECTORY_MODE)
         if node.opaque:
             lines.append("opaque = true")
         if node.redirect is not None:
@@ -172,21 +206,30 @@ class ManifestWriter:
 
     def file(self, path: str, node: File, data: Data) -> None:
         """A file with its bytes."""
-        self._entry(path, "file", self._inode_lines(node, 0o644))
-        self.bytes += len(data) if isinstance(data, bytes) else data.size
-        if self._store is not None and data:
-            data = self._store.keep(data)
-        if isinstance(data, Part):
-            self._out.write(part_lines(data))
-        elif isinstance(data, Long):
-            self._out.writelines(long_lines(data, path))
-        else:
-            self._out.write(bytes_line(data))
+        lines = _file_lines(path, node)
+        if isinstance(data, bytes):
+            self.plain_file(lines, data)
+            return
+        self._out.write(lines)
+        self.objects += 1
+        self.bytes += data.size
+        kept = data if self._store is None else self._store.keep(data)
+        if isinstance(kept, Part):
+            self._out.write(part_lines(kept))
+        elif isinstance(kept, Long):
+            self._out.writelines(long_lines(kept, path))
+
+    def plain_file(self, lines: bytes, data: bytes) -> None:
+        """A file whose entry is there but for its bytes, and these."""
+        kept = data if self._store is None else self._store.keep(data)
+        self._out.write(lines + (part_lines(kept) if isinstance(kept, Part) else bytes_line(data)))
+        self.objects += 1
+        self.bytes += len(data)
 
     def symlink(self, path: str, node: Symlink) -> None:
         """A symbolic link."""
         lines = [f"target = {quoted(node.target)}"]
-        self._entry(path, "symlink", self._owner_lines(node) + lines)
+        self._entry(path, "symlink", _owner_lines(node) + lines)
 
     def whiteout(self, path: str) -> None:
         """The mark that hides what is below."""
@@ -201,26 +244,40 @@ class ManifestWriter:
         self._began = True
 
     def _entry(self, path: str, kind: str, lines: List[str]) -> None:
-        text = "\n".join(["\n[[layer.entry]]", f"path = {quoted(path)}", f'kind = "{kind}"', *lines,
-                          ""])
-        self._out.write(text.encode("utf-8"))
+        self._out.write(_entry_lines(path, kind, lines))
         self.objects += 1
 
-    @staticmethod
-    def _owner_lines(node: Inode) -> List[str]:
-        lines = []
-        if node.uid:
-            lines.append(f"uid = {node.uid}")
-        if node.gid:
-            lines.append(f"gid = {node.gid}")
-        return lines
 
-    def _inode_lines(self, node: Inode, mode: int) -> List[str]:
-        lines = [f"mode = 0o{node.mode:o}"] if node.mode != mode else []
-        lines += self._owner_lines(node)
-        if node.attrs or node.mtime is not None or isinstance(node, File) and node.special:
-            lines.append(f"attrs = [{', '.join(_pairs(node))}]")
-        return lines
+def _entry_lines(path: str, kind: str, lines: List[str]) -> bytes:
+    head = ["\n[[layer.entry]]", f"path = {quoted(path)}", f'kind = "{kind}"']
+    return "\n".join([*head, *lines, ""]).encode("utf-8")
+
+
+def _file_lines(path: str, node: File) -> bytes:
+    """The lines of a file's entry but for its bytes."""
+    if node.attrs or node.special is not None:
+        return _entry_lines(path, "file", _inode_lines(node, _FILE_MODE))
+    return b'\n[[layer.entry]]\npath = %b\nkind = "file"\n%b%b' % (
+        quoted(path).encode("utf-8"), mode_and_owner(node.mode, node.uid, node.gid),
+        b"" if node.mtime is None else time_line(node.mtime))
+
+
+def _owner_lines(node: Inode) -> List[str]:
+    lines = []
+    if node.uid:
+        lines.append(f"uid = {node.uid}")
+    if node.gid:
+        lines.append(f"gid = {node.gid}")
+    return lines
+
+
+def _inode_lines(node: Inode, mode: int) -> List[str]:
+    """The lines of an entry for what isn't as it is by default, `mode`."""
+    lines = [f"mode = 0o{node.mode:o}"] if node.mode != mode else []
+    lines += _owner_lines(node)
+    if node.attrs or node.mtime is not None or isinstance(node, File) and node.special:
+        lines.append(f"attrs = [{', '.join(_pairs(node))}]")
+    return lines
 
 
 def _pairs(node: Inode) -> List[str]:
@@ -287,6 +344,11 @@ class LayerWriter:
         if node.mtime is not None or isinstance(node, File) and node.special is not None:
             self._report.leave_out(self._what, path, ATTRIBUTE,
                                    "its kind and times: it has 64 user attributes")
+
+    def plain_file(self, lines: bytes, data: bytes) -> None:
+        """Writes a file that has one name, of which all is said but the bytes."""
+        self._report.progress(self._what, self._writer.objects, self._writer.bytes)
+        self._writer.plain_file(lines, data)
 
     def file(self, path: str, node: File, data: Data) -> None:
         """Writes a file under its first name."""

@@ -31,8 +31,8 @@ server listens, and that it ends. The server keeps no history, unless an OPTION 
   --every SECONDS  a client of the server reads the mount, compares it with the manifest's lower
                    layers and writes what it has over them to the file of --save. That takes one
                    of the server's workers for as long as it runs, and two calls or more for each
-                   name. What others change meanwhile may be in it or not, and files with several
-                   names become files of their own; what is saved in the end is exact
+                   name. What others change meanwhile may be in it or not; what is saved in the
+                   end is exact
   --restart        goes on from the file of --save where it is there: the server gets a manifest of
                    that upper and of the lower layers of MANIFEST, which is made at FILE.mount
 

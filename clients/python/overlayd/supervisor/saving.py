@@ -6,7 +6,7 @@ import os
 import stat
 import tempfile
 import threading
-from typing import Any, BinaryIO, Callable, List, Optional, Tuple, TypeVar
+from typing import Any, BinaryIO, Callable, List, Optional, Set, Tuple, TypeVar
 
 from ..client import Client
 from ..errors import Disconnected
@@ -140,22 +140,26 @@ def write_upper_manifest(found: List[Change], mounted: Mounted, stream: BinaryIO
     writer = ManifestWriter(stream)
     writer.layer()
     left_out: List[str] = []
+    files: Set[str] = set()
     for change in found:
         if left_out and change.path.startswith(left_out[-1] + "/"):
             continue
         try:
-            _write(writer, change, mounted)
+            _write(writer, change, mounted, files)
         except UnicodeError:
             left_out.append(change.path)
     return left_out
 
 
-def _write(writer: ManifestWriter, change: Change, mounted: Mounted) -> None:
-    """Writes one change; `UnicodeError` before anything is written where it can't be said."""
+def _write(writer: ManifestWriter, change: Change, mounted: Mounted, files: Set[str]) -> None:
+    """Writes one change; `UnicodeError` before anything is written where it can't be said. `files`
+    has the files that were written, to which further names can lead."""
     entry, path = change.entry, change.path
     path.encode("utf-8")
     if entry is None:
         writer.whiteout(path)
+    elif change.link_to in files:
+        writer.link(path, change.link_to or "")
     elif entry.kind == "symlink":
         writer.symlink(path, objects.Symlink(entry.uid, entry.gid, entry.target))
     elif entry.kind == "dir":
@@ -163,20 +167,22 @@ def _write(writer: ManifestWriter, change: Change, mounted: Mounted) -> None:
         node = objects.Directory(entry.mode, entry.uid, entry.gid, attrs)
         node.opaque = change.opaque
         writer.root(node) if path == "/" else writer.directory(path, node)
-    else:
-        _write_file(writer, change, entry, mounted)
+    elif _write_file(writer, change, entry, mounted):
+        files.add(path)
 
 
-def _write_file(writer: ManifestWriter, change: Change, entry: Entry, mounted: Mounted) -> None:
+def _write_file(writer: ManifestWriter, change: Change, entry: Entry, mounted: Mounted) -> bool:
+    """Writes a file; False where it is there no more, and a whiteout is written."""
     try:
         attrs, data = _sayable(mounted.attributes(change.path)), mounted.read(change.path)
     except OSError as error:
         if error.errno not in (errno.ENOENT, errno.ENOTDIR, errno.EISDIR, errno.ENODATA):
             raise
         writer.whiteout(change.path)
-        return
+        return False
     node = objects.File(entry.mode, entry.uid, entry.gid, attrs, len(data))
     writer.file(change.path, node, data)
+    return True
 
 
 def _sayable(attrs: List[Tuple[str, bytes]]) -> Tuple[Tuple[str, str], ...]:
