@@ -1,6 +1,6 @@
 # What can be made; `make` alone lists it.
 .PHONY: help show play try-serve build serve test test-serve test-memory test-clients install \
-    clean build-fuse test-fuse test-fuse-mounted try-fuse
+    clean build-fuse test-fuse test-fuse-mounted try-fuse lib test-c
 
 EXAMPLE := examples/change-layer
 SOCKET := out/overlay.socket
@@ -19,6 +19,8 @@ help:
 	@echo "make test-memory   tests that program with its requests for memory refused (needs cc)"
 	@echo "make test-clients  tests the Python tools, with that program where it is built"
 	@echo "make try-fuse DIR=DIRECTORY  mount a copy of a directory, until it is unmounted"
+	@echo "make lib           prove the C library and leave it at out/liboverlayd.a and .so.0 (needs cc)"
+	@echo "make test-c        tests that library, from C and from Python (needs cc)"
 	@echo "make build-fuse    build the bridge to FUSE and leave it at out/overlayd-fuse"
 	@echo "make test-fuse     tests it, without FUSE or root; on the program where it is built"
 	@echo "make test-fuse-mounted  tests it as root, with real programs beside the kernel's overlayfs"
@@ -31,7 +33,7 @@ show:
 	@tools/try show $(EXAMPLE).toml
 
 play:
-	@tools/try play $(EXAMPLE).toml < $(EXAMPLE).script
+	@tools/try play $(EXAMPLE).toml --echo < $(EXAMPLE).script
 
 try-serve:
 	@tools/try serve $(EXAMPLE).toml $(SOCKET) --verbose --unlink --no-history
@@ -64,7 +66,8 @@ deb: build
 	@tools/deb
 
 # What was built is copied, not built: a proof takes an hour. The Python tools are found by a path
-# of their own, so that they need no other installation.
+# of their own, so that they need no other installation. mount(8) looks for its helpers in /sbin alone,
+# which is /usr/sbin today.
 install:
 	@test -x "$(PROGRAM)" || { echo "no program at $(PROGRAM); make build makes it" >&2; exit 1; }
 	install -D -m 755 "$(PROGRAM)" "$(DESTDIR)$(PREFIX)/bin/overlayd"
@@ -73,7 +76,8 @@ install:
 	done
 	install -d "$(DESTDIR)$(PREFIX)/share/man/man5"
 	tools/formats-page > "$(DESTDIR)$(PREFIX)/share/man/man5/overlayd-formats.5"
-	for file in README.md docs/*.md clients/python/API.md examples/change-layer.*; do \
+	for file in README.md docs/*.md clients/python/API.md clients/python/ATTRIBUTES.md \
+	    examples/change-layer.*; do \
 	  install -D -m 644 $$file "$(DESTDIR)$(PREFIX)/share/doc/overlayd/$${file##*/}" || exit 1; \
 	done
 	for unit in examples/*.service; do \
@@ -93,12 +97,34 @@ install:
 	if test -x out/overlayd-fuse; then \
 	  install -D -m 755 out/overlayd-fuse "$(DESTDIR)$(PREFIX)/bin/overlayd-fuse" && \
 	  install -D -m 644 clients/fuse/overlayd-fuse.1 \
-	    "$(DESTDIR)$(PREFIX)/share/man/man1/overlayd-fuse.1"; \
+	    "$(DESTDIR)$(PREFIX)/share/man/man1/overlayd-fuse.1" || exit 1; \
+	  case "$(PREFIX)" in /usr|/usr/local) \
+	    install -d "$(DESTDIR)/usr/sbin" && for name in fuse.overlayd overlayd; do \
+	      ln -sf "$(PREFIX)/bin/overlayd-fuse" "$(DESTDIR)/usr/sbin/mount.$$name" || exit 1; \
+	    done;; \
+	  esac; \
+	fi
+
+	if test -f out/liboverlayd.a; then \
+	  install -D -m 644 clients/c/include/overlayd.h "$(DESTDIR)$(PREFIX)/include/overlayd.h" && \
+	  install -D -m 644 out/liboverlayd.a "$(DESTDIR)$(PREFIX)/lib/liboverlayd.a" && \
+	  install -D -m 755 out/liboverlayd.so.0 "$(DESTDIR)$(PREFIX)/lib/liboverlayd.so.0" && \
+	  ln -sf liboverlayd.so.0 "$(DESTDIR)$(PREFIX)/lib/liboverlayd.so" && \
+	  mkdir -p "$(DESTDIR)$(PREFIX)/lib/pkgconfig" && \
+	  sed 's|^prefix=.*|prefix=$(PREFIX)|' out/overlayd.pc \
+	    > "$(DESTDIR)$(PREFIX)/lib/pkgconfig/overlayd.pc"; \
 	fi
 
 clean:
 	rm -rf out crates/*/out clients/python/build clients/python/*.egg-info
 	find clients/python tools bench -name __pycache__ -prune -exec rm -rf {} +
+
+lib:
+	@tools/need-kit && tools/build-lib
+
+# The library is what make lib left. Without a C compiler that is told, and no fault.
+test-c:
+	@$(MAKE) --no-print-directory -C clients/c test
 
 try-fuse:
 	@tools/try-fuse $(DIR)
@@ -107,16 +133,22 @@ build-fuse:
 	@tools/need-fuse
 	@$(MAKE) --no-print-directory -C clients/fuse bridge
 
-# What the bridge needs may be missing where the engine is proved: that is told, and no fault.
+# What the bridge needs may be missing where the engine is proved: that is told, and no fault. The
+# tests run on both transports: a server's socket, and the engine's calls in the bridge's process.
 test-fuse:
 	@if tools/need-fuse; then \
 	    $(MAKE) --no-print-directory -C clients/fuse checked && \
-	    python3 -m unittest discover -s clients/fuse/tests -t clients/fuse; \
+	    python3 -m unittest discover -s clients/fuse/tests -t clients/fuse && \
+	    if test -x out/overlayd-fuse-passing; then \
+	      TRANSPORT=inside python3 -m unittest discover -s clients/fuse/tests -t clients/fuse; \
+	    fi; \
 	else echo "make test-fuse: skipped"; fi
 
 # Needs root, /dev/fuse, the kernel's overlayfs and the program; what is missing is told.
 test-fuse-mounted:
 	@if tools/need-fuse; then \
 	    $(MAKE) --no-print-directory -C clients/fuse checked && \
-	    python3 -m unittest discover -v -s clients/fuse/tests -t clients/fuse -p 'mounted_*.py'; \
+	    python3 -m unittest discover -v -s clients/fuse/tests -t clients/fuse -p 'mounted_*.py' && \
+	    TRANSPORT=inside python3 -m unittest discover -v -s clients/fuse/tests -t clients/fuse \
+	      -p 'mounted_*.py'; \
 	else echo "make test-fuse-mounted: skipped"; fi
