@@ -1,15 +1,15 @@
 // The blobs of every manifest that is played here, whatever names it gives them.
-use ov_base::Bytes;
+use ov_wire::Blob;
 use std::alloc::{AllocError, Global};
 
 /// Their bytes, as the files of these names have them beside the rows, for who reads these.
 const BLOBS: [&[u8]; 2] = [b"0123456789", b""];
 
 /// The blobs, for the engine.
-pub fn all_blobs(alloc: Global) -> Result<Vec<Bytes>, AllocError> {
+pub fn all_blobs(alloc: Global) -> Result<Vec<Blob>, AllocError> {
     let mut blobs = Vec::new(alloc);
     for bytes in BLOBS {
-        blobs.push(Bytes::from_slice(alloc, bytes)?)?;
+        blobs.push(Blob::from_vec(alloc, Vec::from_slice(alloc, bytes)?)?)?;
     }
     Ok(blobs)
 }

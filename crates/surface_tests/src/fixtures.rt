@@ -6,9 +6,9 @@ ghost use Rattle.layer_tree.specs.Tree.{layer_of};
 
 use layer_tree::{Layer, Node};
 use merged_lookup::{Found, Layers};
-use ov_base::{Errno, OpenFlags, Options, Path};
+use ov_base::{Errno, FileBytes, OpenFlags, Options, Path};
 use ov_wire::manifest_of;
-use std::alloc::Global;
+use std::alloc::{AllocError, Global};
 use std::hash::RandomState;
 use std::process::Abort;
 use std::test::Fail;
@@ -34,6 +34,20 @@ pub fn read(
             Err(Fail::from("no upper"))
         }
     }
+}
+
+// Whether a file is there and holds these bytes.
+pub fn are_bytes(
+    alloc: Global,
+    held: Option<&FileBytes>,
+    bytes: &[u8],
+) -> Result<bool, AllocError> {
+    let Some(held) = held else {
+        return Ok(false);
+    };
+    let mut all = Vec::new(alloc);
+    held.append_to(0, held.len(), &mut all)?;
+    Ok(all.as_slice() == bytes)
 }
 
 // The layers of a manifest as a mount has them.

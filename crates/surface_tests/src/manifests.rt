@@ -1,5 +1,5 @@
 // What no script shows of a manifest: its options, and that it may be long.
-use crate::fixtures::{path, read};
+use crate::fixtures::{are_bytes, path, read};
 use layer_tree::{Entry, Layer, Node};
 use std::alloc::Global;
 use std::hash::RandomState;
@@ -61,6 +61,6 @@ fn has_last(rt: &impl Abort, alloc: Global, layer: &Layer) -> Result<(), Fail> {
         return Err(Fail::from("no object"));
     };
     assert!(rt; matches!(layer.node(key), Some(Node::Inode(_))));
-    assert!(rt; layer.read(key) == Some(b"9999".as_slice()));
+    assert!(rt; are_bytes(alloc, layer.read(key), b"9999")?);
     Ok(())
 }

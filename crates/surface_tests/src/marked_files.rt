@@ -5,7 +5,7 @@ ghost use Rattle.plain_model.specs.Layers.{AreLayers, IsLayer};
 ghost use Rattle.layer_tree.specs.Tree.{layer_of};
 
 use crate::cores::{Answer, answer_to, attached, mounted_on, refused, reply, unmount};
-use crate::fixtures::{flags, path, read};
+use crate::fixtures::{are_bytes, flags, path, read};
 use layer_tree::{Entry, Layer, Object, ROOT};
 use ov_base::{
     Attributes, Bytes, Call, Mode, Name, ObjectKind, Options, Reply, Stat, UserAttributes,
@@ -350,7 +350,7 @@ fn fills<F: Callback + Copy, H: Rule>(
 ) -> Result<(), Fail> {
     let descriptor = open(rt, alloc, core, client, "/m", true)?;
     let key = key_at(rt, alloc, core.layers().upper(), "/m")?;
-    assert!(rt; core.layers().upper().own(key) == Some(BYTES));
+    assert!(rt; are_bytes(alloc, core.layers().upper().own(key), BYTES)?);
     assert!(rt; core.layers().upper().mark(key).is_none());
     assert!(rt; shows(rt, alloc, core, client, "/m", MARKED)?);
     assert!(rt; has_bytes(rt, alloc, core, client, "/m", BYTES)?);

@@ -5,10 +5,11 @@ ghost use Rattle.toml.specs.View.{table_view};
 ghost use Rattle.ov_wire.specs.ManifestEntries.{Answers};
 ghost use Rattle.ov_wire.specs.ManifestEntries as spec;
 
+use super::blob::Blob;
 use super::entry::{integer_at, number_within, text_at, value_at};
 use super::fault::{EntryError, EntryFault};
-use super::stretch::stretch;
-use ov_base::Bytes;
+use super::stretch::{blob_at, span_in};
+use ov_base::FileBytes;
 use std::alloc::Global;
 use toml::Table;
 
@@ -44,28 +45,29 @@ fn has_key(entry: &Table, key: &str) -> bool
 pub(super) fn bytes_of(
     alloc: Global,
     limit: u64,
-    blobs: &[Bytes],
+    blobs: &[Blob],
     entry: &Table,
-) -> Result<Bytes, EntryError>
+) -> Result<FileBytes, EntryError>
     ensures { Answers result (spec.bytes_of limit blobs.now (table_view entry.now)) }
 {
-    let bytes = bytes_given(alloc, limit, blobs, entry)?;
-    if bytes.as_slice().len() as u64 > limit {
+    let given = bytes_given(alloc, limit, blobs, entry)?;
+    if given.len() as u64 > limit {
         return Err(EntryError::Fault(EntryFault::Value));
     }
-    Ok(bytes)
+    Ok(given)
 }
 
 fn bytes_given(
     alloc: Global,
     limit: u64,
-    blobs: &[Bytes],
+    blobs: &[Blob],
     entry: &Table,
-) -> Result<Bytes, EntryError>
+) -> Result<FileBytes, EntryError>
     ensures { Answers result (spec.bytes_given limit blobs.now (table_view entry.now)) }
 {
     if let Some(text) = text_at(entry, "text") {
-        return Ok(Bytes::from_slice(alloc, text.as_bytes())?);
+        let bytes = Vec::from_slice(alloc, text.as_bytes())?;
+        return Ok(FileBytes::from_vec(alloc, bytes)?);
     }
     if let Some(digits) = text_at(entry, "hex") {
         return bytes_spelled(alloc, digits.as_bytes());
@@ -75,7 +77,7 @@ fn bytes_given(
     }
     match integer_at(entry, "blob") {
         Some(number) => part_of(alloc, limit, blobs, entry, number),
-        None => Ok(Bytes::new(alloc)),
+        None => Ok(FileBytes::new(alloc)),
     }
 }
 
@@ -83,33 +85,36 @@ fn bytes_given(
 fn part_of(
     alloc: Global,
     limit: u64,
-    blobs: &[Bytes],
+    blobs: &[Blob],
     entry: &Table,
     number: i64,
-) -> Result<Bytes, EntryError>
+) -> Result<FileBytes, EntryError>
     ensures { Answers result (spec.part_of limit blobs.now (table_view entry.now) number) }
 {
     let at = integer_at(entry, "at");
     let size = integer_at(entry, "size");
-    let bytes = stretch(blobs, number, at, size)?;
+    let blob = blob_at(blobs, number)?;
+    let (start, count) = span_in(blob, at, size)?;
+    let bytes = blob.part(alloc, start, count)?;
     if bytes.len() as u64 > limit {
         return Err(EntryError::Fault(EntryFault::Value));
     }
-    Ok(Bytes::from_slice(alloc, bytes)?)
+    Ok(bytes)
 }
 
-// So many zero bytes, at most `limit`.
-fn zero_bytes(alloc: Global, limit: u64, count: i64) -> Result<Bytes, EntryError>
+// So many zero bytes, at most `limit`: a hole, which takes little memory.
+fn zero_bytes(alloc: Global, limit: u64, count: i64) -> Result<FileBytes, EntryError>
     ensures { Answers result (spec.zero_bytes limit count) }
 {
     let count = number_within(limit, count)?;
-    let mut bytes = Vec::new(alloc);
-    bytes.resize(count as usize, 0)?;
-    Ok(Bytes::from_vec(bytes))
+    let mut bytes = FileBytes::new(alloc);
+    bytes.resize(count as usize)?;
+    bytes.settle()?;
+    Ok(bytes)
 }
 
 // The bytes that pairs of lower case hexadecimal digits spell.
-fn bytes_spelled(alloc: Global, digits: &[u8]) -> Result<Bytes, EntryError>
+fn bytes_spelled(alloc: Global, digits: &[u8]) -> Result<FileBytes, EntryError>
     ensures { Answers result (ok_or (spec.hex_bytes digits.now) EntryFault.Value) }
 {
     let count = digits.len() / 2;
@@ -123,7 +128,7 @@ fn bytes_spelled(alloc: Global, digits: &[u8]) -> Result<Bytes, EntryError>
             None => return Err(EntryError::Fault(EntryFault::Value)),
         }
     }
-    Ok(Bytes::from_vec(bytes))
+    Ok(FileBytes::from_vec(alloc, bytes)?)
 }
 
 // The byte that two digits spell, the higher first.

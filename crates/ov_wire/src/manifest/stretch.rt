@@ -1,47 +1,44 @@
-// The bytes that a blob has from a place on.
-ghost use Rattle.std.specs.Prelude.{◌≡◌, ◌≤◌, Ok, Err, IfOk, IfErr, length};
+// Where in a blob the bytes of an entry lie.
+ghost use Rattle.std.specs.Prelude.{◌≡◌, ◌+◌, ◌≤◌, Ok, Err, IfOk, IfErr, drop, length, take};
 ghost use Rattle.ov_wire.specs.ManifestEntries as spec;
 
+use super::blob::Blob;
 use super::entry::number_within;
 use super::fault::EntryFault;
-use ov_base::Bytes;
 
-// The bytes of the blob of a number, from a place on or else from its start, so many or else all that are left.
-pub(super) fn stretch(
-    blobs: &[Bytes],
-    number: i64,
-    at: Option<i64>,
-    size: Option<i64>,
-) -> Result<&[u8], EntryFault>
-    ensures ok { IfOk result (λ bytes. spec.stretch blobs.now number at size ≡ Ok bytes.now) }
-    ensures err { IfErr result (λ fault. spec.stretch blobs.now number at size ≡ Err fault) }
-{
-    let blob = blob_at(blobs, number)?;
-    let start = number_or(blob.len() as u64, 0, at)?;
-    first_of(&blob[start as usize..], size)
-}
-
-fn blob_at(blobs: &[Bytes], number: i64) -> Result<&[u8], EntryFault>
-    ensures ok { IfOk result (λ bytes. spec.blob_at blobs.now number ≡ Ok bytes.now) }
+// The blob of a number.
+pub(super) fn blob_at(blobs: &[Blob], number: i64) -> Result<&Blob, EntryFault>
+    ensures ok { IfOk result (λ blob. spec.blob_at blobs.now number ≡ Ok blob.now) }
     ensures err { IfErr result (λ fault. spec.blob_at blobs.now number ≡ Err fault) }
 {
     if number < 0 {
         return Err(EntryFault::Value);
     }
     match blobs.get(number as usize) {
-        Some(blob) => Ok(blob.as_slice()),
+        Some(blob) => Ok(blob),
         None => Err(EntryFault::Value),
     }
 }
 
-// So many of these bytes, all of them without a number.
-fn first_of(bytes: &[u8], size: Option<i64>) -> Result<&[u8], EntryFault>
-    ensures ok { IfOk result (λ first. spec.first_of bytes.now size ≡ Ok first.now) }
-    ensures err { IfErr result (λ fault. spec.first_of bytes.now size ≡ Err fault) }
+// From where on the bytes of an entry lie in a blob, and how many they are: from a place on or else
+// from its start, so many or else all that are left.
+pub(super) fn span_in(
+    blob: &Blob,
+    at: Option<i64>,
+    size: Option<i64>,
+) -> Result<(usize, usize), EntryFault>
+    ensures ok { IfOk result (λ r. spec.and_then (spec.number_in (length blob.now) 0 at)
+        (λ start. spec.first_of (drop start blob.now) size)
+        ≡ Ok (take r.1 (drop r.0 blob.now))) }
+    ensures err { IfErr result (λ fault. spec.and_then (spec.number_in (length blob.now) 0 at)
+        (λ start. spec.first_of (drop start blob.now) size) ≡ Err fault) }
+    ensures within { IfOk result (λ r. r.0 + r.1 ≤ length blob.now) }
 {
-    let length = bytes.len() as u64;
-    let count = number_or(length, length, size)?;
-    Ok(&bytes[..count as usize])
+    let length = blob.len() as u64;
+    let start = number_or(length, 0, at)?;
+    let left = length - start;
+    let count = number_or(left, left, size)?;
+    Ok((start as usize, count as usize))
 }
 
 // A number, which may be at most `most`; `default` without one.
