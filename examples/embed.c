@@ -39,7 +39,7 @@ int main(int argc, char **argv)
     size_t size = file ? fread(manifest, 1, sizeof manifest, file) : 0, length = 0, none = 0;
     uint8_t keys[16], nothing = 0;
     ovl_mount mount = OVL_NONE;
-    uint64_t client = 0;
+    uint64_t client = 0, left_out = 0;
     if (!file || size == sizeof manifest || getrandom(keys, sizeof keys, 0) != sizeof keys) {
         fprintf(stderr, "usage: embed MANIFEST, of less than 1 MiB and without blobs\n");
         return 2;
@@ -54,6 +54,12 @@ int main(int argc, char **argv)
     printf("stat /new: %d\n", call(&mount, client, 1, "", 0, "/new"));
     printf("its mode is %o\n", reply[16] << 8 | reply[17]);
     printf("mkdir /new: %d, which is EEXIST\n", call(&mount, client, 9, "\0\0\1\355", 4, "/new"));
+    if (ovl_save(&mount, &length, &left_out) != OVL_OK)
+        return 1;
+    for (size_t at = 0; at < length; at += size) {
+        ovl_saved(&mount, at, reply, sizeof reply, &size);
+        fwrite(reply, 1, size, stdout);
+    }
     ovl_unmount(&mount);
     return fclose(file) != 0;
 }

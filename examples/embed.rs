@@ -55,6 +55,14 @@ extern "C" {
         room: usize,
         length: *mut usize,
     ) -> i32;
+    fn ovl_save(mount: *mut Handle, length: *mut usize, left_out: *mut u64) -> i32;
+    fn ovl_saved(
+        mount: *mut Handle,
+        at: usize,
+        text: *mut u8,
+        room: usize,
+        count: *mut usize,
+    ) -> i32;
 }
 
 impl Mount {
@@ -110,6 +118,17 @@ impl Mount {
         })?;
         Ok(&room[..length])
     }
+
+    /// The upper as a manifest of one layer, and how many objects no manifest can say.
+    pub fn save(&mut self) -> Result<(Vec<u8>, u64), Failure> {
+        let (mut length, mut left_out, mut count) = (0, 0, 0);
+        done(unsafe { ovl_save(&mut self.handle, &mut length, &mut left_out) })?;
+        let mut text = vec![0; length];
+        done(unsafe {
+            ovl_saved(&mut self.handle, 0, text.as_mut_ptr(), text.len(), &mut count)
+        })?;
+        Ok((text, left_out))
+    }
 }
 
 impl Drop for Mount {
@@ -132,5 +151,7 @@ fn main() -> Result<(), Box<dyn std::error::Error>> {
     let stat = [0, 0, 0, 4, 1, 0, 1, b'/'];
     let reply = mount.call(client, &stat, &mut room).map_err(|it| format!("{it:?}"))?;
     println!("stat /: status {}, kind {}", reply[4], reply[13]);
+    let (text, _) = mount.save().map_err(|it| format!("{it:?}"))?;
+    println!("the upper takes {} bytes", text.len());
     Ok(())
 }

@@ -5,8 +5,8 @@ import re
 import struct
 import time
 
-from servers import (ARM_FILE, CLOSED, DETACH, DONE, NOTICES, OPEN_FILE, STAT_ROOT, expect, serving,
-                     together)
+from servers import (ARM_FILE, CLOSED, DETACH, DONE, NOTICES, OPEN_FILE, SHOWN_ROOT, STAT_ROOT,
+                     expect, serving, together)
 
 IDLE = 1
 # Two lines each, which are more than a pipe of one page has room for and 1,024 that wait.
@@ -57,6 +57,42 @@ def idle_connections(program):
     expect(made[:3], [0, 0, 1], "calls of those that did nothing")
 
 
+def drips(peer):
+    """Sends a byte now and then of a frame that it never ends, until its stream is closed."""
+    began = time.monotonic()
+    with contextlib.suppress(BrokenPipeError, ConnectionResetError):
+        for byte in struct.pack(">IB", 60_000, 17) + bytes(75):
+            peer.send(bytes((byte,)))
+            time.sleep(IDLE / 4)
+    waited = time.monotonic() - began
+    expect(0.9 * IDLE < waited < 10 * IDLE, True, f"whether it held its worker {waited:.2f} s")
+
+
+def sends_in_time(peer):
+    """Sends each request in three pieces within its time, as often as takes far longer."""
+    for turn in range(6):
+        for piece in (STAT_ROOT[:1], STAT_ROOT[1:5], STAT_ROOT[5:] + STAT_ROOT * (turn % 2)):
+            time.sleep(IDLE / 4)
+            peer.send(piece)
+        for _ in range(1 + turn % 2):
+            peer.answered(DONE, SHOWN_ROOT, f"stat / in pieces, turn {turn}")
+    peer.ask(DETACH, DONE, b"", "detach")
+
+
+def bytes_now_and_then(program):
+    """With `--idle` a frame has its time from its first byte, however often a byte of it comes; a
+    frame that comes in pieces, and in time, is answered."""
+    with serving(program, 2, 1, more=["--idle", str(IDLE), "--verbose"]) as server:
+        slow, steady = server.peer(), server.peer()
+        works = [lambda: drips(slow), lambda: sends_in_time(steady)]
+        together(2, lambda index: works[index]())
+        slow.link.close()
+        steady.link.close()
+        told = server.end()
+    ends = sorted(re.findall(r" ends after (\d+) calls: (.*)\n", told))
+    expect(ends, [("0", "timed out"), ("9", "detached")], "ends")
+
+
 def lines_that_nobody_reads(program):
     """Where nobody reads standard error, sessions go on; lines that are too many are counted."""
     with serving(program, 2, SESSIONS // 2, more=["--verbose"]) as server:
@@ -75,4 +111,4 @@ def lines_that_nobody_reads(program):
     expect(told[-1], summary, "summary")
 
 
-TESTS = [idle_connections, lines_that_nobody_reads]
+TESTS = [idle_connections, bytes_now_and_then, lines_that_nobody_reads]

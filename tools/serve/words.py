@@ -30,6 +30,7 @@ def each_option_of_serve(program):
     """All options at once, but for the two that exclude each other, in any order."""
     words = ["serve", "-v", "--workers", "64", "manifest.toml", "s", "--sessions=1000000",
              "--no-history", "--idle", "86400", "--unlink", "--until-eof", "--save", "upper.toml",
+             "--refuse", "--status=status",
              "--manifest-limit=1099511627776"]
     with runs(program) as (folder, run):
         status, out, told = run(*words)

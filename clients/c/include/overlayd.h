@@ -48,7 +48,9 @@ enum ovl_status {
     OVL_MOUNTED = 10,    /* there is a mount already */
     OVL_MORE = 11,       /* a step was made, and the call has more of them */
     OVL_NO_JOB = 12,     /* no job of this number is there */
-    OVL_REFUSED = 13     /* refused, by an error number of docs/FORMATS.md */
+    OVL_REFUSED = 13,    /* refused, by an error number of docs/FORMATS.md */
+    OVL_NO_UPPER = 14,   /* the mount has no upper layer */
+    OVL_UPPER_FAULT = 15 /* the saved upper is at fault */
 };
 
 /* The version of these calls: the major number, and the minor one in the low 16 bits. */
@@ -65,6 +67,22 @@ int32_t ovl_mount_manifest(ovl_mount *mount, const uint8_t *manifest, size_t man
                            const uint8_t *blobs, size_t blobs_length,
                            const size_t *lengths, size_t count, const uint8_t keys[16],
                            uint8_t *fault, size_t room, size_t *length);
+
+/* The same with a saved upper in the place of the manifest's own: `upper` is the text that ovl_save
+ * or the program's --save left (docs/FORMATS.md, A saved upper). As ovl_mount_manifest, and
+ * OVL_UPPER_FAULT, with a text in `fault`, where it is `upper` that is at fault. */
+int32_t ovl_mount_upper(ovl_mount *mount, const uint8_t *upper, size_t upper_length,
+                        const uint8_t *manifest, size_t manifest_length,
+                        const uint8_t *blobs, size_t blobs_length,
+                        const size_t *lengths, size_t count, const uint8_t keys[16],
+                        uint8_t *fault, size_t room, size_t *length);
+
+/* The names of a manifest's blobs, in the order of its key `blobs`: one behind the other, each with
+ * a zero byte behind it. *length is that of them all, never more than manifest_length, and *count is
+ * how many they are. No file has a name with a zero byte of its own, though a manifest may. OVL_OK;
+ * OVL_FAULT, with a text of why in `names`, *length its length and *count 0; OVL_NO_MEMORY. */
+int32_t ovl_blob_names(const uint8_t *manifest, size_t manifest_length, uint8_t *names, size_t room,
+                       size_t *length, size_t *count);
 
 /* Ends a mount, if there is one: its clients are gone, and all that it has is freed. */
 void ovl_unmount(ovl_mount *mount);
@@ -90,8 +108,8 @@ int32_t ovl_call(ovl_mount *mount, uint64_t client, const uint8_t *request, size
  * fit; none was made before the first call. OVL_OK, OVL_NOT_MOUNTED. */
 int32_t ovl_reply(ovl_mount *mount, uint8_t *reply, size_t room, size_t *length);
 
-/* The same call in steps, so that a file that has to be copied up first holds nobody up: other calls
- * may come between. ovl_begin takes the request of one call, no step of which is made yet, and *job
+/* The same call in steps, so that a file that has to be copied up first holds nobody up: other
+ * calls may come between. ovl_begin takes the request of one call, no step of which is made yet, and *job
  * is its number; numbers start at 0, rise and aren't used again. It ends by its last step, or by
  * ovl_drop. OVL_MORE, where there is a job; OVL_OK, where the path text is refused, with the reply
  * as ovl_call gives it; OVL_UNWRITTEN, OVL_NOT_MOUNTED, OVL_NO_CLIENT, OVL_NO_FRAME, OVL_DETACH,
@@ -102,8 +120,8 @@ int32_t ovl_begin(ovl_mount *mount, uint64_t client, const uint8_t *request, siz
 
 /* Makes one step of a job: a parent that is made, or a chunk that is copied, of 4,096 bytes or the
  * 256th part of a file of more than 1 MiB, or the call itself. OVL_MORE, where more steps come;
- * OVL_OK, where that was the last, with the reply as ovl_call gives it; OVL_UNWRITTEN, the last too;
- * OVL_NOT_MOUNTED, OVL_NO_JOB, OVL_ENDED; OVL_NO_CLIENT, where its client was detached, and the job
+ * OVL_OK, where that was the last, with the reply as ovl_call gives it; OVL_UNWRITTEN, the last
+ * too; OVL_NOT_MOUNTED, OVL_NO_JOB, OVL_ENDED; OVL_NO_CLIENT, where its client was detached, and the job
  * is gone. But for OVL_OK *length is 0 and `reply` is left alone. */
 int32_t ovl_step(ovl_mount *mount, uint64_t job, uint8_t *reply, size_t room, size_t *length);
 
@@ -131,6 +149,18 @@ int32_t ovl_write(ovl_mount *mount, uint64_t client, uint32_t descriptor, const 
  */
 int32_t ovl_place(ovl_mount *mount, const uint8_t *path, size_t path_length, size_t *layer,
                   size_t *key, uint8_t *error);
+
+/* Saves the upper as a manifest of one layer, the very bytes that the program's --save writes; the
+ * mount's own manifest goes on with it (docs/FORMATS.md, A saved upper). The mount keeps the text
+ * until the upper is saved again, and ovl_saved gives it. *length is how long it is, and *left_out
+ * how many objects no manifest can say, which aren't in it. OVL_OK; OVL_NOT_MOUNTED, OVL_NO_UPPER,
+ * OVL_NO_MEMORY: what was saved before stays, and *length and *left_out are 0. */
+int32_t ovl_save(ovl_mount *mount, size_t *length, uint64_t *left_out);
+
+/* Gives a piece of the text that ovl_save made last: its bytes from number `at` on, as far as there
+ * are any and there is room, go into `text`, and *count is how many they are, 0 where `at` is the
+ * length or more. What is behind them stays. OVL_OK; OVL_NOT_MOUNTED, by which *count is 0. */
+int32_t ovl_saved(ovl_mount *mount, size_t at, uint8_t *text, size_t room, size_t *count);
 
 #ifdef __cplusplus
 }

@@ -3,16 +3,17 @@
 #include "tests.h"
 
 #include <pthread.h>
+#include <time.h>
 
 #define THREADS 8
-#define ROUNDS 2000
 
 static ovl_mount mount = OVL_NONE;
 static pthread_mutex_t lock = PTHREAD_MUTEX_INITIALIZER;
 
 struct worker {
     pthread_t thread;
-    unsigned number, wrong;
+    unsigned number, wrong, rounds;
+    time_t last;   /* the second in which it ends; 0 where it makes so many rounds */
 };
 
 /* The status of the reply to a request by op and path, 255 where there is none. */
@@ -45,7 +46,10 @@ static void *work(void *it)
     pthread_mutex_lock(&lock);
     worker->wrong += ovl_attach(&mount, &client) != OVL_OK;
     pthread_mutex_unlock(&lock);
-    for (int round = 0; round < ROUNDS; round++) {
+    unsigned most = worker->rounds;
+    worker->rounds = 0;
+    while (worker->last ? time(NULL) < worker->last : worker->rounds < most) {
+        worker->rounds++;
         worker->wrong += ask(client, 9, own, reply) != 0;
         worker->wrong += ask(client, 1, own, reply) != 0 || reply[13] != 1;
         worker->wrong += ask(client, 13, own, reply) != 0;
@@ -57,22 +61,25 @@ static void *work(void *it)
     return NULL;
 }
 
-void shared_by_threads(void)
+void shared_by_threads(int rounds, int seconds)
 {
     struct worker workers[THREADS] = {0};
-    uint64_t client, place;
+    uint64_t client, place, made = 0;
     CHECK(mount_text(&mount, "layer = [{}, {}]") == OVL_OK);
     for (unsigned i = 0; i < THREADS; i++) {
         workers[i].number = i;
+        workers[i].rounds = (unsigned)rounds;
+        workers[i].last = seconds ? time(NULL) + seconds : 0;
         CHECK(pthread_create(&workers[i].thread, NULL, work, &workers[i]) == 0);
     }
     for (unsigned i = 0; i < THREADS; i++) {
         CHECK(pthread_join(workers[i].thread, NULL) == 0);
-        CHECK(workers[i].wrong == 0);
+        CHECK(workers[i].wrong == 0 && workers[i].rounds > 0);
+        made += workers[i].rounds;
     }
     /* Each attach, each call and each detach has a place, whatever their order. */
     CHECK(ovl_attach(&mount, &client) == OVL_OK && client == THREADS);
     CHECK(ovl_detach(&mount, client, &place) == OVL_OK);
-    CHECK(place == (uint64_t)THREADS * (4 * ROUNDS + 2) + 1);
+    CHECK(place == 4 * made + 2 * THREADS + 1);
     ovl_unmount(&mount);
 }

@@ -42,6 +42,8 @@ struct options {
     const char *source, *mountpoint;  /* what is shown: a server's socket, or a manifest */
     bool inside;                 /* it is a manifest: the engine runs in this process */
     const char *upper, *save;    /* of a mount inside, or NULL */
+    const char *status;          /* what the server's --status writes, or NULL */
+    bool strict;                 /* nothing is mounted where that tells of a history */
     uint64_t manifest_limit;     /* bytes of the manifest and of what it names */
     uint64_t size;               /* bytes that a mount inside may grow by, or 0 */
     unsigned sessions, max_sessions, wait, keep;
@@ -86,6 +88,7 @@ extern const struct transport socket_transport, inside_transport;
 struct connection {
     bool is_open;
     bool is_fresh;        /* it was asked something since it was last looked after */
+    bool is_served;       /* it was answered */
     int socket;           /* of the transport over a socket */
     uint64_t client;      /* its number, of the transport inside */
     unsigned wait;        /* as the socket was told it */
@@ -230,6 +233,7 @@ struct bridge {
     time_t next_attach;         /* before which no further one is tried */
     struct connection *asked;   /* the connection of the batch */
     bool told_full;             /* that the server's history is full */
+    bool no_worker;             /* the server says that it has no free worker */
     struct kernel kernel;
     struct untold untold;
     struct batch batch;
@@ -268,6 +272,10 @@ int ask_end(struct bridge *bridge);
 /* Why the request of this number was refused, or 0. */
 int refused(const struct bridge *bridge, size_t number);
 int64_t milliseconds(void);
+
+/* history.c */
+/* Whether to mount; a line tells what the server's --status says of a history. */
+bool history_judged(const struct bridge *bridge);
 
 /* inside.c */
 /* The engine in this process; a line tells why it can't be. */
@@ -398,6 +406,8 @@ void opened_end(struct bridge *bridge, struct node *node);
 void untold_begin(struct bridge *bridge);
 /* By which a file is read or written; an error number where there is none. */
 int untold_open(struct bridge *bridge, struct node *node, bool writes, struct opened **opened);
+/* Before a file is opened: what was used longest ago is closed where there are many. */
+void untold_room(struct bridge *bridge);
 /* What was opened as it was made. */
 void untold_new(struct bridge *bridge, struct node *node, struct opened *opened);
 /* Before the last name of a node goes. */

@@ -34,6 +34,7 @@ static int open_anew(struct bridge *bridge, struct connection *connection)
 {
     int fault = bridge->transport->open(bridge, connection);
     connection->is_open = connection->is_fresh = fault == 0;
+    connection->is_served = false;
     return fault;
 }
 
@@ -167,9 +168,25 @@ void ask_closing(struct bridge *bridge, uint32_t descriptor)
 static void tell_full(struct bridge *bridge)
 {
     if (!bridge->told_full)
-        fprintf(stderr, "overlayd-fuse: %s: the server's history is full, and each call is refused "
-                "from now on; serve with --no-history\n", bridge->options.source);
+        tell(bridge, "%s: the server's history is full, and each call is refused from now on; "
+             "serve with --no-history", bridge->options.source);
     bridge->told_full = true;
+}
+
+/* A server that turns a client away says so by its first reply, and is gone then. */
+static bool is_turned_away(const struct bridge *bridge)
+{
+    const struct batch *batch = &bridge->batch;
+    return !bridge->asked->is_served && batch->answered > 0 && batch->asks[0].untaken
+        && batch->asks[0].refused == EBUSY;
+}
+
+/* At the beginning it is told otherwise. */
+static void tell_no_worker(struct bridge *bridge)
+{
+    if (!bridge->no_worker && bridge->attached >= bridge->options.sessions)
+        tell(bridge, "%s: the server has no free worker", bridge->options.source);
+    bridge->no_worker = true;
 }
 
 /* Which descriptors are open now, and whether something was changed. */
@@ -190,7 +207,9 @@ static void account(struct bridge *bridge)
             bridge->changes++;
     }
     connection->closing = 0;
-    connection->is_fresh = true;
+    if (!connection->is_served)
+        bridge->no_worker = false;
+    connection->is_fresh = connection->is_served = true;
 }
 
 int ask_end(struct bridge *bridge)
@@ -201,7 +220,12 @@ int ask_end(struct bridge *bridge)
         return 0;
     bridge->trips++;
     bridge->frames += bridge->batch.count;
-    if (!bridge->transport->exchange(bridge, bridge->asked)) {
+    bool is_right = bridge->transport->exchange(bridge, bridge->asked);
+    if (is_turned_away(bridge)) {
+        tell_no_worker(bridge);
+        is_right = false;
+    }
+    if (!is_right) {
         connection_drop(bridge, bridge->asked);
         return EIO;
     }
@@ -231,8 +255,9 @@ bool connections_begin(struct bridge *bridge)
     bridge->wait = bridge->options.wait;
     if (bridge->attached == wanted)
         return true;
-    fprintf(stderr, "overlayd-fuse: the server answers %u of %u sessions: serve with more "
-            "--workers, or mount with fewer --sessions\n", bridge->attached, wanted);
+    fprintf(stderr, "overlayd-fuse: the server answers %u of %u sessions%s: serve with more "
+            "--workers, or mount with fewer --sessions\n", bridge->attached, wanted,
+            bridge->no_worker ? ", and has no free worker" : "");
     return false;
 }
 

@@ -81,8 +81,6 @@ static void detach(struct bridge *bridge, struct connection *connection)
     ovl_detach(&bridge->engine, connection->client, &place);
 }
 
-#ifdef ENGINE_HAS_BYTES
-
 static int fault_of(int32_t status, uint8_t error)
 {
     return status == OVL_OK ? 0 : status == OVL_REFUSED ? error
@@ -105,10 +103,6 @@ static int write_bytes(struct bridge *bridge, const struct connection *connectio
                               count, &error), error);
 }
 
-#endif
-
-#ifdef ENGINE_HAS_PLACES
-
 static bool place(struct bridge *bridge, const char *path, struct place *place)
 {
     uint8_t error = 0;
@@ -116,35 +110,42 @@ static bool place(struct bridge *bridge, const char *path, struct place *place)
                      &place->key, &error) == OVL_OK;
 }
 
-#endif
-
 const struct transport inside_transport = {
     .open = attach, .ready = is_ready, .exchange = exchange, .drop = detach, .is_near = true,
-#ifdef ENGINE_HAS_BYTES
-    .read = read_bytes, .write = write_bytes,
-#endif
-#ifdef ENGINE_HAS_PLACES
-    .place = place,
-#endif
+    .read = read_bytes, .write = write_bytes, .place = place,
 };
+
+static int32_t mount_it(ovl_mount *engine, const struct manifest *manifest, uint8_t *fault,
+                        size_t *length)
+{
+    static const uint8_t nothing[1];
+    static const size_t none = 0;
+    const uint8_t *text = (const uint8_t *)manifest->text;
+    const uint8_t *upper = (const uint8_t *)manifest->upper;
+    const uint8_t *blobs = manifest->blobs ? (const uint8_t *)manifest->blobs : nothing;
+    const size_t *lengths = manifest->lengths ? manifest->lengths : &none;
+    uint8_t keys[16];
+    if (getrandom(keys, sizeof keys, 0) != sizeof keys)
+        return OVL_NO_MEMORY;
+    return upper ? ovl_mount_upper(engine, upper, manifest->upper_length, text, manifest->length,
+                                   blobs, manifest->blobs_length, lengths, manifest->count, keys,
+                                   fault, FAULT_BYTES, length)
+        : ovl_mount_manifest(engine, text, manifest->length, blobs, manifest->blobs_length, lengths,
+                             manifest->count, keys, fault, FAULT_BYTES, length);
+}
 
 static bool mount(struct bridge *bridge, const struct manifest *manifest)
 {
-    static const uint8_t nothing[1];
-    uint8_t keys[16], fault[FAULT_BYTES];
-    size_t none = 0, length = 0;
-    if (getrandom(keys, sizeof keys, 0) != sizeof keys)
-        return false;
-    int32_t status = ovl_mount_manifest(
-        &bridge->engine, (const uint8_t *)manifest->text, manifest->length,
-        manifest->blobs ? (const uint8_t *)manifest->blobs : nothing, manifest->blobs_length,
-        manifest->lengths ? manifest->lengths : &none, manifest->count, keys, fault, sizeof fault,
-        &length);
+    uint8_t fault[FAULT_BYTES];
+    size_t length = 0;
+    int32_t status = mount_it(&bridge->engine, manifest, fault, &length);
     if (status == OVL_OK)
         return true;
     length = length < sizeof fault ? length : sizeof fault;
-    if (status == OVL_FAULT)
-        tell(bridge, "%s: %.*s", bridge->options.source, (int)length, (const char *)fault);
+    if (status == OVL_FAULT || status == OVL_UPPER_FAULT)
+        tell(bridge, "%s: %.*s",
+             status == OVL_FAULT ? bridge->options.source : bridge->options.upper, (int)length,
+             (const char *)fault);
     else
         tell(bridge, "%s: out of memory", bridge->options.source);
     return false;

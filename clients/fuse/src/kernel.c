@@ -273,6 +273,7 @@ static bool hear_signals(struct bridge *bridge)
     sigaddset(&heard, SIGHUP);
     sigaddset(&heard, SIGCHLD);
     signal(SIGPIPE, SIG_IGN);
+    signal(SIGCHLD, SIG_DFL);  /* who started the bridge may have it ignored */
     if (sigprocmask(SIG_BLOCK, &heard, NULL) != 0)
         return false;
     bridge->kernel.signals = signalfd(-1, &heard, SFD_CLOEXEC | SFD_NONBLOCK);

@@ -53,7 +53,8 @@ static bool begin(struct bridge *bridge)
         fputs("overlayd-fuse: out of memory\n", stderr);
         return false;
     }
-    return (!bridge->options.inside || inside_begin(bridge)) && connections_begin(bridge);
+    return (!bridge->options.inside || inside_begin(bridge)) && connections_begin(bridge)
+        && history_judged(bridge);
 }
 
 static void end(struct bridge *bridge)

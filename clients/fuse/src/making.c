@@ -255,6 +255,7 @@ struct file {
 static int open_made(struct bridge *bridge, const struct making *making, struct file *file)
 {
     bool is_new = (file->flags & OPEN_NEW) != 0;
+    untold_room(bridge);
     int fault = ask_for_open(bridge);
     if (fault)
         return fault;

@@ -1,7 +1,9 @@
 /* Reading a manifest, the files that it names, and the upper with which a mount goes on. */
 #include "manifest.h"
 
-#include "toml.h"
+#ifdef WITH_ENGINE
+
+#include <overlayd.h>
 
 #include <errno.h>
 #include <fcntl.h>
@@ -63,24 +65,13 @@ static int read_all(int folder, const char *name, uint64_t limit, struct bytes *
     return fault;
 }
 
-static bool read_text(const char *path, uint64_t limit, struct manifest *manifest)
+static bool read_text(const char *path, uint64_t limit, char **text, size_t *length)
 {
     struct bytes bytes = {NULL, 0, 0};
     int fault = read_all(AT_FDCWD, path, limit, &bytes);
-    manifest->text = bytes.at;
-    manifest->length = bytes.length;
+    *text = bytes.at;
+    *length = bytes.length;
     return !fault || tell("", path, strerror(fault));
-}
-
-/* Blobs: their names stand in an array of strings; of another value the engine tells the fault. */
-
-static struct part names_of(const struct manifest *manifest)
-{
-    struct part rest = {manifest->text, manifest->text + manifest->length}, key, value;
-    while (next_piece(&rest, &key, &value) == PIECE_KEY)
-        if (is_key(key, "blobs"))
-            return take_brackets(&value, '[', ']') ? value : (struct part){NULL, NULL};
-    return (struct part){NULL, NULL};
 }
 
 static bool add_blob(struct manifest *manifest, size_t length)
@@ -105,20 +96,37 @@ static bool read_blob(int folder, const char *name, uint64_t limit, struct manif
     return !fault || tell(what, name, strerror(fault));
 }
 
-static bool read_blobs(int folder, uint64_t limit, struct manifest *manifest)
+/* The names have a NUL behind each; one that has more of them is no file's. */
+static bool read_named(int folder, const char *names, size_t length, size_t count, uint64_t limit,
+                       struct manifest *manifest)
 {
-    struct part names = names_of(manifest), name;
     struct bytes bytes = {NULL, 0, 0};
+    const char *name = names;
     bool is_read = true;
-    while (is_read && next_element(&names, &name)) {
-        char *text = string_of(name);
-        if (!text)
-            break;
-        is_read = read_blob(folder, text, limit - manifest->length, manifest, &bytes);
-        free(text);
+    while (is_read && name < names + length) {
+        is_read = manifest->count < count
+            ? read_blob(folder, name, limit - manifest->length, manifest, &bytes)
+            : tell("", name, "a blob's name with a zero byte");
+        name += strlen(name) + 1;
     }
     manifest->blobs = bytes.at;
     manifest->blobs_length = bytes.length;
+    return is_read;
+}
+
+/* What is at fault of the manifest is told when it is mounted. */
+static bool read_blobs(int folder, const char *path, uint64_t limit, struct manifest *manifest)
+{
+    size_t length = 0, count = 0, room = manifest->length + 1;
+    char *names = malloc(room);
+    int32_t status = names ? ovl_blob_names((const uint8_t *)manifest->text, manifest->length,
+                                            (uint8_t *)names, room, &length, &count)
+        : OVL_NO_MEMORY;
+    bool is_read = status == OVL_FAULT
+        || (status == OVL_OK && length <= manifest->length
+            ? read_named(folder, names, length, count, limit, manifest)
+            : tell("", path, strerror(ENOMEM)));
+    free(names);
     return is_read;
 }
 
@@ -132,43 +140,27 @@ static int folder_of(const char *path)
     return descriptor;
 }
 
-static bool go_on(const char *path, const char *upper, uint64_t limit, struct manifest *manifest)
-{
-    struct manifest saved = {.text = NULL};
-    const char *why = NULL;
-    size_t length = 0;
-    bool is_base = false;
-    if (!read_text(upper, limit, &saved)) {
-        manifest_free(&saved);
-        return false;
-    }
-    char *text = joined(manifest, &saved, &length, &is_base, &why);
-    manifest_free(&saved);
-    if (!text)
-        return tell("", is_base ? path : upper, why);
-    free(manifest->text);
-    manifest->text = text;
-    manifest->length = length;
-    return true;
-}
-
 bool manifest_read(const char *path, const char *upper, uint64_t limit,
                    struct manifest *manifest)
 {
     *manifest = (struct manifest){.text = NULL};
-    if (!read_text(path, limit, manifest))
+    if (!read_text(path, limit, &manifest->text, &manifest->length))
         return false;
     int folder = folder_of(path);
-    bool is_read = folder >= 0 ? read_blobs(folder, limit, manifest)
+    bool is_read = folder >= 0 ? read_blobs(folder, path, limit, manifest)
         : tell("", path, strerror(errno));
     if (folder >= 0)
         close(folder);
-    return is_read && (!upper || go_on(path, upper, limit, manifest));
+    return is_read
+        && (!upper || read_text(upper, limit, &manifest->upper, &manifest->upper_length));
 }
 
 void manifest_free(struct manifest *manifest)
 {
     free(manifest->text);
+    free(manifest->upper);
     free(manifest->blobs);
     free(manifest->lengths);
 }
+
+#endif

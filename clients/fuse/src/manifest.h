@@ -9,20 +9,17 @@
 struct manifest {
     char *text;
     size_t length;
+    char *upper;              /* the saved upper with which it goes on, or NULL */
+    size_t upper_length;
     char *blobs;              /* one behind the other */
     size_t blobs_length;
     size_t *lengths, count;   /* of each of them */
 };
 
-/* Reads a manifest and the files that it names, which have at most `limit` bytes together; with
-   `upper`, a saved upper is its upper layer. A line tells why that can't be. */
+/* Reads a manifest and the files that it names, which have at most `limit` bytes together, and with
+   `upper` a saved upper. A line tells why that can't be. */
 bool manifest_read(const char *path, const char *upper, uint64_t limit,
                    struct manifest *manifest);
 void manifest_free(struct manifest *manifest);
-
-/* joining.c: the text of a mount that goes on: the options of `base`, the one layer of `saved`, and
-   the lower layers of `base`. NULL with the file's name at fault and why. */
-char *joined(const struct manifest *base, const struct manifest *saved, size_t *length,
-             bool *is_base, const char **why);
 
 #endif

@@ -33,6 +33,9 @@ static const char USAGE[] =
     "  --sessions N            connections to the server, 1 to 64; it needs a worker for each (4)\n"
     "  --max-sessions N        the most there may be while more files are open, up to 64 (64)\n"
     "  --shared                others change the mount too: nothing is cached\n"
+    "  --status FILE           tell where FILE, which the server's --status writes, says that it\n"
+    "                          keeps a history, by which each call is refused one day\n"
+    "  --strict                mount nothing then\n"
     "  --times                 keep times in the attribute " META ", as --manifest does\n"
     "  --no-times              keep them in memory alone\n"
     "  --devices               take devices from that attribute, too, where it says so\n"
@@ -52,7 +55,7 @@ enum {
     OPTION_SHARED = 256, OPTION_TIMES, OPTION_NO_TIMES, OPTION_WAIT, OPTION_KERNEL,
     OPTION_SESSIONS, OPTION_MAX_SESSIONS, OPTION_DEVICES, OPTION_UIDS, OPTION_GIDS, OPTION_SQUASH,
     OPTION_KEEP, OPTION_VERSION, OPTION_MANIFEST, OPTION_UPPER, OPTION_SAVE, OPTION_SIZE,
-    OPTION_LIMIT, OPTION_POLL,
+    OPTION_LIMIT, OPTION_POLL, OPTION_STATUS, OPTION_STRICT,
 };
 
 static const struct option OPTIONS[] = {
@@ -65,6 +68,8 @@ static const struct option OPTIONS[] = {
     {"sessions", required_argument, NULL, OPTION_SESSIONS},
     {"max-sessions", required_argument, NULL, OPTION_MAX_SESSIONS},
     {"shared", no_argument, NULL, OPTION_SHARED},
+    {"status", required_argument, NULL, OPTION_STATUS},
+    {"strict", no_argument, NULL, OPTION_STRICT},
     {"times", no_argument, NULL, OPTION_TIMES},
     {"no-times", no_argument, NULL, OPTION_NO_TIMES},
     {"devices", no_argument, NULL, OPTION_DEVICES},
@@ -150,6 +155,8 @@ static bool take_place(struct options *options, int option)
         return take_name("--upper is one file", &options->upper);
     case OPTION_SAVE:
         return take_name("--save is one file", &options->save);
+    case OPTION_STATUS:
+        return take_name("--status is one file", &options->status);
     case OPTION_SIZE:
         return take_bytes("--size is 1 to 1099511627776", &options->size);
     default:
@@ -192,6 +199,9 @@ static bool take_option(struct reading *reading, int option)
         return true;
     case OPTION_SHARED:
         options->shared = true;
+        return true;
+    case OPTION_STRICT:
+        options->strict = true;
         return true;
     case OPTION_TIMES:
         reading->times = TIMES_ON;
@@ -288,6 +298,9 @@ static bool judge(struct reading *reading)
         return fail("--shared is for a mount that a server serves to others too", NULL);
     if (!options->inside && (options->upper || options->save || options->size))
         return fail("--upper, --save and --size go with --manifest", NULL);
+    if (options->inside ? options->status || options->strict
+        : options->strict && !options->status)
+        return fail("--strict goes with --status, and both with a server", NULL);
     options->times = reading->times == TIMES_ON
         || (options->inside && reading->times == TIMES_UNSAID);
     options->keep = options->inside ? 0 : options->keep;

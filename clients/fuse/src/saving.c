@@ -2,7 +2,7 @@
    Nothing that stands there is written to, and no link is followed. */
 #include "bridge.h"
 
-#ifdef ENGINE_HAS_SAVE
+#ifdef WITH_ENGINE
 
 #include <errno.h>
 #include <fcntl.h>
@@ -23,11 +23,15 @@ static int judge_place(int directory, const char *name)
     return S_ISREG(stat.st_mode) ? 0 : EEXIST;
 }
 
-static bool cannot_save(const struct bridge *bridge, int fault)
+static bool cannot_save(const struct bridge *bridge, const char *why)
 {
-    tell(bridge, "cannot save to %s: %s", bridge->options.save,
-         fault == EEXIST ? "something else than a regular file is there" : strerror(fault));
+    tell(bridge, "cannot save to %s: %s", bridge->options.save, why);
     return false;
+}
+
+static const char *reason_of(int fault)
+{
+    return fault == EEXIST ? "something else than a regular file is there" : strerror(fault);
 }
 
 /* A new file in the directory, of a name that nobody can have guessed. */
@@ -65,10 +69,10 @@ bool saving_begin(struct bridge *bridge)
     if (!fault)
         fault = judge_place(saving->directory, saving->name);
     if (fault)
-        return cannot_save(bridge, fault);
+        return cannot_save(bridge, reason_of(fault));
     int descriptor = new_file(saving->directory, new, sizeof new);
     if (descriptor < 0)
-        return cannot_save(bridge, errno);
+        return cannot_save(bridge, reason_of(errno));
     close(descriptor);
     unlinkat(saving->directory, new, 0);
     return true;
@@ -92,8 +96,8 @@ static int put_upper(struct bridge *bridge, int descriptor, size_t length)
     int fault = piece ? 0 : ENOMEM;
     for (size_t at = 0; !fault && at < length;) {
         size_t got = 0;
-        ovl_saved(&bridge->engine, at, piece, PIECE, &got);
-        fault = got == 0 ? EIO : write_all(descriptor, piece, got);
+        int32_t status = ovl_saved(&bridge->engine, at, piece, PIECE, &got);
+        fault = status != OVL_OK || got == 0 ? EIO : write_all(descriptor, piece, got);
         at += got;
     }
     free(piece);
@@ -152,11 +156,14 @@ bool save(struct bridge *bridge)
     uint64_t left_out = 0;
     if (!bridge->options.save)
         return true;
-    if (ovl_save(&bridge->engine, &length, &left_out) != OVL_OK)
-        return cannot_save(bridge, ENOMEM);
+    switch (ovl_save(&bridge->engine, &length, &left_out)) {
+    case OVL_OK: break;
+    case OVL_NO_UPPER: return cannot_save(bridge, "the mount has no upper layer");
+    default: return cannot_save(bridge, reason_of(ENOMEM));
+    }
     int fault = put_file(bridge, saving->directory, saving->name, length);
     if (fault) {
-        cannot_save(bridge, fault);
+        cannot_save(bridge, reason_of(fault));
         put_elsewhere(bridge, length);
     }
     if (left_out)
@@ -166,13 +173,6 @@ bool save(struct bridge *bridge)
 }
 
 #else
-
-bool saving_begin(struct bridge *bridge)
-{
-    if (bridge->options.save)
-        tell(bridge, "--save isn't built in: the engine's library has no ovl_save");
-    return !bridge->options.save;
-}
 
 bool save(struct bridge *bridge)
 {

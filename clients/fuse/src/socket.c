@@ -75,6 +75,15 @@ static bool receive_some(int descriptor, struct batch *batch, int flags)
     return (count > 0 || later) && batch_judge(batch);
 }
 
+/* Where it can't be sent the server may have said why before it went away. */
+static bool send_or_hear(int descriptor, struct batch *batch, size_t *sent)
+{
+    if (send_some(descriptor, batch, sent))
+        return true;
+    receive_some(descriptor, batch, MSG_DONTWAIT);
+    return false;
+}
+
 /* While not all is sent it reads as well, since the server may wait for that. */
 static bool exchange_some(struct bridge *bridge, int descriptor, size_t *sent)
 {
@@ -85,7 +94,7 @@ static bool exchange_some(struct bridge *bridge, int descriptor, size_t *sent)
     int ready = poll(&poll_for, 1, (int)bridge->wait * 1000);
     if (ready == 0 || (ready < 0 && errno != EINTR))
         return false;
-    if (ready > 0 && (poll_for.revents & POLLOUT) && !send_some(descriptor, batch, sent))
+    if (ready > 0 && (poll_for.revents & POLLOUT) && !send_or_hear(descriptor, batch, sent))
         return false;
     return !(ready > 0 && (poll_for.revents & ~POLLOUT))
         || receive_some(descriptor, batch, MSG_DONTWAIT);
@@ -100,7 +109,7 @@ static bool exchange(struct bridge *bridge, struct connection *connection)
     time_t since = seconds();
     if (connection->wait != bridge->wait)
         set_wait(bridge, connection);
-    if (!send_some(descriptor, batch, &sent))
+    if (!send_or_hear(descriptor, batch, &sent))
         return false;
     while (batch->answered < batch->count) {
         if (!exchange_some(bridge, descriptor, &sent))

@@ -47,7 +47,7 @@ static void use(struct bridge *bridge, struct opened *opened)
 }
 
 /* What has no name can't be opened anew, so it is only taken out of the list. */
-static void make_room(struct bridge *bridge)
+void untold_room(struct bridge *bridge)
 {
     struct untold *untold = &bridge->untold;
     while (untold->count >= MOST) {
@@ -81,7 +81,7 @@ static int open_by_path(struct bridge *bridge, struct node *node, unsigned flags
                         struct opened **opened)
 {
     uint32_t descriptor;
-    make_room(bridge);
+    untold_room(bridge);
     int fault = path_of(node, bridge->path);
     if (!fault)
         fault = ask_for_open(bridge);
@@ -126,6 +126,7 @@ static int copy_out(struct bridge *bridge, struct node *node, struct opened **op
     struct opened *old = found(node, false);
     char name[64];
     uint32_t descriptor;
+    untold_room(bridge);
     int fault = old ? ask_for_open(bridge) : EIO;
     if (fault)
         return fault;

@@ -42,11 +42,6 @@ HAS_ENGINE = has_engine(CHECKED)
 ENGINE = CHECKED if HAS_ENGINE else os.environ.get("OVERLAYD_FUSE_PASSING", PASSING)
 of_engine = unittest.skipUnless(HAS_ENGINE, "of the engine as a library alone")
 
-# A library without ovl_saved can't save, and the stand-in can.
-LIBRARY = real_server.ROOT / "out" / "liboverlayd.a"
-CAN_SAVE = not HAS_ENGINE or (LIBRARY.exists() and b"ovl_saved" in LIBRARY.read_bytes())
-NO_SAVE = None if CAN_SAVE else "the engine's library has no ovl_save"
-
 
 def why_no_engine():
     """Why no bridge has a mount inside, or None."""

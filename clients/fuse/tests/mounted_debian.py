@@ -50,7 +50,8 @@ def largest(root):
 
 def imported(output, *sources):
     with contextlib.redirect_stderr(io.StringIO()) as told:
-        status = import_command(["-q", "--no-times", "--redirect-dir", "on", "--history", "1000000",
+        status = import_command(["-q", "--devices", "--xattrs", "--redirect-dir", "on",
+                                 "--history", "1000000",
                                  "--file-limit", str(max(FILES_GROW_TO, largest(DEBIAN))),
                                  *sources, "-o", output])
     if status != 0:
@@ -58,12 +59,18 @@ def imported(output, *sources):
     return pathlib.Path(output).read_text("utf-8")
 
 
+def changed(root):
+    """When the bytes or names of each object but links were changed."""
+    return {path: change for path, (change, _) in times(root).items()}
+
+
 class Root(Mounted):
     """A mount of a root, or of layers over it."""
 
     def __init__(self, *sources):
         self.sources = sources
-        super().__init__(lambda base: None, "--times", overlay=False)
+        super().__init__(lambda base: None, "--times", "--devices", "-o", "dev,suid",
+                         overlay=False)
 
     def serve(self, base):
         text = imported(self.path("mount.toml"), *self.sources)
@@ -169,35 +176,33 @@ class Debian(unittest.TestCase):
             rm /usr/bin/perl; cp -a /root/perl /usr/bin/perl"""
 
     @unittest.skipUnless(INSIDE, "nothing is saved by a server's mount")
-    def test_a_mount_of_what_was_saved_is_the_same_tree(self):
+    def test_what_was_saved_is_the_same_tree(self):
+        """On a new mount, and as a layer over the import."""
         self.root.run(self.CHANGES)
         before = tree(self.root.here, link_owners=False), times(self.root.here)
         self.root.remount()
         self.assertEqual((tree(self.root.here, link_owners=False), times(self.root.here)), before)
+        again = self.over("--manifest", self.root.path("saved.toml"))
+        self.assertEqual(tree(again.here, link_owners=False), before[0])
+        self.assertEqual(changed(again.here), changed(self.root.here))
 
     @of_sockets
     def test_the_export_over_the_import_is_the_same_tree(self):
         self.root.run(self.CHANGES)
         subprocess.run(["sync", "-f", self.root.here], check=True)
+        again = self.over(self.root.server.path)
+        self.assertEqual(tree(again.here), tree(self.root.here))
+        self.assertEqual(changed(again.here), changed(self.root.here))
+
+    def over(self, *source):
+        """A mount of the layer of what was changed, over the root."""
         layer = self.root.path("change.tar")
         with contextlib.redirect_stderr(io.StringIO()) as told:
-            status = export_command([self.root.path("mount.toml"), self.root.server.path,
-                                     "--layer", layer])
+            status = export_command([self.root.path("mount.toml"), *source, "--layer", layer])
         self.assertEqual(status, 0, told.getvalue())
         again = Root(layer, DEBIAN)
         self.addCleanup(again.end)
-        self.same(tree(self.root.here), tree(again.here))
-
-    def same(self, here, there):
-        """But for link counts, since the server doesn't tell which names lead to one file."""
-        self.assertEqual(sorted(here), sorted(there))
-        for path, told in there.items():
-            self.assertEqual(without_links(here[path]), without_links(told), path)
-
-
-def without_links(told):
-    """What `described` told, but for the number of links, which stands behind a size."""
-    return told[:5] + told[6:] if len(told) > 5 else told
+        return again
 
 
 if __name__ == "__main__":

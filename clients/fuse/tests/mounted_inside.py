@@ -18,6 +18,7 @@ from .mounts import FUSE, times, tree
 
 NOBODY = 65534
 MANIFEST = """redirect_dir = "on"
+file_limit = 1073741824
 layer = [{}, { entry = [
 { path = "/d", kind = "dir" },
 { path = "/d/f", kind = "file", text = "lower\\n", attrs = [

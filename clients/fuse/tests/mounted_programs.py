@@ -11,7 +11,7 @@ import sys
 import unittest
 
 from .kernel import WAIT
-from .bridges import of_sockets
+from .bridges import INSIDE, of_sockets
 from .mounts import Mounted, MountedCase, times, tree, trips, why_not
 
 OUTER = {name: value for name, value in os.environ.items() if not name.startswith("MAKE")}
@@ -222,7 +222,7 @@ class Limits(AloneCase):
         self.assertEqual(len(os.listdir(root)), 1001)
 
     def test_a_file_beyond_the_limit(self):
-        for options in ((), ("--shared",)):
+        for options in ((),) if INSIDE else ((), ("--shared",)):
             file = os.open(os.path.join(self.root(*options), "f"), os.O_WRONLY)
             self.addCleanup(os.close, file)
             os.pwrite(file, b"x", 1048575)
@@ -232,6 +232,7 @@ class Limits(AloneCase):
                 os.pwrite(file, b"x", 1048576)
                 self.refused(errno.EFBIG, os.fsync, file)
 
+    @of_sockets
     def test_mappings_where_nothing_is_kept(self):
         with open(os.path.join(self.root("--shared"), "f"), "r+b") as file:
             self.refused(errno.ENODEV, mmap.mmap, file.fileno(), 9)

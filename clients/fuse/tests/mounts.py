@@ -90,7 +90,7 @@ class Mounted:
             return [PROGRAM, self.server.path]
         saved = self.path("saved.toml")
         upper = ["--upper", saved] if os.path.exists(saved) else []
-        return [ENGINE, "--manifest", self.path("mount.toml"), "--save", saved, *upper]
+        return [ENGINE, "--manifest", self.path("mount.toml"), "--devices", "--save", saved, *upper]
 
     def mount(self):
         self.process = subprocess.Popen(

@@ -4,7 +4,7 @@
 
    The server is the one at $OVERLAYD_SOCKET; or else, for a mount of a manifest without blobs, the
    program $OVERLAYD is started, which saves its upper where that is wanted. It tells no places. */
-#include "passing.h"
+#include <overlayd.h>
 
 #include <errno.h>
 #include <fcntl.h>
@@ -66,9 +66,10 @@ static uint8_t *read_file(const char *path, size_t *length)
 /* It ends with its standard input, or with whoever started it. */
 static void run_server(int input)
 {
-    char manifest[2 * PATH], socket[2 * PATH], saved[2 * PATH], told[2 * PATH];
+    char manifest[2 * PATH], upper[2 * PATH], socket[2 * PATH], saved[2 * PATH], told[2 * PATH];
     const char *program = getenv("OVERLAYD");
     path_of(manifest, "m.toml");
+    path_of(upper, "upper.toml");
     path_of(socket, "s");
     path_of(saved, "saved.toml");
     path_of(told, "told");
@@ -78,7 +79,8 @@ static void run_server(int input)
     dup2(output, 2);
     if (program)
         execl(program, program, "serve", manifest, socket, "--workers", "64", "--no-history",
-              "--until-eof", "--save", saved, NULL);
+              "--until-eof", "--save", saved, access(upper, F_OK) == 0 ? "--upper" : NULL, upper,
+              NULL);
     _exit(127);
 }
 
@@ -117,13 +119,11 @@ uint32_t ovl_version(void)
     return OVL_VERSION;
 }
 
-int32_t ovl_mount_manifest(ovl_mount *mount, const uint8_t *manifest, size_t manifest_length,
-                           const uint8_t *blobs, size_t blobs_length,
-                           const size_t *lengths, size_t count, const uint8_t keys[16],
-                           uint8_t *fault, size_t room, size_t *length)
+static int32_t mount_it(ovl_mount *mount, const uint8_t *upper, size_t upper_length,
+                        const uint8_t *manifest, size_t manifest_length, uint8_t *fault,
+                        size_t room, size_t *length)
 {
     char path[2 * PATH];
-    (void)blobs, (void)blobs_length, (void)lengths, (void)count, (void)keys;
     mount->at = &attached;
     *length = 0;
     if (getenv("OVERLAYD_SOCKET"))
@@ -134,12 +134,53 @@ int32_t ovl_mount_manifest(ovl_mount *mount, const uint8_t *manifest, size_t man
     path_of(path, "m.toml");
     if (!write_file(path, manifest, manifest_length))
         return OVL_NO_MEMORY;
+    path_of(path, "upper.toml");
+    if (upper && !write_file(path, upper, upper_length))
+        return OVL_NO_MEMORY;
     return start_server(fault, room, length) ? OVL_OK : OVL_FAULT;
+}
+
+int32_t ovl_mount_manifest(ovl_mount *mount, const uint8_t *manifest, size_t manifest_length,
+                           const uint8_t *blobs, size_t blobs_length,
+                           const size_t *lengths, size_t count, const uint8_t keys[16],
+                           uint8_t *fault, size_t room, size_t *length)
+{
+    (void)blobs, (void)blobs_length, (void)lengths, (void)count, (void)keys;
+    return mount_it(mount, NULL, 0, manifest, manifest_length, fault, room, length);
+}
+
+/* A fault of the upper is told with its file's name. */
+int32_t ovl_mount_upper(ovl_mount *mount, const uint8_t *upper, size_t upper_length,
+                        const uint8_t *manifest, size_t manifest_length,
+                        const uint8_t *blobs, size_t blobs_length,
+                        const size_t *lengths, size_t count, const uint8_t keys[16],
+                        uint8_t *fault, size_t room, size_t *length)
+{
+    char path[2 * PATH];
+    (void)blobs, (void)blobs_length, (void)lengths, (void)count, (void)keys;
+    int32_t status = mount_it(mount, upper, upper_length, manifest, manifest_length, fault, room,
+                              length);
+    path_of(path, "upper.toml");
+    size_t head = strlen(path);
+    if (status != OVL_FAULT || *length <= head || memcmp(fault, path, head) != 0)
+        return status;
+    *length -= head + 2;
+    memmove(fault, fault + head + 2, *length < room - head - 2 ? *length : room - head - 2);
+    return OVL_UPPER_FAULT;
+}
+
+int32_t ovl_blob_names(const uint8_t *manifest, size_t manifest_length, uint8_t *names, size_t room,
+                       size_t *length, size_t *count)
+{
+    (void)manifest, (void)manifest_length, (void)names, (void)room;
+    *length = *count = 0;
+    return OVL_OK;
 }
 
 void ovl_unmount(ovl_mount *mount)
 {
-    static const char *const names[] = {"m.toml", "s", "told", "saved.toml"};
+    static const char *const names[] = {"m.toml", "upper.toml", "s", "told",
+                                        "saved.toml"};
     char path[2 * PATH];
     mount->at = NULL;
     if (served.input >= 0)

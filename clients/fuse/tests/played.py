@@ -102,15 +102,15 @@ class Played:
 
     `lies` has, for an op, what is done in place of an answer the next time that it is asked:
     bytes that are sent, or a function of the session and the request that tells whether the
-    session goes on. Connections over the number of sessions are taken and never answered. All files
-    have the mode `mode`.
+    session goes on. Connections over the number of sessions are taken and never answered, or turned
+    away. All files have the mode `mode`.
     """
 
-    def __init__(self, sessions=1 << 20):
+    def __init__(self, sessions=1 << 20, turns_away=False):
         self.folder = tempfile.TemporaryDirectory()
         self.path = os.path.join(self.folder.name, "s")
         self.lies, self.asked, self.answered, self.accepted = {}, [], [], 0
-        self.sessions, self.mode = sessions, 0o644
+        self.sessions, self.turns_away, self.mode = sessions, turns_away, 0o644
         self.socket = None
         self.listen()
 
@@ -131,6 +131,9 @@ class Played:
             self.links.append(link)
             if len(self.links) <= self.sessions:
                 threading.Thread(target=Session(self, link).run, daemon=True).start()
+            elif self.turns_away:
+                link.sendall(frame(b"\2\x10"))
+                link.close()
 
     def has_answered(self, last):
         """Waits until a request is answered that ends so."""

@@ -325,6 +325,17 @@ class Beginnings(PlayedCase):
         self.assertEqual(done.stderr, "overlayd-fuse: the server answers 2 of 4 sessions: serve "
                          "with more --workers, or mount with fewer --sessions\n")
 
+    def test_a_server_that_turns_away(self):
+        """It says that no worker is free, and is gone before or after it is asked."""
+        server = self.enter(Played(sessions=2, turns_away=True))
+        for _ in range(5):
+            server.links.clear()
+            done = run(server.path, "/mnt", "--sessions", "4")
+            self.assertEqual(done.returncode, 1)
+            self.assertEqual(done.stderr, "overlayd-fuse: the server answers 2 of 4 sessions, and "
+                             "has no free worker: serve with more --workers, or mount with fewer "
+                             "--sessions\n")
+
     def test_command_lines(self):
         for words in ((), ("s",), ("s", "m", "x"), ("s", "m", "--sessions", "0"),
                       ("s", "m", "--sessions", "65"), ("s", "m", "--wait", "x"),

@@ -12,7 +12,7 @@ from typing import Any, Deque, Iterator, List, Optional, Sequence, TypeVar, Unio
 
 from . import calls, frames
 from .calls import Call, Path
-from .errors import BadReply, Disconnected, NoReply
+from .errors import NO_FREE_WORKER, BadReply, Disconnected, NoReply
 from .files import File, flags_of, over, wire_flags
 from .frames import Reply, Stat
 from .habits import Habits
@@ -27,7 +27,7 @@ __all__ = ["Client"]
 T = TypeVar("T")
 
 # Why a server may have refused to attach a client. Its one frame looks like a reply.
-_UNATTACHED = (errno.ENOMEM, errno.ENFILE, errno.EMFILE, errno.ENOSPC)
+_UNATTACHED = (errno.ENOMEM, errno.EBUSY, errno.ENFILE, errno.EMFILE, errno.ENOSPC)
 
 
 def _raw(name: str) -> bytes:
@@ -53,7 +53,7 @@ class Client(Habits):
 
         With a timeout, a server that doesn't go on for so many seconds is `NoReply`, which is a
         `TimeoutError` too; else the client waits. A server whose workers all have a client waits
-        with a further one's calls until a worker is free.
+        with a further one's calls until a worker is free; with --refuse the first one is EBUSY.
         """
         if timeout is not None and timeout <= 0:
             raise ValueError("a timeout is more than 0 seconds")
@@ -171,7 +171,10 @@ class Client(Habits):
             if reply.refused is None and not call.fits(reply.answer):
                 raise BadReply("a reply has more than was asked for, or less than it must have")
             if self._first and reply.place is None and reply.refused in _UNATTACHED:
-                self._hint = f" (its first reply was: {os.strerror(reply.refused)})"
+                why = os.strerror(reply.refused)
+                if reply.refused == errno.EBUSY:
+                    why = NO_FREE_WORKER
+                self._hint = f" (its first reply was: {why})"
             self._first = False
             yield reply
 

@@ -4,15 +4,20 @@
 
     with overlayd.mount(open("mount.toml", "rb").read()) as mounted, mounted.attach() as client:
         print(client.listdir("/"))
+        mounted.save("upper.toml")
 """
 
 from __future__ import annotations
 
+import contextlib
 import ctypes
+import errno
 import os
+import stat
 import struct
+import tempfile
 import threading
-from typing import Any, Optional, Sequence, Union
+from typing import Any, BinaryIO, Iterator, Optional, Sequence, Tuple, Union
 
 from .client import Client
 from .errors import refusal
@@ -25,7 +30,8 @@ _REPLY_MOST = 65_807
 _TEXT_MOST = 4_096
 _DETACH = b"\x00\x00\x00\x01\x1a"
 _NOT_TAKEN = b"\x00\x00\x00\x02\x02\x0c"
-_OK, _NOT_MOUNTED, _NO_MEMORY, _FULL, _FAULT = 0, 2, 7, 8, 9
+_PIECE = 1 << 20
+_OK, _NOT_MOUNTED, _NO_MEMORY, _FULL, _FAULT, _NO_UPPER, _UPPER_FAULT = 0, 2, 7, 8, 9, 14, 15
 _ENFILE, _ENOMEM = 23, 12
 
 
@@ -39,13 +45,17 @@ def _loaded(name: Optional[str]) -> Any:
     size, handle = ctypes.c_size_t, ctypes.POINTER(_Handle)
     sizes, numbers = ctypes.POINTER(size), ctypes.POINTER(ctypes.c_uint64)
     # What no argument is written to is bytes, which Python doesn't copy.
+    bytes_of = [ctypes.c_char_p, size]
+    mounting = [*bytes_of, *bytes_of, sizes, size, ctypes.c_char_p, *bytes_of, sizes]
     arguments = {
-        "ovl_mount_manifest": [handle, ctypes.c_char_p, size, ctypes.c_char_p, size, sizes, size,
-                               ctypes.c_char_p, ctypes.c_char_p, size, sizes],
+        "ovl_mount_manifest": [handle, *mounting],
+        "ovl_mount_upper": [handle, *bytes_of, *mounting],
         "ovl_unmount": [handle],
         "ovl_attach": [handle, numbers],
         "ovl_detach": [handle, ctypes.c_uint64, numbers],
-        "ovl_call": [handle, ctypes.c_uint64, ctypes.c_char_p, size, ctypes.c_char_p, size, sizes],
+        "ovl_call": [handle, ctypes.c_uint64, *bytes_of, *bytes_of, sizes],
+        "ovl_save": [handle, sizes, numbers],
+        "ovl_saved": [handle, size, *bytes_of, sizes],
     }
     for function, types in arguments.items():
         getattr(library, function).argtypes = types
@@ -64,24 +74,28 @@ class Mount:
     """
 
     def __init__(self, manifest: Union[bytes, str], blobs: Sequence[bytes] = (), *,
-                 library: Optional[str] = None) -> None:
-        """Mounts what the text of a manifest tells, whose blobs have these bytes.
+                 upper: Union[bytes, str, None] = None, library: Optional[str] = None) -> None:
+        """Mounts what the text of a manifest tells, whose blobs have these bytes; with `upper`,
+        what was saved takes the place of its upper.
 
-        A manifest at fault is `ValueError`, with the text that the program has for it.
+        What is at fault is `ValueError`, with the text that the program has for it.
         """
         self._library = _loaded(library)
-        self._lock = threading.Lock()
+        self._lock, self._saving = threading.Lock(), threading.Lock()
         self._handle = _Handle()
         self._room = ctypes.create_string_buffer(_REPLY_MOST)
-        text = manifest.encode() if isinstance(manifest, str) else bytes(manifest)
         lengths = (ctypes.c_size_t * max(1, len(blobs)))(*map(len, blobs))
         joined, fault = b"".join(blobs), ctypes.create_string_buffer(_TEXT_MOST)
+        texts = [text.encode() if isinstance(text, str) else bytes(text)
+                 for text in (upper, manifest) if text is not None]
         length = ctypes.c_size_t()
-        status = self._library.ovl_mount_manifest(
-            self._handle, text, len(text), joined, len(joined), lengths, len(blobs),
-            os.urandom(16), fault, _TEXT_MOST, length)
-        if status == _FAULT:
-            raise ValueError(fault.raw[:min(length.value, _TEXT_MOST)].decode("utf-8", "replace"))
+        made = self._library.ovl_mount_manifest if upper is None else self._library.ovl_mount_upper
+        status = made(
+            self._handle, *[word for text in texts for word in (text, len(text))],
+            joined, len(joined), lengths, len(blobs), os.urandom(16), fault, _TEXT_MOST, length)
+        if status in (_FAULT, _UPPER_FAULT):
+            told = fault.raw[:min(length.value, _TEXT_MOST)].decode("utf-8", "replace")
+            raise ValueError(told if status == _FAULT else f"upper: {told}")
         if status != _OK:
             raise MemoryError("no memory for a mount")
 
@@ -111,6 +125,41 @@ class Mount:
             raise refusal(_ENFILE if status == _FULL else _ENOMEM, None, ())
         return Client.from_socket(_Link(self, number.value))  # type: ignore[arg-type]
 
+    def save(self, path: Union[str, os.PathLike[str]]) -> int:
+        """Writes the upper to a file, as `overlayd serve --save` does: how many objects no manifest
+        can say, which aren't in it.
+
+        A new file takes that name once all of it is on the disk. What stands there and is no
+        regular file stays: `FileExistsError`. A mount without an upper is `ValueError`.
+        """
+        with self._saving:
+            length, left_out = self._save()
+            with _replacing(os.path.abspath(os.fspath(path))) as stream:
+                for at in range(0, length, _PIECE):
+                    stream.write(self._saved(at))
+        return left_out
+
+    def _save(self) -> Tuple[int, int]:
+        """Has the library keep the text of the upper: its length, and what isn't in it."""
+        length, left_out = ctypes.c_size_t(), ctypes.c_uint64()
+        with self._lock:
+            status = self._library.ovl_save(self._handle, length, left_out)
+        if status in (_NOT_MOUNTED, _NO_UPPER):
+            raise ValueError("the mount is closed" if status == _NOT_MOUNTED
+                             else "the mount has no upper layer")
+        if status != _OK:
+            raise MemoryError("no memory for the text of the upper")
+        return length.value, left_out.value
+
+    def _saved(self, at: int) -> bytes:
+        """A piece of that text."""
+        room, count = ctypes.create_string_buffer(_PIECE), ctypes.c_size_t()
+        with self._lock:
+            status = self._library.ovl_saved(self._handle, at, room, _PIECE, count)
+        if status != _OK:
+            raise ValueError("the mount is closed")
+        return room.raw[:count.value]
+
     def reply_to(self, client: int, frame: bytes) -> Optional[bytes]:
         """The frame of the reply to a client's request; None where there can be none."""
         if frame == _DETACH:
@@ -128,6 +177,36 @@ class Mount:
         with self._lock:
             status = self._library.ovl_detach(self._handle, client, place)
         return struct.pack(">IBQ", 9, 0, place.value) if status == _OK else None
+
+
+@contextlib.contextmanager
+def _replacing(path: str) -> Iterator[BinaryIO]:
+    """A new file in the place of another one, which it takes when all is written."""
+    folder, name = os.path.split(path)
+    _check_place(path)
+    descriptor, part = tempfile.mkstemp(prefix=f".{name}.", suffix=".part", dir=folder)
+    try:
+        with os.fdopen(descriptor, "wb") as stream:
+            yield stream
+            stream.flush()
+            os.fsync(stream.fileno())
+        _check_place(path)
+        os.replace(part, path)
+    except BaseException:
+        os.unlink(part)
+        raise
+    held = os.open(folder, os.O_RDONLY | os.O_DIRECTORY)
+    try:
+        os.fsync(held)
+    finally:
+        os.close(held)
+
+
+def _check_place(path: str) -> None:
+    """Nothing but a regular file is replaced."""
+    with contextlib.suppress(FileNotFoundError):
+        if not stat.S_ISREG(os.lstat(path).st_mode):
+            raise FileExistsError(errno.EEXIST, "is there and no regular file", path)
 
 
 class _Link:
@@ -172,10 +251,11 @@ class _Link:
 
 
 def mount(manifest: Union[bytes, str], blobs: Sequence[bytes] = (), *,
-          library: Optional[str] = None) -> Mount:
-    """A mount in this process of what the text of a manifest tells, whose blobs have these bytes.
+          upper: Union[bytes, str, None] = None, library: Optional[str] = None) -> Mount:
+    """A mount in this process of what the text of a manifest tells, whose blobs have these bytes;
+    it goes on with what was saved where `upper` is that text.
 
     The library is `liboverlayd.so.0`, or the one at the path `library`, or the one that the
     environment's OVERLAYD_LIBRARY names.
     """
-    return Mount(manifest, blobs, library=library)
+    return Mount(manifest, blobs, upper=upper, library=library)

@@ -9,6 +9,10 @@ from typing import Any, Optional
 __all__ = ["BadReply", "Disconnected", "NoReply", "UnknownRefusal", "place_of", "refusal"]
 
 
+NO_FREE_WORKER = "the server has no free worker"
+"""What a server says by EBUSY that turns a client away."""
+
+
 class Disconnected(ConnectionError):
     """The connection is of no use any more; the text says what was being asked."""
 
@@ -40,6 +44,9 @@ def refusal(number: int, place: Optional[int], paths: tuple[Any, ...]) -> OSErro
     if place is None and number in (errno.ENFILE, errno.EMFILE):
         # No call is answered so: the server refuses the client itself.
         text, paths = f"{text}: the client wasn't attached", ()
+    elif place is None and number == errno.EBUSY:
+        # Nor so: a server with --refuse turns the client away.
+        text, paths = NO_FREE_WORKER, ()
     first, second = (*paths, None, None)[:2]
     parts = (number, text, first, None, second)
     error = OSError(*parts)

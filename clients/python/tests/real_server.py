@@ -48,9 +48,10 @@ class Server:
     """A running `serve` of a manifest; at the end of its block it is ended.
 
     With `sessions`, each worker ends after so many, and `status` waits for the program's own end.
+    With `save`, its upper is saved to that file, where `end` has it end.
     """
 
-    def __init__(self, manifest, workers=64, sessions=None):
+    def __init__(self, manifest, workers=64, sessions=None, save=None):
         self._folder = tempfile.TemporaryDirectory()
         self.path = os.path.join(self._folder.name, "s")
         described = os.path.join(self._folder.name, "m.toml")
@@ -58,7 +59,10 @@ class Server:
         command = [program(), "serve", described, self.path, "--workers", str(workers)]
         if sessions is not None:
             command += ["--sessions", str(sessions)]
-        self.process = subprocess.Popen(command, stdin=subprocess.DEVNULL)
+        if save is not None:
+            command += ["--until-eof", "--save", save]
+        self.process = subprocess.Popen(command, stdin=subprocess.PIPE if save is not None
+                                        else subprocess.DEVNULL)
 
     def __enter__(self):
         return self
@@ -84,6 +88,11 @@ class Server:
                 if time.monotonic() > limit or self.process.poll() is not None:
                     raise
                 time.sleep(0.005)
+
+    def end(self):
+        """Ends the input, with which it ends; its exit status."""
+        self.process.stdin.close()
+        return self.status()
 
     def status(self):
         """The program's exit status, once it has ended by itself."""

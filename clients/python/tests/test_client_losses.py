@@ -186,6 +186,15 @@ class Unattached(ScriptedCase):
                 with self.assertRaisesRegex(Disconnected, "its first reply was: Too many open"):
                     c.stat("/x")
 
+    def test_no_worker_is_free(self):
+        with self.refusing(errno.EBUSY) as c:
+            with self.assertRaisesRegex(OSError, "the server has no free worker") as refused:
+                c.stat("/x")
+            self.assertEqual(refused.exception.errno, errno.EBUSY)
+            self.assertIsNone(refused.exception.filename)
+            with self.assertRaisesRegex(Disconnected, "first reply was: the server has no free"):
+                c.stat("/x")
+
     def test_the_history_is_full_or_memory_is_out(self):
         for number in (errno.ENOSPC, errno.ENOMEM):
             with self.refusing(number) as c:

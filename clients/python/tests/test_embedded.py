@@ -4,6 +4,7 @@ import errno
 import os
 import pathlib
 import re
+import tempfile
 import threading
 import unittest
 
@@ -29,8 +30,8 @@ def setUpModule():
         raise unittest.SkipTest("make lib made no library, and OVERLAYD_LIBRARY names none")
 
 
-def mounted(manifest, blobs=()):
-    return overlayd.mount(manifest, blobs, library=library())
+def mounted(manifest, blobs=(), upper=None):
+    return overlayd.mount(manifest, blobs, upper=upper, library=library())
 
 
 class Sessions(unittest.TestCase):
@@ -81,6 +82,14 @@ class Sessions(unittest.TestCase):
             with self.assertRaisesRegex(ValueError, f"^{re.escape(fault)}$"):
                 mounted(manifest)
 
+    def test_faults_of_a_saved_upper(self):
+        for upper, fault in (("", "upper: manifest: layers"), ("x", "upper: manifest: not TOML"),
+                             ("layer = [{entry = [{}]}]", "upper: layer 0 entry 0: kind")):
+            with self.assertRaisesRegex(ValueError, f"^{re.escape(fault)}$"):
+                mounted(TWO_EMPTY, upper=upper)
+        with self.assertRaisesRegex(ValueError, "^layer 1 entry 0: kind$"):
+            mounted("layer = [{}, {entry = [{}]}]", upper="layer = [{}]")
+
     def test_at_most_64_clients_and_none_of_a_closed_mount(self):
         mount = mounted(TWO_EMPTY)
         clients = [mount.attach() for _ in range(64)]
@@ -116,9 +125,74 @@ class Sessions(unittest.TestCase):
         self.assertEqual(sorted(done), list(range(8)))
 
 
-class Rows(unittest.TestCase):
-    """Each worked script that clients can make, as the program plays it."""
+class Saving(unittest.TestCase):
+    def setUp(self):
+        folder = tempfile.TemporaryDirectory()
+        self.addCleanup(folder.cleanup)
+        self.folder = pathlib.Path(folder.name)
+        self.path = self.folder / "upper.toml"
 
+    def test_a_mount_goes_on_with_what_was_saved(self):
+        manifest = ("file_limit = 4194304\n[[layer]]\n[[layer]]\n"
+                    "entry = [{path = '/f', kind = 'file', text = 'hello'}]\n")
+        with mounted(manifest) as mount, mount.attach() as client:
+            client.mkdir("/d", 0o750)
+            client.write_bytes("/d/big", bytes(range(256)) * 10_000)
+            client.unlink("/f")
+            self.assertEqual(mount.save(self.path), 0)
+        saved = self.path.read_text()
+        self.assertGreater(len(saved), 2 * 2_560_000)
+        with mounted(manifest, upper=saved) as mount, mount.attach() as client:
+            self.assertEqual(client.listdir("/"), ["d"])
+            self.assertEqual(client.stat("/d").st_mode & 0o7777, 0o750)
+            self.assertEqual(client.read_bytes("/d/big"), bytes(range(256)) * 10_000)
+            mount.save(str(self.path))
+        self.assertEqual(self.path.read_text(), saved)
+        self.assertEqual(os.listdir(self.folder), ["upper.toml"])
+
+    def test_what_no_manifest_can_say_is_counted(self):
+        with mounted(TWO_EMPTY) as mount, mount.attach() as client:
+            client.mkdir(b"/\xff")
+            self.assertEqual(mount.save(self.path), 1)
+        self.assertEqual(self.path.read_bytes(), b"[[layer]]\n")
+
+    def test_nothing_but_a_regular_file_is_replaced(self):
+        other = self.folder / "other"
+        other.write_text("other")
+        (self.folder / "link").symlink_to(other)
+        (self.folder / "folder").mkdir()
+        os.mkfifo(self.folder / "fifo")
+        with mounted(TWO_EMPTY) as mount:
+            for name in ("link", "folder", "fifo"):
+                with self.assertRaises(FileExistsError):
+                    mount.save(self.folder / name)
+            with self.assertRaises(FileNotFoundError):
+                mount.save(self.folder / "none" / "x")
+            mount.save(other)
+        self.assertEqual(other.read_bytes(), b"[[layer]]\n")
+        self.assertEqual(sorted(os.listdir(self.folder)), ["fifo", "folder", "link", "other"])
+
+    def test_no_upper_and_no_mount(self):
+        mount = mounted("upper = false\n" + TWO_EMPTY)
+        with self.assertRaisesRegex(ValueError, "no upper layer"):
+            mount.save(self.path)
+        mount.close()
+        with self.assertRaisesRegex(ValueError, "closed"):
+            mount.save(self.path)
+        self.assertEqual(os.listdir(self.folder), [])
+
+
+def rows():
+    """Each worked script that clients can make, with what the program plays."""
+    for name, manifest, script in scripts.rows(ROWS):
+        if "history" in manifest or "blob" in manifest:
+            continue
+        wanted, status = real_server.played(manifest, script)
+        if status == 0 and not any(line.startswith("not attached") for line in wanted):
+            yield name, manifest, script, wanted
+
+
+class Rows(unittest.TestCase):
     def setUp(self):
         reason = real_server.why_not()
         if reason:
@@ -126,15 +200,28 @@ class Rows(unittest.TestCase):
 
     def test_rows(self):
         count = 0
-        for name, manifest, script in scripts.rows(ROWS):
-            if "history" in manifest or "blob" in manifest:
-                continue
-            wanted, status = real_server.played(manifest, script)
-            if status != 0 or any(line.startswith("not attached") for line in wanted):
-                continue
+        for name, manifest, script, wanted in rows():
             with self.subTest(name), mounted(manifest) as mount:
                 self.assertEqual(scripts.played_through(mount.attach, script), wanted)
             count += 1
+        self.assertGreater(count, 100)
+
+    def test_rows_are_saved_as_the_program_saves_them(self):
+        count = 0
+        with tempfile.TemporaryDirectory() as folder:
+            ours, programs = (os.path.join(folder, name) for name in ("ours", "programs"))
+            for name, manifest, script, _ in rows():
+                if "upper = false" in manifest:
+                    continue
+                with self.subTest(name), mounted(manifest) as mount:
+                    scripts.played_through(mount.attach, script)
+                    mount.save(ours)
+                    with real_server.Server(manifest, save=programs) as server:
+                        scripts.played_through(server.client, script)
+                        self.assertEqual(server.end(), 0)
+                    self.assertEqual(pathlib.Path(ours).read_bytes(),
+                                     pathlib.Path(programs).read_bytes())
+                count += 1
         self.assertGreater(count, 100)
 
 

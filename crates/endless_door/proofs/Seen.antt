@@ -21,26 +21,26 @@ detach_in None client number of = absurd of
 detach_in (Some e) client number of =
     λ i. Some (record { client = of.0 i; number = of.1 i; deed = of.2 i })
 
-module _ (may_stop may_refuse : ℕ → ℕ → Type 0) where
+module _ (may_stop : ℕ → ℕ → Type 0) where
   -- a call and its reply
   pub went_called : (s next : Session) (old new : List Entry) (before after : Bool) (place : ℕ)
       (call : Call) (reply : Reply) →
       slice_get new place ≡ Some (record { client = s.client; number = s.number; deed = deed.Called call reply }) →
       IsPrefix old new → next.client ≡ s.client → next.number ≡ s.number + 1 →
-      Advances may_stop may_refuse (standing s old before) (Called call (Replied place reply) ∷ [])
+      Advances may_stop (standing s old before) (Called call (Replied place reply) ∷ [])
       (standing next new after)
   went_called s next old new before after place call reply stands seen whose numbered =
-      once (ways may_stop may_refuse) (standing s old before) (standing next new after)
+      once (ways may_stop) (standing s old before) (standing next new after)
       (Called call (Replied place reply))
       (record { stands = stands; seen = seen; whose = whose; numbered = numbered })
 
   -- a detach
   pub departed : (s : Session) (old new : List Entry) (before : Bool) (place : ℕ) →
       IsSomeAnd (slice_get new place) (λ e. IsDetachOf e s.client s.number) → IsPrefix old new →
-      Advances may_stop may_refuse (standing s old before) (Departed (Replied place Done) ∷ [])
+      Advances may_stop (standing s old before) (Departed (Replied place Done) ∷ [])
       (standing s new true)
   departed s old new before place of seen =
-      once (ways may_stop may_refuse) (standing s old before) (standing s new true)
+      once (ways may_stop) (standing s old before) (standing s new true)
       (Departed (Replied place Done)) (
         refl,
         record {

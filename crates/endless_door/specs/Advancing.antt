@@ -32,16 +32,15 @@ pub record IsEntered (old : Standing) (place : ℕ) (did : Deed) (number : ℕ) 
   pub whose : new.client ≡ old.client
   pub numbered : new.number ≡ number
 
--- the clients of a mount that may refuse to detach some, by a gate that may stop calls
-abbrev pub ways : (ℕ → ℕ → Type 0) → (ℕ → ℕ → Type 0) → Ways Standing
-ways may_stop may_refuse = record {
+-- the clients of a mount, by a gate that may stop calls
+abbrev pub ways : (ℕ → ℕ → Type 0) → Ways Standing
+ways may_stop = record {
   does = IsEntered;
   next = λ s. s.number;
   detached = λ s. s.detached;
   may_hold = λ s. MayHold may_stop s.client;
-  may_refuse = λ s. may_refuse s.client s.number;
 }
 
 -- a client goes on as its exchanges tell, and has seen each entry
-abbrev pub Advances : (ℕ → ℕ → Type 0) → (ℕ → ℕ → Type 0) → Standing → List Exchange → Standing → Type 0
-Advances may_stop may_refuse = GoesOn (ways may_stop may_refuse)
+abbrev pub Advances : (ℕ → ℕ → Type 0) → Standing → List Exchange → Standing → Type 0
+Advances may_stop = GoesOn (ways may_stop)

@@ -2,7 +2,6 @@
 ghost use Rattle.std.specs.Prelude.{◌≡◌, ◌∷◌, [], None, is_some};
 ghost use Rattle.ov_session.specs.declared.exchange.Exchange.TheVariants.{Departed};
 ghost use Rattle.endless_door.specs.Advancing.{Advances, standing};
-ghost use Rattle.mount_door.specs.GoingOn.{AnyRefusal};
 
 use endless_mount::{BookName, EndlessMount, Front};
 use locked_history::{Gate, Refused, Session};
@@ -60,7 +59,7 @@ impl<'m, N: BookName, F: Callback + Drop, R: Rule, G: Gate, H: Wait> EndlessDoor
     // Detaches the client, and keeps the hooks.
     fn leave(&mut self) -> Answer
         requires { self.old.hooks ≡ None }
-        ensures goes { Advances (G.may_stop self.old.gate.now) AnyRefusal
+        ensures goes { Advances (G.may_stop self.old.gate.now)
             (standing self.old.session self.old.seen (is_some self.old.hooks))
             (Departed result ∷ [])
             (standing self.new.session self.new.seen (is_some self.new.hooks)) }
@@ -85,13 +84,13 @@ impl<'m, N: BookName, F: Callback + Drop, R: Rule, G: Gate, H: Wait> Door
 
     ghost use Rattle.std.specs.Prelude.{◌≡◌, None, is_some, refl};
     ghost use Rattle.mount_door.specs.Exchanges.{told_in};
-    ghost use Rattle.mount_door.specs.GoingOn.{AnyRefusal, goes_by_one_gate, stays_there};
+    ghost use Rattle.mount_door.specs.GoingOn.{goes_by_one_gate, stays_there};
     ghost use Rattle.endless_door.specs.Advancing.{Advances, standing, ways};
 
     ghost told = { told_in (λ answer. answer) };
 
     ghost goes = { λ d told e. (e.gate.now ≡ d.gate.now)
-        × Advances (G.may_stop d.gate.now) AnyRefusal
+        × Advances (G.may_stop d.gate.now)
         (standing d.session d.seen (is_some d.hooks)) told
         (standing e.session e.seen (is_some e.hooks)) };
 
@@ -99,11 +98,11 @@ impl<'m, N: BookName, F: Callback + Drop, R: Rule, G: Gate, H: Wait> Door
 
     ghost stays = { λ d. (
       refl,
-      stays_there (ways (G.may_stop d.gate.now) AnyRefusal)
+      stays_there (ways (G.may_stop d.gate.now))
           (standing d.session d.seen (is_some d.hooks)),
     ) };
 
-    ghost joins = { λ a b c xs ys. goes_by_one_gate (λ gate. ways (G.may_stop gate) AnyRefusal)
+    ghost joins = { λ a b c xs ys. goes_by_one_gate (λ gate. ways (G.may_stop gate))
         a.gate.now b.gate.now c.gate.now (standing a.session a.seen (is_some a.hooks))
         (standing b.session b.seen (is_some b.hooks)) (standing c.session c.seen (is_some c.hooks))
         xs ys };

@@ -3,7 +3,7 @@ ghost use Rattle.std.specs.Prelude.{◌≡◌, ◌+◌, ◌<◌, ◌≤◌, ◌�
 ghost use Rattle.ov_session.specs.Devices.{InputAt, OutputAt};
 ghost use Rattle.ov_session.specs.Sessions.{IsSession};
 ghost use Rattle.ov_session.specs.declared.exchange.Exchange.{Exchange};
-ghost use Rattle.mount_door.specs.GoingOn.{AnyRefusal, IsReply};
+ghost use Rattle.mount_door.specs.GoingOn.{IsReply};
 ghost use Rattle.endless_door.specs.Advancing.{Advances, standing};
 
 use crate::door::EndlessDoor;
@@ -52,7 +52,7 @@ where
     K: Sink,
     requires held { output.old.held.items ≡ [] }
     ensures session { (told : List Exchange)
-        × (s : IsSession (Advances (G.may_stop gate.now) AnyRefusal)
+        × (s : IsSession (Advances (G.may_stop gate.now))
         (S.remaining input.old) (S.remaining input.new)
         (K.contents output.old.sink) (K.contents output.new.sink)
         [] told (standing session seen false)

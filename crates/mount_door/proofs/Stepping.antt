@@ -33,10 +33,10 @@ module _ {S : Type 0} (ways : Ways S) (old new : S) where
       GoesOn ways old (HeldBack call ∷ []) new
   went_held call cause same = once (HeldBack call) (cause, same)
 
-  -- so does a detach that is refused, with its cause
-  pub stayed : ways.may_refuse old → new ≡ old → ways.detached new ≡ false →
+  -- so does a detach that is refused
+  pub stayed : new ≡ old → ways.detached new ≡ false →
       GoesOn ways old (Departed (NotTaken EINVAL) ∷ []) new
-  stayed cause same attached = once (Departed (NotTaken EINVAL)) (refl, cause, same, attached)
+  stayed same attached = once (Departed (NotTaken EINVAL)) (refl, same, attached)
 
 -- nothing is true and false
 not_both : (b : Bool) → b ≡ false → b ≡ true → ⊥
@@ -49,7 +49,7 @@ module _ {S : Type 0} (ways : Ways S) (new : S) where
   left_by between old (Replied place reply) h same =
       ((λ _. tt), (λ _. subst (λ s. ways.detached s ≡ true) (sym same) h.2))
   left_by between old (NotTaken errno) h same =
-      (not_both (ways.detached new) (subst (λ s. ways.detached s ≡ false) (sym same) h.3), (λ reply. absurd reply))
+      (not_both (ways.detached new) (subst (λ s. ways.detached s ≡ false) (sym same) h.2), (λ reply. absurd reply))
 
   -- also as the last of what passed
   pub left_last : (old : S) (xs : List Exchange) (answer : Answer) →
@@ -60,20 +60,19 @@ module _ {S : Type 0} (ways : Ways S) (new : S) where
 
 -- what goes on with a cause goes on where more are causes
 module _ {S : Type 0} (does : Does S) (next : S → ℕ) (detached : S → Bool)
-    (hold refuse may_hold may_refuse : S → Type 0) (holds : (s : S) → hold s → may_hold s)
-    (refuses : (s : S) → refuse s → may_refuse s) where
+    (hold may_hold : S → Type 0) (holds : (s : S) → hold s → may_hold s) where
   abbrev few : Ways S
-  few = record { does = does; next = next; detached = detached; may_hold = hold; may_refuse = refuse }
+  few = record { does = does; next = next; detached = detached; may_hold = hold }
 
   abbrev many : Ways S
-  many = record { does = does; next = next; detached = detached; may_hold = may_hold; may_refuse = may_refuse }
+  many = record { does = does; next = next; detached = detached; may_hold = may_hold }
 
   step_with_more : (a b : S) (x : Exchange) → IsStep few a x b → IsStep many a x b
   step_with_more a b (Called call (Replied place reply)) h = h
   step_with_more a b (Called call (NotTaken errno)) h = h
   step_with_more a b (HeldBack call) h = (holds a h.0, h.1)
   step_with_more a b (Departed (Replied place reply)) h = h
-  step_with_more a b (Departed (NotTaken errno)) h = (h.0, refuses a h.1, h.2, h.3)
+  step_with_more a b (Departed (NotTaken errno)) h = h
 
   pub goes_with_more : (a b : S) (xs : List Exchange) → GoesOn few a xs b → GoesOn many a xs b
   goes_with_more a b [] h = h

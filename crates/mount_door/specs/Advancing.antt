@@ -43,16 +43,15 @@ IsClaimed old place did number new =
 abbrev pub MayHold : (ℕ → ℕ → Type 0) → ℕ → Type 0
 MayHold may_stop client = (step : ℕ) × (step ≤ STEPS_MAX) × may_stop client step
 
--- the clients of a mount that may refuse to detach some, by a gate that may stop calls
-abbrev pub ways : (ℕ → ℕ → Type 0) → (ℕ → ℕ → Type 0) → Ways Standing
-ways may_stop may_refuse = record {
+-- the clients of a mount, by a gate that may stop calls
+abbrev pub ways : (ℕ → ℕ → Type 0) → Ways Standing
+ways may_stop = record {
   does = IsClaimed;
   next = λ s. s.number;
   detached = λ s. s.detached;
   may_hold = λ s. MayHold may_stop s.client;
-  may_refuse = λ s. may_refuse s.client s.number;
 }
 
 -- a client goes on as its exchanges tell, and there is a receipt of each entry
-abbrev pub Advances : (ℕ → ℕ → Type 0) → (ℕ → ℕ → Type 0) → Standing → List Exchange → Standing → Type 0
-Advances may_stop may_refuse = GoesOn (ways may_stop may_refuse)
+abbrev pub Advances : (ℕ → ℕ → Type 0) → Standing → List Exchange → Standing → Type 0
+Advances may_stop = GoesOn (ways may_stop)

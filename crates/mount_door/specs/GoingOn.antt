@@ -37,17 +37,17 @@ abbrev pub Does : Type 0 → Type 1
 Does S = S → ℕ → Deed → ℕ → S → Type 0
 
 -- what is known of the clients of a mount, by where they stand: what they did, the number of their
--- next entry, and whether they were detached; and WHY a call may be held back or a detach refused
+-- next entry, and whether they were detached; and WHY a call may be held back
 pub record Ways (S : Type 0) : Type 1 where
   pub does : Does S
   pub next : S → ℕ
   pub detached : S → Bool
   pub may_hold : S → Type 0
-  pub may_refuse : S → Type 0
 
 -- EACH REPLY IS AN ENTRY: it stands in the history at the place that is told, as the reply to this call
--- of the client, and under its next number. What is refused or held back is none. A call is held back,
--- and a detach refused, ONLY WITH A CAUSE; a client is detached where that is answered by a reply
+-- of the client, and under its next number. What is refused or held back is none. A call is held back
+-- ONLY WITH A CAUSE; a client is detached where that is answered by a reply. Whether a session is its
+-- client's stands under a mount's lock, so it may refuse to detach any
 abbrev pub IsStep : {S : Type 0} → Ways S → S → Exchange → S → Type 0
 IsStep ways old (Called call (Replied place reply)) new =
     ways.does old place (deed.Called call reply) (ways.next old + 1) new
@@ -57,7 +57,7 @@ IsStep ways old (Departed (Replied place reply)) new =
     (reply ≡ Done) × ways.does old place deed.Detached (ways.next old) new
     × (ways.detached new ≡ true)
 IsStep ways old (Departed (NotTaken errno)) new =
-    (errno ≡ EINVAL) × ways.may_refuse old × (new ≡ old) × (ways.detached new ≡ false)
+    (errno ≡ EINVAL) × (new ≡ old) × (ways.detached new ≡ false)
 
 -- A CLIENT GOES ON AS ITS EXCHANGES TELL, one after the other: it does nothing that isn't told
 abbrev pub GoesOn : {S : Type 0} → Ways S → S → List Exchange → S → Type 0
@@ -84,7 +84,3 @@ goes_by_one_gate ways i j k a b c xs ys h l = (
   l.0 ∙ h.0,
   goes_further (ways i) a b c xs ys h.1 (subst (λ g. GoesOn (ways g) b ys c) h.0 l.1),
 )
-
--- whether a session is its client's stands under a mount's lock, so it may refuse to detach any
-abbrev pub AnyRefusal : ℕ → ℕ → Type 0
-AnyRefusal client number = Unit {0}

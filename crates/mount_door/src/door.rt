@@ -9,7 +9,6 @@ ghost use Rattle.ov_session.specs.declared.exchange.Exchange.TheVariants.{Depart
 ghost use Rattle.mount_door.specs.Advancing.{Advances, standing};
 ghost use Rattle.mount_door.specs.Claiming.{IsToldBy};
 ghost use Rattle.mount_door.specs.Exchanges.{told_in};
-ghost use Rattle.mount_door.specs.GoingOn.{AnyRefusal};
 
 use crate::refusals::errno_of;
 use crate::session::ClientSession;
@@ -90,7 +89,7 @@ impl<'m, N: MountName, F: Callback + Drop, R: Rule, G: Gate, H: Wait> MountDoor<
         requires call { IsCallOf receipt.entry self.old.session.client
             self.old.session.number call.value }
         requires counted { receipt.counted ≡ true }
-        ensures told { IsAsked (Advances (G.may_stop self.old.gate.now) AnyRefusal)
+        ensures told { IsAsked (Advances (G.may_stop self.old.gate.now))
             (standing self.old.session self.old.receipts.items (is_some self.old.hooks))
             (standing self.new.session self.new.receipts.items (is_some self.new.hooks))
             (told_in answer_of session.old) (told_in answer_of session.new) call.value Answered }
@@ -109,7 +108,7 @@ impl<'m, N: MountName, F: Callback + Drop, R: Rule, G: Gate, H: Wait> MountDoor<
     fn leave(&mut self) -> Answer
         requires room { vec_len self.old.receipts < vec_capacity self.old.receipts }
         requires attached { self.old.hooks ≡ None }
-        ensures goes { Advances (G.may_stop self.old.gate.now) AnyRefusal
+        ensures goes { Advances (G.may_stop self.old.gate.now)
             (standing self.old.session self.old.receipts.items (is_some self.old.hooks))
             (Departed result ∷ [])
             (standing self.new.session self.new.receipts.items (is_some self.new.hooks)) }
@@ -139,12 +138,12 @@ impl<'m, N: MountName, F: Callback + Drop, R: Rule, G: Gate, H: Wait> Door
     ghost use Rattle.ov_frames.specs.Lending.{answer_of};
     ghost use Rattle.mount_door.specs.Advancing.{Advances, standing, ways};
     ghost use Rattle.mount_door.specs.Exchanges.{told_in};
-    ghost use Rattle.mount_door.specs.GoingOn.{AnyRefusal, goes_by_one_gate, stays_there};
+    ghost use Rattle.mount_door.specs.GoingOn.{goes_by_one_gate, stays_there};
 
     ghost told = { told_in answer_of };
 
     ghost goes = { λ d told e. (e.gate.now ≡ d.gate.now)
-        × Advances (G.may_stop d.gate.now) AnyRefusal
+        × Advances (G.may_stop d.gate.now)
         (standing d.session d.receipts.items (is_some d.hooks)) told
         (standing e.session e.receipts.items (is_some e.hooks)) };
 
@@ -152,11 +151,11 @@ impl<'m, N: MountName, F: Callback + Drop, R: Rule, G: Gate, H: Wait> Door
 
     ghost stays = { λ d. (
       refl,
-      stays_there (ways (G.may_stop d.gate.now) AnyRefusal)
+      stays_there (ways (G.may_stop d.gate.now))
           (standing d.session d.receipts.items (is_some d.hooks)),
     ) };
 
-    ghost joins = { λ a b c xs ys. goes_by_one_gate (λ gate. ways (G.may_stop gate) AnyRefusal)
+    ghost joins = { λ a b c xs ys. goes_by_one_gate (λ gate. ways (G.may_stop gate))
         a.gate.now b.gate.now c.gate.now
         (standing a.session a.receipts.items (is_some a.hooks))
         (standing b.session b.receipts.items (is_some b.hooks))

@@ -5,7 +5,7 @@ ghost use Rattle.ov_session.specs.Devices.{InputAt, OutputAt};
 ghost use Rattle.ov_session.specs.Sessions.{IsSession};
 ghost use Rattle.ov_session.specs.declared.exchange.Exchange.{Exchange};
 ghost use Rattle.mount_door.specs.Advancing.{Advances, standing};
-ghost use Rattle.mount_door.specs.GoingOn.{AnyRefusal, IsReply};
+ghost use Rattle.mount_door.specs.GoingOn.{IsReply};
 
 use crate::door::MountDoor;
 use crate::session::ClientSession;
@@ -52,7 +52,7 @@ where
     requires held { output.old.held.items ≡ [] }
     requires room { vec_len receipts < vec_capacity receipts }
     ensures session { (told : List Exchange)
-        × (s : IsSession (Advances (G.may_stop gate.now) AnyRefusal)
+        × (s : IsSession (Advances (G.may_stop gate.now))
         (S.remaining input.old) (S.remaining input.new)
         (K.contents output.old.sink) (K.contents output.new.sink)
         [] told (standing session receipts.items false)

@@ -68,6 +68,8 @@ written client bytes old new answer outcome.Fault a w = absurd w
 written client bytes old new answer outcome.Mounted a w = absurd w
 written client bytes old new answer outcome.More a w = absurd w
 written client bytes old new answer outcome.NoJob a w = absurd w
+written client bytes old new answer outcome.NoUpper a w = absurd w
+written client bytes old new answer outcome.Upper a w = absurd w
 written client bytes old new answer (outcome.Refused errno) a w = absurd w
 
 -- a call was made
@@ -83,7 +85,7 @@ comes_of_call client bytes old mid new call answer result r made rest same jobs 
       r.1,
       subst (λ asked. Answers asked (Called call answer ∷ []) answer) (sym r.2) refl,
       subst (λ m. Makes client old.core (Called call answer ∷ []) m) (sym same) made,
-      (jobs.0 ∙ rest.1.0, jobs.1 ∙ rest.1.1),
+      (jobs.0 ∙ rest.1.0, jobs.1 ∙ rest.1.1, jobs.2 ∙ rest.1.2),
     ) w
 
 -- a path text is refused
@@ -117,6 +119,8 @@ comes_of_none client bytes old outcome.Fault r = absurd r
 comes_of_none client bytes old outcome.Mounted r = absurd r
 comes_of_none client bytes old outcome.More r = absurd r
 comes_of_none client bytes old outcome.NoJob r = absurd r
+comes_of_none client bytes old outcome.NoUpper r = absurd r
+comes_of_none client bytes old outcome.Upper r = absurd r
 comes_of_none client bytes old (outcome.Refused errno) r = absurd r
 
 -- nothing is shown of what isn't done
@@ -135,6 +139,8 @@ shows_nothing outcome.Fault frame room h = (refl, refl)
 shows_nothing outcome.Mounted frame room h = (refl, refl)
 shows_nothing outcome.More frame room h = (refl, refl)
 shows_nothing outcome.NoJob frame room h = (refl, refl)
+shows_nothing outcome.NoUpper frame room h = (refl, refl)
+shows_nothing outcome.Upper frame room h = (refl, refl)
 shows_nothing (outcome.Refused errno) frame room h = (refl, refl)
 
 -- what isn't true is false

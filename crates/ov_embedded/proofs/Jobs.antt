@@ -41,6 +41,8 @@ turned client bytes old new errno outcome.Fault t w = absurd w
 turned client bytes old new errno outcome.Mounted t w = absurd w
 turned client bytes old new errno outcome.More t w = absurd w
 turned client bytes old new errno outcome.NoJob t w = absurd w
+turned client bytes old new errno outcome.NoUpper t w = absurd w
+turned client bytes old new errno outcome.Upper t w = absurd w
 turned client bytes old new errno (outcome.Refused e) t w = absurd w
 
 pub begins_refused : (client : ℕ) (bytes : List ℕ) (old new : Mounted) (errno : Errno)
@@ -58,7 +60,7 @@ pub begins_started : (client : ℕ) (bytes : List ℕ) (old new : Mounted) (call
     IsStarted old client call new result number → Begins client bytes old new result number
 begins_started client bytes old new call outcome.More number r is same reply s =
     (r.0, call, r.1, r.2, is, same, reply, s)
-begins_started client bytes old new call outcome.NoMemory number r is same reply s = (same, s)
+begins_started client bytes old new call outcome.NoMemory number r is same reply s = (same, reply, s)
 begins_started client bytes old new call outcome.Done number r is same reply s = absurd s
 begins_started client bytes old new call outcome.Unwritten number r is same reply s = absurd s
 begins_started client bytes old new call outcome.NotMounted number r is same reply s = absurd s
@@ -70,6 +72,8 @@ begins_started client bytes old new call outcome.Full number r is same reply s =
 begins_started client bytes old new call outcome.Fault number r is same reply s = absurd s
 begins_started client bytes old new call outcome.Mounted number r is same reply s = absurd s
 begins_started client bytes old new call outcome.NoJob number r is same reply s = absurd s
+begins_started client bytes old new call outcome.NoUpper number r is same reply s = absurd s
+begins_started client bytes old new call outcome.Upper number r is same reply s = absurd s
 begins_started client bytes old new call (outcome.Refused e) number r is same reply s = absurd s
 
 -- the bytes ask for nothing
@@ -77,7 +81,8 @@ pub begins_none : (client : ℕ) (bytes : List ℕ) (old : Mounted) (result : Ou
     IsRequestOf bytes (Err result) → Begins client bytes old old result 0
 begins_none client bytes old outcome.NoFrame r = (refl, r)
 begins_none client bytes old outcome.Leaves r = (refl, r)
-begins_none client bytes old outcome.NoMemory r = (same_core old, λ n. refl)
+begins_none client bytes old outcome.NoMemory r =
+    (same_core old, refl, ((λ n. refl), refl, refl))
 begins_none client bytes old outcome.Done r = absurd r
 begins_none client bytes old outcome.Unwritten r = absurd r
 begins_none client bytes old outcome.NotMounted r = absurd r
@@ -88,6 +93,8 @@ begins_none client bytes old outcome.Fault r = absurd r
 begins_none client bytes old outcome.Mounted r = absurd r
 begins_none client bytes old outcome.More r = absurd r
 begins_none client bytes old outcome.NoJob r = absurd r
+begins_none client bytes old outcome.NoUpper r = absurd r
+begins_none client bytes old outcome.Upper r = absurd r
 begins_none client bytes old (outcome.Refused e) r = absurd r
 
 -- the answer to a last step was written or not
@@ -108,6 +115,8 @@ ended number old new last outcome.Fault e w = absurd w
 ended number old new last outcome.Mounted e w = absurd w
 ended number old new last outcome.More e w = absurd w
 ended number old new last outcome.NoJob e w = absurd w
+ended number old new last outcome.NoUpper e w = absurd w
+ended number old new last outcome.Upper e w = absurd w
 ended number old new last (outcome.Refused errno) e w = absurd w
 
 -- what is said of a job that is there
@@ -144,7 +153,11 @@ module _ (number : ℕ) (old mid gone new : Mounted) where
         subst (λ c. CoreSame mid.core c) (sym core) same,
         ap (λ c. core_work c) core ∙ let_go,
         kept number ∙ none,
-        λ n differ. kept n ∙ (apart n differ ∙ others n differ),
+        (
+          (λ n differ. kept n ∙ (apart.0 n differ ∙ others.0 n differ)),
+          jobs.1 ∙ (apart.1 ∙ others.1),
+          jobs.2 ∙ (apart.2 ∙ others.2),
+        ),
       ) w
 
   pub steps_done : (place : ℕ) (reply : Reply) (result : Outcome) →
@@ -172,12 +185,12 @@ module _ (number : ℕ) (old mid gone new : Mounted) where
 pub steps_gone : (number : ℕ) (old new : Mounted) (job : Job) → job_of old number ≡ Some job →
     (MayStep old job → ⊥) → CoreSame old.core new.core →
     IfSome (job_of old number) (λ j. core_work new.core ≡ without (core_work old.core) j) →
-    job_of new number ≡ None → KeepsOtherJobs old new number →
+    job_of new number ≡ None → KeepsOtherJobs old new number → new.reply ≡ old.reply →
     Steps number old new outcome.NoClient
-steps_gone number old new job was may same work none others =
+steps_gone number old new job was may same work none others reply =
     let gone = said_of (λ j. core_work new.core ≡ without (core_work old.core) j)
     (job_of old number) job was work in
-    (job, was, may, (same, gone, none, others))
+    (job, was, may, (same, gone, none, others), reply)
 
 -- what is there, and what isn't
 there : {A : Type 0} (o : Option A) → true ≡ is_some o → (x : A) × (o ≡ Some x)
@@ -203,10 +216,10 @@ drops_done number old new was is there_is same work none others reply =
 -- or there was none
 pub drops_none : (number : ℕ) (old new : Mounted) (was : Bool) →
     was ≡ is_some (job_of old number) → was ≡ false → CoreSame old.core new.core →
-    job_of new number ≡ None → KeepsOtherJobs old new number →
+    job_of new number ≡ None → KeepsOtherJobs old new number → new.reply ≡ old.reply →
     DropsJob number old new outcome.NoJob
-drops_none number old new was is there_is_none same none others =
-    (nothing (job_of old number) (sym there_is_none ∙ is), same, none, others)
+drops_none number old new was is there_is_none same none others reply =
+    (nothing (job_of old number) (sym there_is_none ∙ is), same, none, others, reply)
 
 -- a job that is there has a step to make
 pub may_there : (m : Mounted) (number : ℕ) (job : Job) → job_of m number ≡ Some job →

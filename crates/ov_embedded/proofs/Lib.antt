@@ -7,5 +7,6 @@ pub mod Held
 pub mod Jobs
 pub mod Manifests
 pub mod Moves
+pub mod Names
 pub mod Pieces
 pub mod Places

@@ -1,16 +1,25 @@
 -- The mount of what a manifest gave.
-use Rattle.std.proofs.Common.{◌≡◌, ℕ, Bool, not, List, ◌∷◌, Option, Some, None, IfSome, sym, ap, subst, map, is_none, is_some}
-use Rattle.toml.specs.Data.{Items, Members}
+use Rattle.std.proofs.Common.{◌≡◌, ℕ, Bool, not, List, ◌∷◌, Option, Some, None, IfSome, option_map, refl, sym, ap, subst, map, is_none, is_some}
+use Rattle.std.proofs.lemmas.Option.{none-some}
+use Rattle.std.specs.Prelude.{unwrap_or}
+use Rattle.toml.specs.Data.{Data, Items, Members}
 use Rattle.toml.specs.Parse.{parse_document}
 use Rattle.layer_tree.specs.Tree.{Tree, layer_of, layers_given}
 use Rattle.merged_lookup.specs.declared.layers.Layers.{Layers}
 use Rattle.ov_wire.specs.ManifestLayers.{AreSpelled, IsTold, fault_of, manifest_of}
 use Rattle.ov_wire.specs.declared.manifest.fault.ManifestFault.{ManifestFault}
 use Rattle.ov_wire.specs.declared.manifest.fault.ManifestFault.TheVariants as manifest
+use Rattle.ov_server.specs.GoingOn.{going_on, layer_alone}
 use Rattle.overlay_core.specs.declared.mounted.Core.{Core}
 use Rattle.watch_table.specs.declared.hook.Callback.{Ghosts as Callback}
 use Rattle.watch_table.specs.declared.hook.Rule.{Ghosts as Rule}
-use Rattle.ov_embedded.specs.Mounting.{IsMountOf, IsMounted, IsUnmountable, layers_told, of_manifest, pieces_of}
+use Rattle.ov_embedded.specs.Mounting.{IsMountOf, IsMounted, IsMountedOn, IsUnmountable, layers_told, of_manifest, pieces_of}
+
+-- what something was made of
+mapped : {A B : Type 0} (f : A → B) (o : Option A) (y : B) → option_map f o ≡ Some y →
+    (x : A) × (o ≡ Some x) × (f x ≡ y)
+mapped f None y e = absurd (none-some y e)
+mapped f (Some x) y e = (x, refl, ap (λ o. unwrap_or o y) e)
 
 -- a fault of the layers is one of the manifest, or memory ran out
 pub told_fault : (blobs : List (List ℕ)) (m : Members) (f : ManifestFault) →
@@ -44,10 +53,34 @@ held_by limit blobs (Some u) lowers l b items above below has spelled =
     (subst (λ (xs : List Tree). AreSpelled limit blobs (layer_of u ∷ map layer_of xs) items)
     (sym below) spelled))
 
--- so of the bytes of the manifest and of its blobs'
-pub mounted_of : {F G : Type 0} {asks : Callback F} {rule : Rule G} (bytes all lengths : List ℕ)
-    (m : Members) (blobs : List (List ℕ)) (core : Core F G asks rule) →
-    parse_document bytes ≡ Some m → blobs ≡ pieces_of lengths all → IsMountOf blobs m core →
-    IsMounted bytes all lengths core
-mounted_of bytes all lengths m blobs core document parts mount =
-    (m, document, subst (λ b. IsMountOf b m core) parts mount)
+module _ {F G : Type 0} {asks : Callback F} {rule : Rule G} (all lengths : List ℕ)
+    (blobs : List (List ℕ)) (core made : Core F G asks rule) where
+  -- so of the bytes of the manifest and of its blobs'
+  pub mounted_of : (bytes : List ℕ) (m : Members) → parse_document bytes ≡ Some m →
+      blobs ≡ pieces_of lengths all → IsMountOf blobs m core → made ≡ core →
+      IsMounted bytes all lengths made
+  mounted_of bytes m document parts mount is = (
+    m,
+    document,
+    subst (λ c. IsMountOf (pieces_of lengths all) m c) (sym is)
+        (subst (λ b. IsMountOf b m core) parts mount),
+  )
+
+  -- and of those of a saved upper, with which it goes on
+  pub goes_on : (saved bytes : List ℕ) (s m joined : Members) → parse_document saved ≡ Some s →
+      parse_document bytes ≡ Some m →
+      option_map (λ upper. going_on upper m) (layer_alone s) ≡ Some joined →
+      blobs ≡ pieces_of lengths all → IsMountOf blobs joined core → made ≡ core →
+      IsMountedOn saved bytes all lengths made
+  goes_on saved bytes s m joined upper document over parts mount is =
+      let it = mapped (λ d. going_on d m) (layer_alone s) joined over in (
+        s,
+        m,
+        it.0,
+        upper,
+        document,
+        it.1,
+        subst (λ j. IsMountOf (pieces_of lengths all) j made) (sym it.2)
+            (subst (λ c. IsMountOf (pieces_of lengths all) joined c) (sym is)
+            (subst (λ b. IsMountOf b joined core) parts mount)),
+      )

@@ -4,6 +4,8 @@ pub mod Holding
 pub mod Jobs
 pub mod Mounting
 pub mod Moving
+pub mod Naming
 pub mod Placing
+pub mod Saving
 pub mod Stepping
 pub mod Through

@@ -1,6 +1,6 @@
 -- The mount of a manifest.
 use Rattle.std.specs.Prelude.{◌≡◌, ◌≢◌, ℕ, Bool, cond, not, true, List, [], ◌∷◌, take, drop, Option, Some, None, Ok}
-use Rattle.toml.specs.Data.{Members}
+use Rattle.toml.specs.Data.{Data, Members}
 use Rattle.toml.specs.Parse.{parse_document}
 use Rattle.layer_tree.specs.Tree.{layer_of}
 use Rattle.merged_lookup.specs.Merged.{lowers_of}
@@ -9,6 +9,7 @@ use Rattle.ov_wire.specs.Manifests.{has_upper}
 use Rattle.ov_wire.specs.ManifestLayers.{AreSpelled, IsTold, fault_of, layer_items, manifest_of}
 use Rattle.ov_wire.specs.declared.manifest.fault.ManifestFault.{ManifestFault}
 use Rattle.ov_wire.specs.declared.manifest.fault.ManifestFault.TheVariants as fault
+use Rattle.ov_server.specs.GoingOn.{going_on, layer_alone}
 use Rattle.overlay_core.specs.Views.{CoreBegins, core_finished, core_layers, core_options, core_read_only, has_client}
 use Rattle.overlay_core.specs.declared.mounted.Core.{Core}
 use Rattle.plain_model.specs.Layers.{Layer}
@@ -50,9 +51,19 @@ abbrev pub IsMounted : {F G : Type 0} {asks : Callback F} {rule : Rule G} →
 IsMounted manifest blobs lengths core =
     (m : Members) × (parse_document manifest ≡ Some m) × IsMountOf (pieces_of lengths blobs) m core
 
--- no call was answered yet, and no job begun
+-- THE MOUNT OF A MANIFEST THAT GOES ON with a saved upper: of the manifest that has this over its
+-- lower layers
+abbrev pub IsMountedOn : {F G : Type 0} {asks : Callback F} {rule : Rule G} →
+    List ℕ → List ℕ → List ℕ → List ℕ → Core F G asks rule → Type 0
+IsMountedOn saved manifest blobs lengths core =
+    (s : Members) × (m : Members) × (upper : Data) × (parse_document saved ≡ Some s)
+    × (parse_document manifest ≡ Some m) × (layer_alone s ≡ Some upper)
+    × IsMountOf (pieces_of lengths blobs) (going_on upper m) core
+
+-- no call was answered yet, nothing saved, and no job begun
 abbrev pub IsFresh : Mounted → Type 0
-IsFresh m = (m.reply.items ≡ []) × (m.begun ≡ 0) × ((n : ℕ) → job_of m n ≡ None)
+IsFresh m =
+    (m.reply.items ≡ []) × (m.saved.items ≡ []) × (m.begun ≡ 0) × ((n : ℕ) → job_of m n ≡ None)
 
 -- how a fault of a manifest is told
 abbrev pub of_manifest : ManifestFault → Unmountable
@@ -67,14 +78,23 @@ IsUnmountable blobs m _ = Unit {0}
 -- an outcome by which nothing is mounted
 abbrev pub IsRefusal : Outcome → Type 0
 IsRefusal outcome.Fault = Unit {0}
+IsRefusal outcome.Upper = Unit {0}
 IsRefusal outcome.NoMemory = Unit {0}
 IsRefusal _ = ⊥
 
--- a handle of nothing holds the mount of a manifest, or nothing; one that holds a mount keeps it
+-- a handle of nothing holds a mount of this kind, or nothing; one that holds a mount keeps it
+abbrev pub MountsAs : (Mounted → Type 0) → Option Mounted → Option Mounted → Outcome → Type 0
+MountsAs Is (Some old) new result = (new ≡ Some old) × (result ≡ outcome.Mounted)
+MountsAs Is None new outcome.Done = (m : Mounted) × (new ≡ Some m) × Is m × IsFresh m
+MountsAs Is None new result = (new ≡ None) × IsRefusal result
+
+-- so of the mount of a manifest, and of one that goes on
 abbrev pub MountsInto : List ℕ → List ℕ → List ℕ → Option Mounted → Option Mounted → Outcome →
     Type 0
-MountsInto manifest blobs lengths (Some old) new result =
-    (new ≡ Some old) × (result ≡ outcome.Mounted)
-MountsInto manifest blobs lengths None new outcome.Done =
-    (m : Mounted) × (new ≡ Some m) × IsMounted manifest blobs lengths m.core × IsFresh m
-MountsInto manifest blobs lengths None new result = (new ≡ None) × IsRefusal result
+MountsInto manifest blobs lengths old new result =
+    MountsAs (λ m. IsMounted manifest blobs lengths m.core) old new result
+
+abbrev pub MountsOnInto : List ℕ → List ℕ → List ℕ → List ℕ → Option Mounted → Option Mounted →
+    Outcome → Type 0
+MountsOnInto saved manifest blobs lengths old new result =
+    MountsAs (λ m. IsMountedOn saved manifest blobs lengths m.core) old new result

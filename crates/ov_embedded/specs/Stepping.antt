@@ -18,7 +18,7 @@ use Rattle.overlay_core.specs.declared.job.Standing.TheVariants as standing
 use Rattle.overlay_core.specs.declared.turn.Turn.{Turn}
 use Rattle.overlay_core.specs.declared.turn.Turn.TheVariants as turns
 use Rattle.ov_embedded.specs.Calling.{IsFrameOf}
-use Rattle.ov_embedded.specs.Jobs.{KeepsJobs, KeepsOtherJobs, job_of}
+use Rattle.ov_embedded.specs.Jobs.{AreOthers, KeepsEachJob, KeepsJobs, KeepsOtherJobs, job_of}
 use Rattle.ov_embedded.specs.declared.mounted.Mounted.{Mounted}
 use Rattle.ov_embedded.specs.declared.outcome.Outcome.{Outcome}
 use Rattle.ov_embedded.specs.declared.outcome.Outcome.TheVariants as outcome
@@ -33,8 +33,8 @@ abbrev pub IsStarted : Mounted → ℕ → Call → Mounted → Outcome → ℕ 
 IsStarted old client call new outcome.More number =
     (number ≡ old.begun) × (new.begun ≡ old.begun + 1)
     × IsSomeAnd (job_of new number) (IsNew client call)
-    × KeepsOtherJobs old new number
-IsStarted old client call new outcome.NoMemory number = (n : ℕ) → job_of new n ≡ job_of old n
+    × AreOthers old new number × (new.saved ≡ old.saved)
+IsStarted old client call new outcome.NoMemory number = KeepsEachJob old new
 IsStarted old client call new _ number = ⊥
 
 -- the path text of the call that the bytes spell is refused, and nothing is begun
@@ -64,7 +64,7 @@ Begins client bytes old new outcome.Leaves number =
     (new ≡ old) × ((request : Request) × IsFrameOf bytes request × (asked_of request ≡ None))
 Begins client bytes old new outcome.Ended number = (new ≡ old) × (2 ^ 62 ≤ old.begun)
 Begins client bytes old new outcome.NoMemory number =
-    CoreSame old.core new.core × ((n : ℕ) → job_of new n ≡ job_of old n)
+    CoreSame old.core new.core × (new.reply ≡ old.reply) × KeepsEachJob old new
 Begins client bytes old new _ number = ⊥
 
 -- so of an outcome with the number
@@ -113,7 +113,7 @@ Steps number old new outcome.NoJob = (new ≡ old) × (job_of old number ≡ Non
 Steps number old new outcome.NoClient =
     (job : Job) × (job_of old number ≡ Some job)
     × (MayStep old job → ⊥)
-    × IsOver number old new job
+    × IsOver number old new job × (new.reply ≡ old.reply)
 Steps number old new outcome.Ended = (new ≡ old) × (2 ^ 62 ≤ core_finished old.core)
 Steps number old new _ = ⊥
 
@@ -123,5 +123,5 @@ DropsJob number old new outcome.Done =
     (job : Job) × (job_of old number ≡ Some job) × IsOver number old new job
     × (new.reply ≡ old.reply)
 DropsJob number old new outcome.NoJob = (job_of old number ≡ None) × CoreSame old.core new.core
-    × (job_of new number ≡ None) × KeepsOtherJobs old new number
+    × (job_of new number ≡ None) × KeepsOtherJobs old new number × (new.reply ≡ old.reply)
 DropsJob number old new _ = ⊥

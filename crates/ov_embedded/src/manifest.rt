@@ -11,7 +11,6 @@ use ov_wire::{ManifestFault, blobs_of, layers_of, table_of};
 use overlay_core::{Core, Unmounted};
 use program_hooks::{ByTag, ProgramRule};
 use std::alloc::{AllocError, AllocFailed, Global};
-use std::collections::BTreeMap;
 use std::hash::RandomState;
 use toml::Table;
 
@@ -20,6 +19,8 @@ use toml::Table;
 pub(crate) enum Unmountable {
     /// The manifest is at fault.
     Manifest(ManifestFault),
+    /// The saved upper is, with which it goes on.
+    Upper(ManifestFault),
     /// The bytes are not those of the blobs that the manifest names: this one, counted from 0,
     /// lacks some, or they are more than those of so many.
     Blob(usize),
@@ -30,7 +31,7 @@ pub(crate) enum Unmountable {
 
 #[tactic(auto, using(crate::proofs::Pieces::pieces_more, crate::proofs::Pieces::pieces_all))]
 // The parts of some bytes that have these lengths, which are all of them, and are to be so many.
-fn blobs_in(
+pub(crate) fn blobs_in(
     alloc: Global,
     bytes: &[u8],
     lengths: &[usize],
@@ -59,7 +60,7 @@ fn blobs_in(
 }
 
 // The core of a manifest whose blobs have these bytes, without a client.
-fn core_of(
+pub(crate) fn core_of(
     alloc: Global,
     keys: RandomState,
     manifest: &Table,
@@ -95,12 +96,7 @@ impl Mounted {
         let count = blobs_of(alloc, &table)?.len();
         let blobs = blobs_in(alloc, blobs, lengths, count)?;
         let core = core_of(alloc, keys, &table, blobs.as_slice())?;
-        Ok(Mounted {
-            core,
-            reply: Vec::new(alloc),
-            jobs: BTreeMap::new(alloc),
-            begun: 0,
-        })
+        Ok(Mounted::of(alloc, core))
     }
 }
 
@@ -111,6 +107,7 @@ impl Unmountable {
     {
         match self {
             Unmountable::Memory => Outcome::NoMemory,
+            Unmountable::Upper(_) => Outcome::Upper,
             _ => Outcome::Fault,
         }
     }
@@ -118,7 +115,9 @@ impl Unmountable {
     /// Its text, as the program has it.
     pub(crate) fn text(&self, alloc: Global) -> Result<String, AllocError> {
         match self {
-            Unmountable::Manifest(fault) => format!(in alloc; "{fault}"),
+            Unmountable::Manifest(fault) | Unmountable::Upper(fault) => {
+                format!(in alloc; "{fault}")
+            }
             Unmountable::Blob(blob) => format!(in alloc; "cannot read blob {blob}"),
             Unmountable::Layers => format!(in alloc; "the layers are no mount"),
             Unmountable::Memory => format!(in alloc; "out of memory"),

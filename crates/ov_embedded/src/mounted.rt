@@ -5,6 +5,7 @@ ghost use Rattle.overlay_core.specs.Views.{CoreSame, core_finished, has_client};
 ghost use Rattle.ov_embedded.specs.Attending.{Attends, Departs};
 ghost use Rattle.ov_embedded.specs.Calling.{Makes};
 ghost use Rattle.ov_embedded.specs.Jobs.{KeepsRest};
+ghost use Rattle.ov_embedded.specs.Mounting.{IsFresh};
 
 use crate::outcome::Outcome;
 use ov_base::{Call, Errno};
@@ -18,14 +19,17 @@ use std::collections::BTreeMap;
 /// counted.
 pub(crate) const FINISHED_MAX: u64 = 1 << 62;
 
-/// A mount whose clients come with the program's hooks, the frame of the last answer, and the calls
-/// that are made in steps, by numbers. It keeps no history, and answers calls without end.
+/// A mount whose clients come with the program's hooks, the frame of the last answer, the calls
+/// that are made in steps, by numbers, and the upper that was saved last. It keeps no history, and
+/// answers calls without end.
 pub struct Mounted {
     pub(crate) core: Core<ByTag, ProgramRule>,
     pub(crate) reply: Vec<u8>,
     pub(crate) jobs: BTreeMap<u64, Job>,
     // How many jobs were begun, which is the next one's number.
     pub(crate) begun: u64,
+    // The text of the upper that was saved last.
+    pub(crate) saved: Vec<u8>,
 }
 
 impl Drop for Mounted {
@@ -35,6 +39,20 @@ impl Drop for Mounted {
 }
 
 impl Mounted {
+    /// A mount on which nothing was done yet.
+    pub(crate) fn of(alloc: Global, core: Core<ByTag, ProgramRule>) -> Mounted
+        ensures core { result.core ≡ core }
+        ensures fresh { IsFresh result }
+    {
+        Mounted {
+            core,
+            reply: Vec::new(alloc),
+            jobs: BTreeMap::new(alloc),
+            begun: 0,
+            saved: Vec::new(alloc),
+        }
+    }
+
     // Gives up the jobs, and gives the core back.
     fn end(self) -> Core<ByTag, ProgramRule>
         ensures { CoreSame self.core result }
@@ -44,12 +62,14 @@ impl Mounted {
             reply,
             mut jobs,
             begun: _,
+            saved,
         } = self;
         'jobs: while let Some((_number, job)) = jobs.pop_first() {
             drop(core.drop_job(job));
         }
         jobs.destroy_empty();
         drop(reply);
+        drop(saved);
         core
     }
 

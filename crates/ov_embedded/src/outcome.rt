@@ -30,6 +30,10 @@ pub enum Outcome {
     More,
     /// There is no job of this number.
     NoJob,
+    /// There is no upper.
+    NoUpper,
+    /// The saved upper is at fault; there is a text of why.
+    Upper,
     /// It was refused, for this reason.
     Refused(Errno),
 }

@@ -34,8 +34,8 @@ fn boxed(
     Ok(Box::new(alloc, mounted)?)
 }
 
-// Tells why there is no mount, with a text in some room, as far as that goes.
-fn told(alloc: Global, why: &Unmountable, room: &mut [u8]) -> (Outcome, usize)
+/// Tells why there is no mount, with a text in some room, as far as that goes.
+pub(crate) fn told(alloc: Global, why: &Unmountable, room: &mut [u8]) -> (Outcome, usize)
     ensures { IsRefusal result.0 }
 {
     match why.text(alloc) {

@@ -111,6 +111,10 @@ no_history_rule = flag_rule (codes "no-history")
 abbrev pub idle_rule : Rule
 idle_rule = number_rule (codes "idle") 1 86400
 
+-- `--refuse`
+abbrev pub refuse_rule : Rule
+refuse_rule = flag_rule (codes "refuse")
+
 -- `--unlink`
 abbrev pub unlink_rule : Rule
 unlink_rule = flag_rule (codes "unlink")
@@ -123,6 +127,10 @@ until_eof_rule = flag_rule (codes "until-eof")
 abbrev pub save_rule : Rule
 save_rule = file_rule (codes "save")
 
+-- `--status FILE`
+abbrev pub status_rule : Rule
+status_rule = file_rule (codes "status")
+
 -- `--verbose`, or `-v`
 abbrev pub verbose_rule : Rule
 verbose_rule = record (flag_rule (codes "verbose")) { short = Some 118 }
@@ -130,8 +138,9 @@ verbose_rule = record (flag_rule (codes "verbose")) { short = Some 118 }
 -- the subcommand that serves
 abbrev pub serve_app : App
 serve_app = with_rule (with_rule (with_rule (with_rule (with_rule (with_rule (with_rule (with_rule
-    (with_rule (with_rule (app_named (codes "serve")) socket_rule) workers_rule) sessions_rule)
-    history_rule) no_history_rule) idle_rule) unlink_rule) until_eof_rule) save_rule) verbose_rule
+    (with_rule (with_rule (with_rule (with_rule (app_named (codes "serve")) socket_rule) workers_rule)
+    sessions_rule) history_rule) no_history_rule) idle_rule) refuse_rule) unlink_rule) until_eof_rule)
+    save_rule) status_rule) verbose_rule
 
 -- THE COMMAND LINE: `overlayd show MANIFEST`, `overlayd play MANIFEST`, `overlayd serve MANIFEST
 -- SOCKET`, each with its options, `overlayd --version` or `overlayd --help`
@@ -200,9 +209,11 @@ pub record AsksServe (rows : List Row) (asked : Serving) : Type 0 where
   pub history_told : Spells (one_of (codes "history") rows) (option_map places_in asked.history)
   pub keeps_none : TellsFlag rows (codes "no-history") asked.no_history
   pub idle_told : Spells (one_of (codes "idle") rows) asked.idle
+  pub refuses : TellsFlag rows (codes "refuse") asked.refuse
   pub unlinks : TellsFlag rows (codes "unlink") asked.unlink
   pub ends : TellsFlag rows (codes "until-eof") asked.until_eof
   pub saves : TellsFile rows (codes "save") asked.save
+  pub status_named : TellsFile rows (codes "status") asked.status
   pub tells : TellsFlag rows (codes "verbose") asked.verbose
 
 -- what a parse says beside the layers

@@ -14,7 +14,7 @@ use Rattle.ov_server.specs.declared.fault.DeviceFault.{DeviceFault}
 use Rattle.ov_server.specs.declared.fault.DeviceFault.TheVariants as device
 use Rattle.ov_server.specs.declared.fault.Fault.{Fault}
 use Rattle.ov_server.specs.declared.fault.Fault.TheVariants.{CommandLine, NotText, CannotReadManifest, CannotReadBlob, Manifest, Stream, Socket, BadCommand, Memory}
-use Rattle.ov_server.specs.declared.fault.Fault.TheVariants.{SaveWithoutEnd, HistoryOfNone, NoUpper, CannotSave, LeftOut}
+use Rattle.ov_server.specs.declared.fault.Fault.TheVariants.{SaveWithoutEnd, HistoryOfNone, NoUpper, CannotSave, CannotWriteStatus, LeftOut}
 use Rattle.ov_server.specs.declared.fault.Fault.TheVariants.{CannotReadScript, CannotReadUpper, InputTwice, Upper}
 
 -- the exit status of what a command line comes to: 0 where help or the version is asked for
@@ -40,6 +40,7 @@ status_of HistoryOfNone = 2
 status_of InputTwice = 2
 status_of NoUpper = 1
 status_of CannotSave = 1
+status_of CannotWriteStatus = 1
 status_of (LeftOut objects) = 1
 status_of (BadCommand line) = 2
 status_of Memory = 3

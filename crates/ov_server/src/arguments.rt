@@ -9,10 +9,7 @@ ghost use Rattle.clap.specs.declared.builder.command.Command.TheViews.{out-Comma
 ghost use Rattle.ov_server.specs.Arguments.{AsksPlay, AsksServe, AsksSource, IsAskedBy, IsLoneWord};
 ghost use Rattle.ov_server.specs.Arguments.{IsRefusedBy, Names, Spells, app_named, bare_app};
 ghost use Rattle.ov_server.specs.Arguments.{overlayd_app, places_in, play_app, reading_app, serve_app};
-ghost use Rattle.ov_server.specs.Arguments.{echo_rule, explain_rule, file_rule, script_rule, upper_rule};
-ghost use Rattle.ov_server.specs.Arguments.{flag_rule, manifest_limit_rule, manifest_rule, number_rule};
-ghost use Rattle.ov_server.specs.Arguments.{history_rule, idle_rule, no_history_rule, sessions_rule, socket_rule, unlink_rule};
-ghost use Rattle.ov_server.specs.Arguments.{save_rule, until_eof_rule, verbose_rule, workers_rule};
+ghost use Rattle.ov_server.specs.Arguments as options;
 
 use crate::help_texts::{ENDED, GRAMMAR, LINES, PLAYED};
 use crate::history_length::HistoryLength;
@@ -73,12 +70,16 @@ pub struct Serving<'a> {
     pub no_history: bool,
     /// After how many seconds a connection that does nothing ends; none where it never does.
     pub idle: Option<u64>,
+    /// Whether a connection is told so for which no worker is free, and ended.
+    pub refuse: bool,
     /// Whether the file of a socket on which nobody listens is removed first.
     pub unlink: bool,
     /// Whether it ends with standard input.
     pub until_eof: bool,
     /// The file to which the upper is written at the end; none where it isn't.
     pub save: Option<&'a str>,
+    /// The file to which it is written every second what is counted; none where it isn't.
+    pub status: Option<&'a str>,
     /// Whether it is told what is served.
     pub verbose: bool,
 }
@@ -150,14 +151,14 @@ fn play<'a>(alloc: Global) -> Result<Command<'a>, AllocError>
 }
 
 fn echo<'a>(alloc: Global) -> Arg<'a>
-    ensures rule { rule_of result ≡ echo_rule }
+    ensures rule { rule_of result ≡ options.echo_rule }
     ensures local { result.global ≡ false }
 {
     flag(alloc, "echo", "Print each command before its answer")
 }
 
 fn script<'a>(alloc: Global) -> Arg<'a>
-    ensures rule { rule_of result ≡ script_rule }
+    ensures rule { rule_of result ≡ options.script_rule }
     ensures local { result.global ≡ false }
 {
     let help = "Read the script from FILE [default: standard input]";
@@ -171,9 +172,11 @@ fn serve<'a>(alloc: Global) -> Result<Command<'a>, AllocError>
 {
     serve_within(alloc)?
         .arg(idle(alloc))?
+        .arg(refuse(alloc))?
         .arg(unlink(alloc))?
         .arg(until_eof(alloc))?
         .arg(save(alloc))?
+        .arg(status(alloc))?
         .arg(verbose(alloc))
 }
 
@@ -181,7 +184,8 @@ fn serve<'a>(alloc: Global) -> Result<Command<'a>, AllocError>
 fn serve_within<'a>(alloc: Global) -> Result<Command<'a>, AllocError>
     ensures app { IfOk result (λ command. app_of command
         ≡ with_rule (with_rule (with_rule (with_rule (with_rule (app_named (codes "serve"))
-        socket_rule) workers_rule) sessions_rule) history_rule) no_history_rule) }
+        options.socket_rule) options.workers_rule) options.sessions_rule) options.history_rule)
+        options.no_history_rule) }
     ensures local { IfOk result (λ command. (out-Command command).has_globals ≡ false) }
 {
     bare_serve(alloc)?
@@ -202,7 +206,7 @@ fn bare_serve<'a>(alloc: Global) -> Result<Command<'a>, AllocError>
 }
 
 fn socket<'a>(alloc: Global) -> Arg<'a>
-    ensures rule { rule_of result ≡ socket_rule }
+    ensures rule { rule_of result ≡ options.socket_rule }
     ensures local { result.global ≡ false }
 {
     Arg::new(alloc, "SOCKET")
@@ -211,15 +215,15 @@ fn socket<'a>(alloc: Global) -> Arg<'a>
 }
 
 fn workers<'a>(alloc: Global) -> Arg<'a>
-    ensures rule { rule_of result ≡ workers_rule }
+    ensures rule { rule_of result ≡ options.workers_rule }
     ensures local { result.global ≡ false }
 {
-    let help = "Serve N connections at once, 1 to 64; further ones wait";
+    let help = "Serve N connections at once, 1 to 64; further ones wait, but with --refuse";
     number(alloc, "workers", "N", help, 1, 64).default_value("8")
 }
 
 fn sessions<'a>(alloc: Global) -> Arg<'a>
-    ensures rule { rule_of result ≡ sessions_rule }
+    ensures rule { rule_of result ≡ options.sessions_rule }
     ensures local { result.global ≡ false }
 {
     let help = "End each worker after K sessions, 1 to 1000000 [default: never]";
@@ -227,7 +231,7 @@ fn sessions<'a>(alloc: Global) -> Arg<'a>
 }
 
 fn history<'a>(alloc: Global) -> Arg<'a>
-    ensures rule { rule_of result ≡ history_rule }
+    ensures rule { rule_of result ≡ options.history_rule }
     ensures local { result.global ≡ false }
 {
     let help = "Give the history N places, 2 to 1000000 [default: the manifest's]";
@@ -235,7 +239,7 @@ fn history<'a>(alloc: Global) -> Arg<'a>
 }
 
 fn no_history<'a>(alloc: Global) -> Arg<'a>
-    ensures rule { rule_of result ≡ no_history_rule }
+    ensures rule { rule_of result ≡ options.no_history_rule }
     ensures local { result.global ≡ false }
 {
     let help = "Keep nothing of the calls that were made, so that they never get too many";
@@ -243,7 +247,7 @@ fn no_history<'a>(alloc: Global) -> Arg<'a>
 }
 
 fn idle<'a>(alloc: Global) -> Arg<'a>
-    ensures rule { rule_of result ≡ idle_rule }
+    ensures rule { rule_of result ≡ options.idle_rule }
     ensures local { result.global ≡ false }
 {
     let help =
@@ -251,8 +255,16 @@ fn idle<'a>(alloc: Global) -> Arg<'a>
     number(alloc, "idle", "SECONDS", help, 1, 86_400)
 }
 
+fn refuse<'a>(alloc: Global) -> Arg<'a>
+    ensures rule { rule_of result ≡ options.refuse_rule }
+    ensures local { result.global ≡ false }
+{
+    let help = "Tell a connection at once that no worker is free for it, and end it";
+    flag(alloc, "refuse", help)
+}
+
 fn unlink<'a>(alloc: Global) -> Arg<'a>
-    ensures rule { rule_of result ≡ unlink_rule }
+    ensures rule { rule_of result ≡ options.unlink_rule }
     ensures local { result.global ≡ false }
 {
     let help = "Remove a socket's file at SOCKET first, if nobody listens there";
@@ -260,22 +272,30 @@ fn unlink<'a>(alloc: Global) -> Arg<'a>
 }
 
 fn until_eof<'a>(alloc: Global) -> Arg<'a>
-    ensures rule { rule_of result ≡ until_eof_rule }
+    ensures rule { rule_of result ≡ options.until_eof_rule }
     ensures local { result.global ≡ false }
 {
     flag(alloc, "until-eof", "End when standard input does")
 }
 
 fn save<'a>(alloc: Global) -> Arg<'a>
-    ensures rule { rule_of result ≡ save_rule }
+    ensures rule { rule_of result ≡ options.save_rule }
     ensures local { result.global ≡ false }
 {
     let help = "Write the upper layer to FILE when the server ends [default: never]";
     file(alloc, "save", help)
 }
 
+fn status<'a>(alloc: Global) -> Arg<'a>
+    ensures rule { rule_of result ≡ options.status_rule }
+    ensures local { result.global ≡ false }
+{
+    let help = "Write to FILE every second what is counted [default: never]";
+    file(alloc, "status", help)
+}
+
 fn verbose<'a>(alloc: Global) -> Arg<'a>
-    ensures rule { rule_of result ≡ verbose_rule }
+    ensures rule { rule_of result ≡ options.verbose_rule }
     ensures local { result.global ≡ false }
 {
     flag(alloc, "verbose", "Tell on standard error what is served").short('v')
@@ -290,7 +310,7 @@ fn number<'a>(
     least: u64,
     most: u64,
 ) -> Arg<'a>
-    ensures rule { rule_of result ≡ number_rule id.entry.now least most }
+    ensures rule { rule_of result ≡ options.number_rule id.entry.now least most }
     ensures local { result.global ≡ false }
 {
     Arg::new(alloc, id)
@@ -302,7 +322,7 @@ fn number<'a>(
 
 // An option `--ID` that is there or not.
 fn flag<'a>(alloc: Global, id: &'a str, help: &'a str) -> Arg<'a>
-    ensures rule { rule_of result ≡ flag_rule id.entry.now }
+    ensures rule { rule_of result ≡ options.flag_rule id.entry.now }
     ensures local { result.global ≡ false }
 {
     Arg::new(alloc, id)
@@ -313,7 +333,7 @@ fn flag<'a>(alloc: Global, id: &'a str, help: &'a str) -> Arg<'a>
 
 // An option `--ID FILE`.
 fn file<'a>(alloc: Global, id: &'a str, help: &'a str) -> Arg<'a>
-    ensures rule { rule_of result ≡ file_rule id.entry.now }
+    ensures rule { rule_of result ≡ options.file_rule id.entry.now }
     ensures local { result.global ≡ false }
 {
     Arg::new(alloc, id).long(id).value_name("FILE").help(help)
@@ -352,7 +372,7 @@ fn reading<'a>(
 }
 
 fn manifest<'a>(alloc: Global) -> Arg<'a>
-    ensures rule { rule_of result ≡ manifest_rule }
+    ensures rule { rule_of result ≡ options.manifest_rule }
     ensures local { result.global ≡ false }
 {
     Arg::new(alloc, "MANIFEST")
@@ -361,7 +381,7 @@ fn manifest<'a>(alloc: Global) -> Arg<'a>
 }
 
 fn manifest_limit<'a>(alloc: Global) -> Arg<'a>
-    ensures rule { rule_of result ≡ manifest_limit_rule }
+    ensures rule { rule_of result ≡ options.manifest_limit_rule }
     ensures local { result.global ≡ false }
 {
     let help = "Refuse a manifest of more than BYTES bytes, 1 to 1099511627776";
@@ -370,7 +390,7 @@ fn manifest_limit<'a>(alloc: Global) -> Arg<'a>
 }
 
 fn upper<'a>(alloc: Global) -> Arg<'a>
-    ensures rule { rule_of result ≡ upper_rule }
+    ensures rule { rule_of result ≡ options.upper_rule }
     ensures local { result.global ≡ false }
 {
     let help = "Go on with the upper layer that --save left in FILE [default: the manifest's]";
@@ -378,7 +398,7 @@ fn upper<'a>(alloc: Global) -> Arg<'a>
 }
 
 fn explain<'a>(alloc: Global) -> Arg<'a>
-    ensures rule { rule_of result ≡ explain_rule }
+    ensures rule { rule_of result ≡ options.explain_rule }
     ensures local { result.global ≡ false }
 {
     let help = "Tell more of a fault on a second line [default: only on a terminal]";
@@ -444,9 +464,11 @@ fn serving_of<'a>(source: Source<'a>, matches: &ArgMatches<'a>) -> Option<Servin
     let history = history_of(matches)?;
     let no_history = matches.get_flag("no-history");
     let idle = matches.try_get_one("idle").ok()?;
+    let refuse = matches.get_flag("refuse");
     let unlink = matches.get_flag("unlink");
     let until_eof = matches.get_flag("until-eof");
     let save = matches.get_str("save");
+    let status = matches.get_str("status");
     let verbose = matches.get_flag("verbose");
     Some(Serving {
         source,
@@ -456,9 +478,11 @@ fn serving_of<'a>(source: Source<'a>, matches: &ArgMatches<'a>) -> Option<Servin
         history,
         no_history,
         idle,
+        refuse,
         unlink,
         until_eof,
         save,
+        status,
         verbose,
     })
 }

@@ -56,6 +56,9 @@ pub enum Fault {
     /// The saved upper can't be written.
     #[error("cannot save")]
     CannotSave,
+    /// The file of the status can't be written.
+    #[error("cannot write status")]
+    CannotWriteStatus,
     /// So many objects of the upper are none that a manifest can say.
     #[error("not saved, since no manifest can say them: {objects} objects")]
     LeftOut { objects: u64 },
@@ -80,6 +83,7 @@ impl Fault {
             Fault::CannotReadUpper | Fault::Upper(_) | Fault::CannotReadScript => 1,
             Fault::Stream | Fault::Socket => 1,
             Fault::NoUpper | Fault::CannotSave | Fault::LeftOut { .. } => 1,
+            Fault::CannotWriteStatus => 1,
             Fault::NotText | Fault::BadCommand { .. } => 2,
             Fault::SaveWithoutEnd | Fault::HistoryOfNone | Fault::InputTwice => 2,
             Fault::Memory => 3,

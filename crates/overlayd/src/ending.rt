@@ -1,7 +1,9 @@
-// The end of a server with that of standard input.
+// What threads of their own do beside a server, and its end with that of standard input.
+use crate::status::Status;
 use ov_server::{Fault, Serving};
 use socket_server::Closing;
 use std::alloc::Global;
+use std::fs::Files;
 use std::io::{ErrorKind, Input, Read};
 use std::os::unix::net::UnixListener;
 use std::sync::{Arc, Wait};
@@ -11,15 +13,32 @@ use std::time::{Clock, Duration};
 /// How many seconds clients have to read what was answered before the end.
 const SECONDS_TO_READ: u64 = 5;
 
+/// What a thread of its own does beside a server.
+#[derive(Drop)]
+pub(crate) enum Task {
+    /// Closes it when standard input ends.
+    Close(Arc<Closing, Global>),
+    /// Writes its status.
+    Tell(Arc<Status, Global>),
+}
+
+/// Does a task, until that is over.
+pub(crate) fn do_task<R: Clock + Input + Files + Wait + AllocGlobal>(rt: &R, task: &Task) {
+    match task {
+        Task::Close(closing) => close_at_end(rt, closing),
+        Task::Tell(status) => status.write_all(rt),
+    }
+}
+
 /// What ends the server when standard input ends, if that is asked for. It is handed to what has a
-/// thread wait for that end.
-pub(crate) fn ending_of<W: Fn(Arc<Closing, Global>) -> Result<(), Fault>>(
+/// thread do a task.
+pub(crate) fn ending_of<W: Fn(Task) -> Result<(), Fault>>(
     alloc: Global,
     listener: &UnixListener,
     serving: &Serving<'_>,
-    closes_at_end: &W,
+    starts: &W,
 ) -> Result<Option<Arc<Closing, Global>>, Fault>
-    requires closes { (closing : _) → W.pre closes_at_end.now closing }
+    requires always { (task : _) → W.pre starts.now task }
 {
     if !serving.until_eof {
         return Ok(None);
@@ -29,7 +48,7 @@ pub(crate) fn ending_of<W: Fn(Arc<Closing, Global>) -> Result<(), Fault>>(
         Err(fault) if fault.kind() == ErrorKind::OutOfMemory => return Err(Fault::Memory),
         Err(_) => return Err(Fault::Socket),
     };
-    closes_at_end(Arc::try_clone(&closing)?)?;
+    starts(Task::Close(Arc::try_clone(&closing)?))?;
     Ok(Some(closing))
 }
 
@@ -41,8 +60,8 @@ pub(crate) fn closing_in(ending: &Option<Arc<Closing, Global>>) -> Option<&Closi
     }
 }
 
-/// Waits for the end of standard input, and closes the server. What can't be read has ended.
-pub(crate) fn close_at_end<R: Clock + Input + Wait>(rt: &R, closing: &Closing) {
+// Waits for the end of standard input, and closes the server. What can't be read has ended.
+fn close_at_end<R: Clock + Input + Wait>(rt: &R, closing: &Closing) {
     let mut input = rt.reader();
     let mut piece = [0u8; 512];
     for _ in 0..u64::MAX {

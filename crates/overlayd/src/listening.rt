@@ -1,6 +1,8 @@
 // The socket on which connections are waited for.
 use crate::failure::Failure;
 use ov_server::{Fault, Serving};
+use socket_server::Acceptor;
+use std::alloc::Global;
 use std::fs::Files;
 use std::io::{Eprint, ErrorKind};
 use std::net::Net;
@@ -21,6 +23,22 @@ pub(crate) fn listen<R: Files + Net + Eprint + AllocGlobal>(
     match bind(rt, serving) {
         Ok(listener) => Ok(listener),
         Err(fault) => Err(no_socket(rt, serving, &fault)),
+    }
+}
+
+/// Who turns away the connections for which no worker is free, if that is asked for.
+pub(crate) fn acceptor_of(
+    alloc: Global,
+    listener: &UnixListener,
+    serving: &Serving<'_>,
+) -> Result<Option<Acceptor>, Fault> {
+    if !serving.refuse {
+        return Ok(None);
+    }
+    match Acceptor::new(alloc, listener) {
+        Ok(acceptor) => Ok(Some(acceptor)),
+        Err(fault) if fault.kind() == ErrorKind::OutOfMemory => Err(Fault::Memory),
+        Err(_) => Err(Fault::Socket),
     }
 }
 

@@ -13,22 +13,25 @@ mod lines;
 mod listening;
 mod mounting;
 mod reading;
+mod replacing;
 mod saving;
+mod status;
 
 use crate::bad_line::why_bad;
 use crate::described::{Described, STANDARD_INPUT, read_manifest};
-use crate::ending::{close_at_end, closing_in, ending_of};
+use crate::ending::{Task, closing_in, do_task, ending_of};
 use crate::explaining::tell;
 use crate::failure::Failure;
-use crate::listening::{hold_standard, listen};
+use crate::listening::{acceptor_of, hold_standard, listen};
 use crate::mounting::{Mounting, mounting_of};
 use crate::saving::Saver;
+use crate::status::Status;
 use ov_devices::{CountedReader, CountedWriter};
 use ov_server::{
     ByTag, Fault, Invocation, Output, Playing, ProgramRule, Serving, Source, command_line,
     hooks_by_slot, play_run, show_run,
 };
-use socket_server::{Closing, ServeOptions, Served, serve_endless_on, serve_on};
+use socket_server::{Acceptor, Closing, Counts, ServeOptions, Served, serve_endless_on, serve_on};
 use std::alloc::Global;
 use std::env::Env;
 use std::fs::Files;
@@ -45,15 +48,15 @@ use std::{env, fs, io, thread};
 use watch_table::{Callback, Hook, Rule};
 
 fn main(rt: HostRuntime) -> ExitCode {
-    let closes_at_end = |closing: Arc<Closing, Global>| -> Result<(), Fault> {
+    let starts = |task: Task| -> Result<(), Fault> {
         let own = rt.clone()?;
-        match thread::spawn(&rt, move || close_at_end(&own, &closing)) {
+        match thread::spawn(&rt, move || do_task(&own, &task)) {
             Ok(_) => Ok(()),
             Err(_) => Err(Fault::Memory),
         }
     };
     let is_terminal = rt.stderr().is_terminal();
-    match run(&rt, is_terminal, &closes_at_end) {
+    match run(&rt, is_terminal, &starts) {
         Ok(status) => status,
         Err(fault) => report(&rt, &fault),
     }
@@ -61,15 +64,15 @@ fn main(rt: HostRuntime) -> ExitCode {
 
 // The exit status, or the fault of a command line. A thread that closes a server when standard input
 // ends is made by what is given.
-fn run<R, W>(rt: &R, is_terminal: bool, closes_at_end: &W) -> Result<ExitCode, Fault>
+fn run<R, W>(rt: &R, is_terminal: bool, starts: &W) -> Result<ExitCode, Fault>
 where
     R: Runtime + AllocGlobal + RandomSource + Net + Threads + Wait + Sync,
-    W: Fn(Arc<Closing, Global>) -> Result<(), Fault>,
-    requires closes { (closing : _) → W.pre closes_at_end.now closing }
+    W: Fn(Task) -> Result<(), Fault>,
+    requires always { (task : _) → W.pre starts.now task }
 {
     let words = words(rt)?;
     let invocation = command_line(rt.alloc(), words.as_slice())?;
-    let failure = match done(rt, &invocation, closes_at_end) {
+    let failure = match done(rt, &invocation, starts) {
         Ok(status) => return Ok(ExitCode::from(status)),
         Err(failure) => failure,
     };
@@ -81,17 +84,17 @@ where
 }
 
 // Does what is asked for, and gives the exit status where nothing is to be told any more.
-fn done<R, W>(rt: &R, invocation: &Invocation<'_>, closes_at_end: &W) -> Result<u8, Failure>
+fn done<R, W>(rt: &R, invocation: &Invocation<'_>, starts: &W) -> Result<u8, Failure>
 where
     R: Runtime + AllocGlobal + RandomSource + Net + Threads + Wait + Sync,
-    W: Fn(Arc<Closing, Global>) -> Result<(), Fault>,
-    requires closes { (closing : _) → W.pre closes_at_end.now closing }
+    W: Fn(Task) -> Result<(), Fault>,
+    requires always { (task : _) → W.pre starts.now task }
 {
     let keys = keys(rt)?;
     match invocation {
         Invocation::Show(source) => show(rt, keys, source)?,
         Invocation::Play(playing) => play(rt, keys, playing)?,
-        Invocation::Serve(serving) => return serve(rt, keys, serving, closes_at_end),
+        Invocation::Serve(serving) => return serve(rt, keys, serving, starts),
     }
     Ok(0)
 }
@@ -209,16 +212,11 @@ fn of_play(alloc: Global, fault: Fault, above: Option<usize>, line: &[u8]) -> Fa
     }
 }
 
-fn serve<R, W>(
-    rt: &R,
-    keys: RandomState,
-    serving: &Serving<'_>,
-    closes_at_end: &W,
-) -> Result<u8, Failure>
+fn serve<R, W>(rt: &R, keys: RandomState, serving: &Serving<'_>, starts: &W) -> Result<u8, Failure>
 where
     R: Runtime + AllocGlobal + Net + Threads + Wait + Sync,
-    W: Fn(Arc<Closing, Global>) -> Result<(), Fault>,
-    requires closes { (closing : _) → W.pre closes_at_end.now closing }
+    W: Fn(Task) -> Result<(), Fault>,
+    requires always { (task : _) → W.pre starts.now task }
 {
     if serving.save.is_some() && serving.sessions.is_none() && !serving.until_eof {
         return Err(Failure::from(Fault::SaveWithoutEnd));
@@ -231,7 +229,7 @@ where
     }
     hold_standard(rt, serving)?;
     let hooks = hooks_by_slot(rt.alloc())?;
-    serve_with(rt, keys, hooks.as_slice(), serving, closes_at_end)
+    serve_with(rt, keys, hooks.as_slice(), serving, starts)
 }
 
 // The same with hooks of any kind. The mount is there before the socket, so that who can connect is
@@ -241,14 +239,14 @@ fn serve_with<F, H, R, W>(
     keys: RandomState,
     hooks: &[Hook<F, H>],
     serving: &Serving<'_>,
-    closes_at_end: &W,
+    starts: &W,
 ) -> Result<u8, Failure>
 where
     F: Callback + Copy + Send + Sync,
     H: Rule + Send + Sync,
     R: Runtime + AllocGlobal + Net + Threads + Wait + Sync,
-    W: Fn(Arc<Closing, Global>) -> Result<(), Fault>,
-    requires closes { (closing : _) → W.pre closes_at_end.now closing }
+    W: Fn(Task) -> Result<(), Fault>,
+    requires always { (task : _) → W.pre starts.now task }
 {
     let described = read_manifest(rt, &serving.source)?;
     let above = described.above;
@@ -257,7 +255,7 @@ where
         Err(fault) => return Err(Failure::of_mount(fault, above)),
     };
     let mut mounting = Some(mounting);
-    serve_lent(rt, &mut mounting, places, hooks, serving, closes_at_end)
+    serve_lent(rt, &mut mounting, places, hooks, serving, starts)
 }
 
 // The same of a mount that is lent, and taken when there is a socket: where it fails before, the mount
@@ -268,28 +266,58 @@ fn serve_lent<F, H, R, W>(
     places: u32,
     hooks: &[Hook<F, H>],
     serving: &Serving<'_>,
-    closes_at_end: &W,
+    starts: &W,
 ) -> Result<u8, Failure>
 where
     F: Callback + Copy + Send + Sync,
     H: Rule + Send + Sync,
     R: Runtime + AllocGlobal + Net + Threads + Wait + Sync,
-    W: Fn(Arc<Closing, Global>) -> Result<(), Fault>,
+    W: Fn(Task) -> Result<(), Fault>,
     requires mounted { IsSome mounting.old }
-    requires closes { (closing : _) → W.pre closes_at_end.now closing }
+    requires always { (task : _) → W.pre starts.now task }
 {
     let mut saver = Saver::new(rt, serving)?;
+    let status = Status::new(rt, serving, places)?;
     let listener = listen(rt, serving)?;
-    let ending = ending_of(rt.alloc(), &listener, serving, closes_at_end)?;
-    let options = options_of(serving, places, closing_in(&ending));
+    let acceptor = acceptor_of(rt.alloc(), &listener, serving)?;
+    let closing = ending_of(rt.alloc(), &listener, serving, starts)?;
+    start_status(&status, starts)?;
+    let beside = Beside {
+        acceptor,
+        closing,
+        status,
+    };
+    let options = options_of(serving.socket, serving, places, &beside);
     let Some(mounting) = mounting.take() else {
         unreachable!()
     };
-    let served = serve_mounting(rt, &listener, mounting, hooks, &options, &mut saver)?;
+    let served = serve_mounting(rt, &listener, mounting, hooks, &options, &mut saver);
+    end_status(rt, &beside.status);
+    let served = served?;
     saver.outcome?;
     match served {
         Served::Done | Served::Stopped => Ok(0),
         Served::Failed => Ok(Fault::Socket.status()),
+    }
+}
+
+// Has a thread write the status, if that is asked for.
+fn start_status<W: Fn(Task) -> Result<(), Fault>>(
+    status: &Option<Arc<Status, Global>>,
+    starts: &W,
+) -> Result<(), Fault>
+    requires always { (task : _) → W.pre starts.now task }
+{
+    match status {
+        Some(status) => starts(Task::Tell(Arc::try_clone(status)?)),
+        None => Ok(()),
+    }
+}
+
+// The server has ended, which the status tells.
+fn end_status<R: Files + Wait + AllocGlobal>(rt: &R, status: &Option<Arc<Status, Global>>) {
+    if let Some(status) = status {
+        status.end(rt);
     }
 }
 
@@ -300,7 +328,7 @@ fn serve_mounting<F, H, R>(
     mounting: Mounting<F, H>,
     hooks: &[Hook<F, H>],
     options: &ServeOptions<'_>,
-    saver: &mut Saver<'_, R>,
+    saver: &mut Saver<'_, '_, R>,
 ) -> Result<Served, Fault>
 where
     F: Callback + Copy + Send + Sync,
@@ -322,19 +350,41 @@ where
     }
 }
 
-// How a server is asked for, and what ends it.
+// What a server has beside it: who turns others away, what ends it, and where it is told what it counts.
+#[derive(Drop)]
+struct Beside {
+    acceptor: Option<Acceptor>,
+    closing: Option<Arc<Closing, Global>>,
+    status: Option<Arc<Status, Global>>,
+}
+
+// What is counted for a status.
+fn counts_in(status: &Option<Arc<Status, Global>>) -> Option<&Counts> {
+    match status {
+        Some(status) => Some(&status.counts),
+        None => None,
+    }
+}
+
+// How a server is asked for, at this socket, and what it has beside it.
 fn options_of<'a>(
-    serving: &Serving<'a>,
+    socket: &'a str,
+    serving: &Serving<'_>,
     places: u32,
-    closing: Option<&'a Closing>,
+    beside: &'a Beside,
 ) -> ServeOptions<'a> {
+    let acceptor = beside.acceptor.as_ref();
+    let closing = closing_in(&beside.closing);
+    let counts = counts_in(&beside.status);
     ServeOptions {
-        socket: serving.socket,
+        socket,
         workers: serving.workers as usize,
         history: places as usize,
         sessions: serving.sessions,
         idle: serving.idle,
+        acceptor,
         closing,
+        counts,
         verbose: serving.verbose,
     }
 }

@@ -4,14 +4,17 @@ use Rattle.merged_lookup.specs.declared.stack.Place.{Place}
 use Rattle.ov_base.specs.Errnos as errors
 use Rattle.ov_embedded.specs.Attending.{Attends, Departs}
 use Rattle.ov_embedded.specs.Calling.{Comes, IsAgain, IsShown}
-use Rattle.ov_embedded.specs.Mounting.{MountsInto}
+use Rattle.ov_embedded.specs.Mounting.{MountsInto, MountsOnInto}
 use Rattle.ov_embedded.specs.Moving.{ReadsOff, WritesOff}
+use Rattle.ov_embedded.specs.Naming.{TellsNames}
 use Rattle.ov_embedded.specs.Placing.{Places}
+use Rattle.ov_embedded.specs.Saving.{Recalls, Saves}
 use Rattle.ov_embedded.specs.Stepping.{BeginsJob, DropsJob, Steps}
 use Rattle.ov_embedded.specs.Through.{Through}
 use Rattle.ov_embedded.specs.declared.mounted.Mounted.{Mounted}
 use Rattle.ov_embedded.specs.declared.outcome.Outcome.{Outcome}
 use Rattle.ov_embedded.specs.declared.outcome.Outcome.TheVariants as outcome
+use Rattle.ov_embedded.specs.declared.saving.Saved.{Saved}
 
 -- the number of an outcome: `enum ovl_status`
 abbrev pub number_of : Outcome → ℕ
@@ -29,6 +32,8 @@ number_of outcome.Mounted = 10
 number_of outcome.More = 11
 number_of outcome.NoJob = 12
 number_of (outcome.Refused errno) = 13
+number_of outcome.NoUpper = 14
+number_of outcome.Upper = 15
 
 -- the error number of an outcome, or 0
 abbrev pub error_of : Outcome → ℕ
@@ -45,6 +50,19 @@ abbrev pub IsMade : List ℕ → List ℕ → List ℕ → Option Mounted → Op
 IsMade manifest blobs lengths old new status =
     (came : Outcome) × (status ≡ pos (number_of came))
     × MountsInto manifest blobs lengths old new came
+
+-- so was one that goes on with a saved upper
+abbrev pub IsMadeOn : List ℕ → List ℕ → List ℕ → List ℕ → Option Mounted → Option Mounted → ℤ →
+    Type 0
+IsMadeOn upper manifest blobs lengths old new status =
+    (came : Outcome) × (status ≡ pos (number_of came))
+    × MountsOnInto upper manifest blobs lengths old new came
+
+-- the names of a manifest's blobs are in the room, or the number says why not
+abbrev pub AreNamed : List ℕ → List ℕ → List ℕ → ℕ → ℕ → ℤ → Type 0
+AreNamed manifest before after told count status =
+    (came : Outcome) × (status ≡ pos (number_of came))
+    × TellsNames manifest before after came told count
 
 -- a client was attached, or detached, as the number says
 abbrev pub IsAttached : Option Mounted → Option Mounted → ℕ → ℕ → ℤ → Type 0
@@ -122,3 +140,28 @@ abbrev pub IsPlaced : List ℕ → Option Mounted → Option Mounted → ℕ →
 IsPlaced text old new layer layer' key key' error status =
     (told : Result Place Outcome) × Through (Err outcome.NotMounted) (Places text) old new told
     × TellsPlace told layer layer' key key' error status
+
+-- how long a saved upper is, and how much was left out, is told, or why nothing was saved
+abbrev pub TellsSaved : Result Saved Outcome → ℕ → ℕ → ℤ → Type 0
+TellsSaved (Ok it) length left_out status =
+    (length ≡ it.length) × (left_out ≡ it.left_out) × (status ≡ pos 0)
+TellsSaved (Err why) length left_out status =
+    (length ≡ 0) × (left_out ≡ 0) × (status ≡ pos (number_of why))
+
+-- the upper was saved, as the numbers say
+abbrev pub IsSaved : Option Mounted → Option Mounted → ℕ → ℕ → ℤ → Type 0
+IsSaved old new length left_out status =
+    (told : Result Saved Outcome) × Through (Err outcome.NotMounted) Saves old new told
+    × TellsSaved told length left_out status
+
+-- how many bytes are there is told, or why none are
+abbrev pub TellsCount : Result ℕ Outcome → ℕ → ℤ → Type 0
+TellsCount (Ok n) count status = (count ≡ n) × (status ≡ pos 0)
+TellsCount (Err why) count status = (count ≡ 0) × (status ≡ pos (number_of why))
+
+-- a piece of what was saved last is in the room, as the numbers say
+abbrev pub IsRecalled : ℕ → List ℕ → List ℕ → Option Mounted → Option Mounted → ℕ → ℤ → Type 0
+IsRecalled at before after old new count status =
+    (told : Result ℕ Outcome)
+    × Through (Err outcome.NotMounted) (Recalls at before after) old new told
+    × (old ≡ None → after ≡ before) × TellsCount told count status

@@ -4,13 +4,13 @@
 
 ghost use Rattle.std.specs.Prelude.{◌≡◌, pos};
 ghost use Rattle.std.specs.declared.option.Option.TheVariants.{None};
-ghost use Rattle.overlayd_c.specs.Numbers.{Counts, IsAttached, IsBegun, IsCalled, IsDetached, IsDropped, IsMade, IsPlaced, IsRead, IsRepeated, IsStepped, IsWritten, Tells, TellsPlace, error_of, number_of};
+ghost use Rattle.overlayd_c.specs.Numbers.{AreNamed, Counts, IsAttached, IsBegun, IsCalled, IsDetached, IsDropped, IsMade, IsMadeOn, IsPlaced, IsRead, IsRecalled, IsRepeated, IsSaved, IsStepped, IsWritten, Tells, TellsCount, TellsPlace, TellsSaved, error_of, number_of};
 
 use merged_lookup::Place;
 use ov_embedded::{
-    Handle, Outcome, attach_through, begin_through, call_through, detach_through, drop_through,
-    mount_through, place_through, read_through, reply_through, step_through, unmount_through,
-    write_through,
+    Handle, Outcome, Saved, attach_through, begin_through, blob_names, call_through,
+    detach_through, drop_through, mount_on_through, mount_through, place_through, read_through,
+    reply_through, save_through, saved_through, step_through, unmount_through, write_through,
 };
 use std::alloc::Global;
 
@@ -36,6 +36,8 @@ fn status_of(outcome: Outcome) -> i32
         Outcome::More => 11,
         Outcome::NoJob => 12,
         Outcome::Refused(_) => 13,
+        Outcome::NoUpper => 14,
+        Outcome::Upper => 15,
     }
 }
 
@@ -57,7 +59,9 @@ fn error_in(outcome: Outcome) -> u8
         | Outcome::Fault
         | Outcome::Mounted
         | Outcome::More
-        | Outcome::NoJob => 0,
+        | Outcome::NoJob
+        | Outcome::NoUpper
+        | Outcome::Upper => 0,
     }
 }
 
@@ -110,6 +114,40 @@ fn placed(place: Result<Place, Outcome>, layer: &mut usize, key: &mut usize, err
     }
 }
 
+// Tells how long a saved upper is and what was left out, or that nothing was saved.
+fn saved(saved: Result<Saved, Outcome>, length: &mut usize, left_out: &mut u64) -> i32
+    ensures { TellsSaved saved length.new left_out.new result }
+{
+    match saved {
+        Ok(it) => {
+            *length = it.length;
+            *left_out = it.left_out;
+            status_of(Outcome::Done)
+        }
+        Err(outcome) => {
+            *length = 0;
+            *left_out = 0;
+            status_of(outcome)
+        }
+    }
+}
+
+// Tells how many bytes of a text are there.
+fn recalled(piece: Result<usize, Outcome>, count: &mut usize) -> i32
+    ensures { TellsCount piece count.new result }
+{
+    match piece {
+        Ok(it) => {
+            *count = it;
+            status_of(Outcome::Done)
+        }
+        Err(outcome) => {
+            *count = 0;
+            status_of(outcome)
+        }
+    }
+}
+
 /// The version of these calls: the major number, and the minor one in 16 bits.
 #[unsafe(no_mangle)]
 pub extern "C" fn ovl_version() -> u32 {
@@ -133,6 +171,48 @@ pub extern "C" fn ovl_mount_manifest(
 {
     let (outcome, count) = mount_through(alloc, mount, manifest, blobs, lengths, keys, room);
     *length = count;
+    status_of(outcome)
+}
+
+/// Mounts what a manifest tells with a saved upper in the place of its own, as `ovl_mount_manifest`
+/// does.
+#[unsafe(no_mangle)]
+pub extern "C" fn ovl_mount_upper(
+    alloc: Global,
+    mount: &mut Handle,
+    upper: &[u8],
+    manifest: &[u8],
+    blobs: &[u8],
+    lengths: &[usize],
+    keys: &[u8; 16],
+    room: &mut [u8],
+    length: &mut usize,
+) -> i32
+    ensures { IsMadeOn upper.now manifest.now blobs.now lengths.now mount.old.mounted
+        mount.new.mounted result }
+{
+    let (outcome, count) = mount_on_through(
+        alloc, mount, upper, manifest, blobs, lengths, keys, room,
+    );
+    *length = count;
+    status_of(outcome)
+}
+
+/// Tells the names of the files whose bytes are a manifest's blobs, each with a zero byte behind
+/// it, and how many they are. The text goes into the room, as far as that goes, and its length is told.
+#[unsafe(no_mangle)]
+pub extern "C" fn ovl_blob_names(
+    alloc: Global,
+    manifest: &[u8],
+    room: &mut [u8],
+    length: &mut usize,
+    count: &mut usize,
+) -> i32
+    ensures { AreNamed manifest.now room.old room.new length.new count.new result }
+{
+    let (outcome, told, names) = blob_names(alloc, manifest, room);
+    *length = told;
+    *count = names;
     status_of(outcome)
 }
 
@@ -296,4 +376,33 @@ pub extern "C" fn ovl_place(
         key.new error.new result }
 {
     placed(place_through(alloc, mount, path), layer, key, error)
+}
+
+/// Saves the upper as a manifest of one layer, as the program does, whose text is kept; its length
+/// is told, and how many objects no manifest can say.
+#[unsafe(no_mangle)]
+pub extern "C" fn ovl_save(
+    alloc: Global,
+    mount: &mut Handle,
+    length: &mut usize,
+    left_out: &mut u64,
+) -> i32
+    ensures { IsSaved mount.old.mounted mount.new.mounted length.new left_out.new result }
+{
+    saved(save_through(alloc, mount), length, left_out)
+}
+
+/// Copies a piece of the text that was saved last, from a byte on, into the room; how many bytes
+/// are there is told.
+#[unsafe(no_mangle)]
+pub extern "C" fn ovl_saved(
+    alloc: Global,
+    mount: &mut Handle,
+    at: usize,
+    room: &mut [u8],
+    count: &mut usize,
+) -> i32
+    ensures { IsRecalled at room.old room.new mount.old.mounted mount.new.mounted count.new result }
+{
+    recalled(saved_through(alloc, mount, at, room), count)
 }

@@ -1,12 +1,11 @@
 // Sessions of a mount over bytes in memory: calls that have no place in the history, gates that
 // stop, and a read or a write that fails.
-ghost use Rattle.std.specs.Prelude.{◌≡◌};
-ghost use Rattle.locked_history.specs.Names.{IsNamed};
-
+use crate::checks::{add, counts, holds, is_number, keys_of};
 use crate::devices::Once;
 use crate::gates::Stopping;
-use crate::mounts::{Shut, Silent, attached, blank_of, detach, ended};
-use locked_history::{Blank, Gate, Mount, MountName, Open, Receipt, Session};
+use crate::mounts::{Shut, Silent, attached, detached};
+use crate::opened::{Trial, named_with};
+use locked_history::{Gate, Mount, MountName, Open, Receipt, Session};
 use mount_door::{Departure, run_session};
 use ov_devices::{CountedReader, CountedWriter};
 use ov_session::{Ending, SessionOutput};
@@ -14,10 +13,11 @@ use overlay_core::Core;
 use std::alloc::Global;
 use std::hash::RandomState;
 use std::io::{Read, Write};
-use std::marker::Brand;
 use std::process::Abort;
+use std::rt::Clock;
 use std::sync::Wait;
 use std::test::Fail;
+use std::thread::Threads;
 use watch_table::{AnyAnswer, Callback, Hook, Rule};
 
 const EMPTY: &str = "layer = [{}, {}]";
@@ -58,26 +58,96 @@ const OPEN_TO_WRITE: &[u8] = b"\x00\x00\x00\x0a\x0b\x01\x00\x00\x01\xa4\x00\x02\
 
 /// What happens on a mount that was just made.
 #[derive(Clone, Copy)]
-enum Scenario {
+pub enum Scenario {
+    /// A stopped call is not made and not answered; its client is detached under the next number
+    /// still.
     Stops,
+    /// A call that is stopped between two chunks of a copy is not answered, and the client's
+    /// descriptor and watch go with it.
     StopsInACopy,
+    /// In a full history a call is refused with 28, and the detach has its place.
     Fills,
+    /// A session whose number was used already is refused with 22, also its detach; the right one
+    /// is its client's still.
     IsStale,
     ReadFails,
     WriteFails,
 }
 
+/// How a session is left.
+#[derive(Clone, Copy)]
+struct Leaving {
+    ending: Ending,
+    calls: u64,
+    receipts: usize,
+    has_hooks: bool,
+}
+
+impl Scenario {
+    /// How many entries the history has then.
+    pub fn entries(self) -> usize {
+        match self {
+            Scenario::Stops | Scenario::IsStale => 2,
+            Scenario::StopsInACopy => 4,
+            Scenario::Fills | Scenario::ReadFails | Scenario::WriteFails => 3,
+        }
+    }
+
+    // What the client sends, frame by frame, and what it is sent. Where a device fails neither is
+    // said.
+    fn frames(self) -> (&'static [&'static [u8]], &'static [&'static [u8]]) {
+        match self {
+            Scenario::Stops => (&[STAT_ABSENT], &[]),
+            Scenario::StopsInACopy => (
+                &[OPEN_TO_READ, ARM, OPEN_TO_WRITE, STAT_ABSENT],
+                &[OPENED_AT_1, ARMED_AT_2],
+            ),
+            Scenario::Fills => (
+                &[STAT_ABSENT, STAT_ABSENT, DETACH],
+                &[ABSENT_AT_1, FULL, DETACHED_AT_2],
+            ),
+            Scenario::IsStale => (&[STAT_ABSENT, DETACH], &[NOT_ITS_SESSION, NOT_ITS_SESSION]),
+            Scenario::ReadFails | Scenario::WriteFails => (&[], &[]),
+        }
+    }
+
+    fn leaving(self) -> Leaving {
+        let (ending, calls, receipts, has_hooks) = match self {
+            Scenario::Stops => (Ending::Stopped, 0, 2, true),
+            Scenario::StopsInACopy => (Ending::Stopped, 2, 4, true),
+            Scenario::Fills => (Ending::Detached, 2, 3, true),
+            Scenario::IsStale => (Ending::Detached, 1, 1, false),
+            Scenario::ReadFails => (Ending::Read, 1, 3, true),
+            Scenario::WriteFails => (Ending::Write, 1, 3, true),
+        };
+        Leaving {
+            ending,
+            calls,
+            receipts,
+            has_hooks,
+        }
+    }
+}
+
 // The bytes one behind the other.
-fn joined(alloc: Global, parts: &[&[u8]]) -> Result<Vec<u8>, Fail> {
+fn joined(rt: &impl Abort, alloc: Global, parts: &[&[u8]]) -> Vec<u8> {
     let mut all = Vec::new(alloc);
     for part in parts {
-        all.extend_from_slice(part)?;
+        all.extend_from_slice(part).expect(rt, "memory");
     }
-    Ok(all)
+    all
 }
 
 // Runs a session of an attached client over a reader and a writer.
-fn session_over<N: MountName, F: Callback + Drop, R: Rule, G: Gate, H: Wait, I: Read, O: Write>(
+fn session_over<
+    N: MountName,
+    F: Callback + Drop,
+    R: Rule,
+    G: Gate,
+    H: Wait + Abort,
+    I: Read,
+    O: Write,
+>(
     rt: &H,
     alloc: Global,
     mount: &Mount<N, F, R>,
@@ -85,13 +155,13 @@ fn session_over<N: MountName, F: Callback + Drop, R: Rule, G: Gate, H: Wait, I: 
     client: (Session, Receipt<N>),
     reader: &mut I,
     writer: &mut O,
-) -> Result<Departure<N, F, R>, Fail> {
+) -> Departure<N, F, R> {
     let mut receipts = Vec::new(alloc);
-    receipts.reserve(2)?;
+    receipts.reserve(2).expect(rt, "memory");
     receipts.push_reserved(client.1);
     let mut input = CountedReader::new(reader);
     let mut output = SessionOutput::new(alloc, CountedWriter::new(writer));
-    Ok(run_session(
+    run_session(
         rt,
         alloc,
         mount,
@@ -100,113 +170,36 @@ fn session_over<N: MountName, F: Callback + Drop, R: Rule, G: Gate, H: Wait, I: 
         receipts,
         &mut input,
         &mut output,
-    ))
+    )
 }
 
-// Runs a session of an attached client that sends these bytes, and what is written.
-fn session_left<N: MountName, F: Callback + Drop, R: Rule, G: Gate, H: Wait>(
+// A session over bytes, with the gate of this scenario; what is written is what the client is sent.
+fn over_bytes<N: MountName, F: Callback + Drop, R: Rule, H: Wait + Abort>(
     rt: &H,
     alloc: Global,
     mount: &Mount<N, F, R>,
-    gate: &G,
     client: (Session, Receipt<N>),
-    bytes: &[u8],
-) -> Result<(Departure<N, F, R>, Vec<u8>), Fail> {
+    scenario: Scenario,
+) -> Departure<N, F, R> {
+    let (asked, wanted) = scenario.frames();
+    let asked = joined(rt, alloc, asked);
+    let mut sent = asked.as_slice();
     let mut written = Vec::new(alloc);
-    let mut sent = bytes;
-    let left = session_over(rt, alloc, mount, gate, client, &mut sent, &mut written)?;
-    Ok((left, written))
-}
-
-// The receipts that a session left.
-fn receipts_of<N: MountName, F: Callback + Drop, R: Rule>(
-    left: Departure<N, F, R>,
-) -> Vec<Receipt<N>> {
-    let Departure {
-        ending: _,
-        calls: _,
-        session: _,
-        receipts,
-        hooks: _,
-    } = left;
-    receipts
-}
-
-// A stopped call is not made and not answered; its client is detached under the next number still.
-fn stops<N: MountName, F: Callback + Drop, R: Rule, H: Wait + Abort>(
-    rt: &H,
-    alloc: Global,
-    mount: &Mount<N, F, R>,
-    client: (Session, Receipt<N>),
-) -> Result<Vec<Receipt<N>>, Fail> {
-    let (left, written) = session_left(rt, alloc, mount, &Shut, client, STAT_ABSENT)?;
-    assert_eq!(rt; left.ending, Ending::Stopped);
-    assert!(rt; written.is_empty() && left.hooks.is_some());
-    assert!(rt; left.calls == 0 && left.receipts.len() == 2);
-    Ok(receipts_of(left))
-}
-
-// A call that is stopped between two chunks of a copy is not answered, and the client's descriptor
-// and watch go with it.
-fn stops_in_a_copy<N: MountName, F: Callback + Drop, R: Rule, H: Wait + Abort>(
-    rt: &H,
-    alloc: Global,
-    mount: &Mount<N, F, R>,
-    client: (Session, Receipt<N>),
-) -> Result<Vec<Receipt<N>>, Fail> {
-    let asked = joined(alloc, &[OPEN_TO_READ, ARM, OPEN_TO_WRITE, STAT_ABSENT])?;
-    let wanted = joined(alloc, &[OPENED_AT_1, ARMED_AT_2])?;
-    let gate = Stopping { step: 4 };
-    let (left, written) = session_left(rt, alloc, mount, &gate, client, asked.as_slice())?;
-    assert_eq!(rt; left.ending, Ending::Stopped);
-    assert!(rt; written.as_slice() == wanted.as_slice() && left.hooks.is_some());
-    assert!(rt; left.calls == 2 && left.receipts.len() == 4);
-    Ok(receipts_of(left))
-}
-
-// In a full history a call is refused with 28, and the detach has its place.
-fn fills<N: MountName, F: Callback + Drop, R: Rule, H: Wait + Abort>(
-    rt: &H,
-    alloc: Global,
-    mount: &Mount<N, F, R>,
-    client: (Session, Receipt<N>),
-) -> Result<Vec<Receipt<N>>, Fail> {
-    let asked = joined(alloc, &[STAT_ABSENT, STAT_ABSENT, DETACH])?;
-    let wanted = joined(alloc, &[ABSENT_AT_1, FULL, DETACHED_AT_2])?;
-    let (left, written) = session_left(rt, alloc, mount, &Open, client, asked.as_slice())?;
-    assert_eq!(rt; left.ending, Ending::Detached);
-    assert!(rt; written.as_slice() == wanted.as_slice() && left.hooks.is_some());
-    assert!(rt; left.calls == 2 && left.receipts.len() == 3);
-    Ok(receipts_of(left))
-}
-
-// A session whose number was used already is refused with 22, also its detach; the right one is its
-// client's still.
-fn is_stale<N: MountName, F: Callback + Drop, R: Rule, H: Wait + Abort>(
-    rt: &H,
-    alloc: Global,
-    mount: &Mount<N, F, R>,
-    client: (Session, Receipt<N>),
-) -> Result<Vec<Receipt<N>>, Fail> {
-    let (session, receipt) = client;
-    let stale = Session {
-        client: session.client,
-        number: 1,
+    let left = match scenario {
+        Scenario::Stops => session_over(rt, alloc, mount, &Shut, client, &mut sent, &mut written),
+        Scenario::StopsInACopy => {
+            let gate = Stopping { step: 4 };
+            session_over(rt, alloc, mount, &gate, client, &mut sent, &mut written)
+        }
+        _ => session_over(rt, alloc, mount, &Open, client, &mut sent, &mut written),
     };
-    let asked = joined(alloc, &[STAT_ABSENT, DETACH])?;
-    let wanted = joined(alloc, &[NOT_ITS_SESSION, NOT_ITS_SESSION])?;
-    let (left, written) = session_left(
+    let wanted = joined(rt, alloc, wanted);
+    holds(
         rt,
-        alloc,
-        mount,
-        &Open,
-        (stale, receipt),
-        asked.as_slice(),
-    )?;
-    assert_eq!(rt; left.ending, Ending::Detached);
-    assert!(rt; written.as_slice() == wanted.as_slice() && left.hooks.is_none());
-    assert!(rt; detach(rt, mount, session).is_ok());
-    Ok(receipts_of(left))
+        written.as_slice() == wanted.as_slice(),
+        "what the client is sent",
+    );
+    left
 }
 
 // A client asks once, and then a device fails once: what was made stands, and the client is detached
@@ -217,41 +210,70 @@ fn device_fails<N: MountName, F: Callback + Drop, R: Rule, H: Wait + Abort>(
     mount: &Mount<N, F, R>,
     client: (Session, Receipt<N>),
     fails_to_write: bool,
-) -> Result<Vec<Receipt<N>>, Fail> {
-    let (reads, writes, end, wanted): (usize, usize, Ending, &[u8]) = if fails_to_write {
-        (usize::MAX, 0, Ending::Write, &[])
+) -> Departure<N, F, R> {
+    let (reads, writes, wanted): (usize, usize, &[u8]) = if fails_to_write {
+        (usize::MAX, 0, &[])
     } else {
-        (1, usize::MAX, Ending::Read, ABSENT_AT_1)
+        (1, usize::MAX, ABSENT_AT_1)
     };
     let mut reader = Once::new(STAT_ABSENT, reads);
     let mut writer = Once::new(Vec::new(alloc), writes);
-    let left = session_over(rt, alloc, mount, &Open, client, &mut reader, &mut writer)?;
-    assert_eq!(rt; left.ending, end);
-    assert!(rt; writer.device.as_slice() == wanted);
-    assert!(rt; left.calls == 1 && left.receipts.len() == 3);
-    assert!(rt; matches!(&left.hooks, Some(hooks) if hooks.len() == 1));
-    Ok(receipts_of(left))
+    let left = session_over(rt, alloc, mount, &Open, client, &mut reader, &mut writer);
+    holds(
+        rt,
+        writer.device.as_slice() == wanted,
+        "what the client is sent",
+    );
+    let has_hook = matches!(&left.hooks, Some(hooks) if hooks.len() == 1);
+    holds(rt, has_hook, "its hook");
+    left
 }
 
-// What happens to a client with these hooks; its receipts are left.
-fn client_left<N: MountName, F: Callback + Drop, R: Rule, H: Wait + Abort>(
+// The receipts of a session that is left so.
+fn receipts_of<N: MountName, F: Callback + Drop, R: Rule>(
+    rt: &impl Abort,
+    left: Departure<N, F, R>,
+    wanted: Leaving,
+) -> Vec<Receipt<N>> {
+    let Departure {
+        ending,
+        calls,
+        session: _,
+        receipts,
+        hooks,
+    } = left;
+    holds(rt, ending == wanted.ending, "the ending");
+    is_number(rt, calls, wanted.calls, "calls");
+    counts(rt, receipts.len(), wanted.receipts, "receipts");
+    holds(rt, hooks.is_some() == wanted.has_hooks, "its hooks");
+    drop(hooks);
+    receipts
+}
+
+/// What happens to a client with these hooks; its receipts are left.
+pub fn happens<N: MountName, F: Callback + Drop, R: Rule, H: Wait + Abort>(
     rt: &H,
     alloc: Global,
     mount: &Mount<N, F, R>,
-    hooks: Vec<Hook<F, R>>,
     scenario: Scenario,
+    hooks: Vec<Hook<F, R>>,
     receipts: &mut Vec<Receipt<N>>,
-) -> Result<(), Fail> {
-    let client = attached(rt, mount, hooks)?;
-    *receipts = match scenario {
-        Scenario::Stops => stops(rt, alloc, mount, client)?,
-        Scenario::StopsInACopy => stops_in_a_copy(rt, alloc, mount, client)?,
-        Scenario::Fills => fills(rt, alloc, mount, client)?,
-        Scenario::IsStale => is_stale(rt, alloc, mount, client)?,
-        Scenario::ReadFails => device_fails(rt, alloc, mount, client, false)?,
-        Scenario::WriteFails => device_fails(rt, alloc, mount, client, true)?,
+) {
+    let (session, receipt) = attached(rt, mount, hooks);
+    let mut used = session;
+    if let Scenario::IsStale = scenario {
+        used.number = 1;
+    }
+    let client = (used, receipt);
+    let left = match scenario {
+        Scenario::ReadFails => device_fails(rt, alloc, mount, client, false),
+        Scenario::WriteFails => device_fails(rt, alloc, mount, client, true),
+        _ => over_bytes(rt, alloc, mount, client, scenario),
     };
-    Ok(())
+    *receipts = receipts_of(rt, left, scenario.leaving());
+    if let Scenario::IsStale = scenario {
+        let _gone = detached(rt, mount, session);
+    }
 }
 
 /// Whether nothing is left of the first client.
@@ -259,66 +281,32 @@ pub fn is_left_clean<F: Callback, R: Rule>(core: &Core<F, R>) -> bool {
     core.temps() == 0 && core.open_jobs(0) == 0 && !core.is_attached(0)
 }
 
-// A mount of its own; each receipt stands in its history, which has so many entries.
-fn happens<N: MountName, F: Callback + Drop, R: Rule, H: Wait + Abort>(
-    rt: &H,
-    alloc: Global,
-    blank: Blank<F, R>,
-    hooks: Vec<Hook<F, R>>,
-    scenario: Scenario,
-    entries: usize,
-) -> Result<(), Fail>
-    requires { IsNamed N.cells N.name N.parts N.opening blank }
-{
-    let mount = Mount::<N, F, R>::open(blank);
-    let mut receipts = Vec::new(alloc);
-    let outcome = client_left(rt, alloc, &mount, hooks, scenario, &mut receipts);
-    let end = ended(alloc, mount, receipts);
-    outcome?;
-    assert_eq!(rt; end.entries, entries);
-    assert!(rt; end.handed_back == 0 && end.is_left_clean);
-    Ok(())
-}
-
-// The same under the name of a mount.
-fn happens_named<F: Callback + Drop, R: Rule, H: Wait + Abort>(
-    rt: &H,
-    alloc: Global,
-    blank: Blank<F, R>,
-    hooks: Vec<Hook<F, R>>,
-    scenario: Scenario,
-    entries: usize,
-) -> Result<(), Fail> {
-    happens::<Brand, F, R, H>(rt, alloc, blank, hooks, scenario, entries)
-}
-
 // All of them, each on a mount of its own.
-fn all_happen<F: Callback + Copy, R: Rule, H: Wait + Abort>(
+fn all_happen<F: Callback + Copy + Send, R: Rule + Send, H: Threads + Wait + Abort + Clock + Sync>(
     rt: &H,
     alloc: Global,
     keys: RandomState,
     hook: &Hook<F, R>,
-) -> Result<(), Fail> {
+) {
     let scenarios = [
-        (EMPTY, Scenario::Stops, 2),
-        (FILE, Scenario::StopsInACopy, 4),
-        (THREE_PLACES, Scenario::Fills, 3),
-        (EMPTY, Scenario::IsStale, 2),
-        (EMPTY, Scenario::ReadFails, 3),
-        (EMPTY, Scenario::WriteFails, 3),
+        (EMPTY, Scenario::Stops),
+        (FILE, Scenario::StopsInACopy),
+        (THREE_PLACES, Scenario::Fills),
+        (EMPTY, Scenario::IsStale),
+        (EMPTY, Scenario::ReadFails),
+        (EMPTY, Scenario::WriteFails),
     ];
-    for (manifest, scenario, entries) in scenarios {
+    for (manifest, scenario) in scenarios {
         let mut hooks = Vec::new(alloc);
-        hooks.push(hook.copied())?;
-        let blank = blank_of::<F, R>(alloc, keys, manifest)?;
-        happens_named(rt, alloc, blank, hooks, scenario, entries)?;
+        add(rt, &mut hooks, hook.copied());
+        let trial = Trial::HasSession(scenario);
+        named_with::<F, R, H>(rt, alloc, keys, manifest, trial, hooks);
     }
-    Ok(())
 }
 
 #[test]
-fn sessions_are_stopped_and_refused(rt: HostRuntime) -> Result<(), Fail> {
-    let keys = RandomState::new(&rt)?;
+fn sessions_are_stopped_and_refused(rt: HostRuntime) {
+    let keys = keys_of(&rt);
     let hook = Hook::new(0, Silent);
-    all_happen::<Silent, AnyAnswer, HostRuntime>(&rt, rt.alloc(), keys, &hook)
+    all_happen::<Silent, AnyAnswer, HostRuntime>(&rt, rt.alloc(), keys, &hook);
 }

@@ -1,16 +1,16 @@
 // A mount that keeps no entry of its history: it never fills, and all else is as on one that does.
 ghost use Rattle.endless_mount.specs.Names.{IsNamed};
 
-use crate::mounts::{Shut, Silent, core_of, path_of};
+use crate::checks::{holds, is_number, keys_of};
+use crate::mounts::{Shut, Silent, core_of, looking, path_of};
 use endless_mount::{Blank, BookName, EndlessMount, Front};
 use locked_history::{Gate, Open, Refused, Session};
-use ov_base::{Call, ObjectKind, Path, Reply, Stat};
+use ov_base::{Call, ObjectKind, Reply, Stat};
 use std::alloc::Global;
 use std::hash::RandomState;
 use std::marker::Brand;
 use std::process::Abort;
 use std::sync::Wait;
-use std::test::Fail;
 use std::thread;
 use std::thread::Threads;
 use watch_table::{AnyAnswer, Callback, Rule};
@@ -55,7 +55,7 @@ impl Trial {
 }
 
 // What a reply says.
-#[derive(Clone, Copy, Debug, PartialEq, Eq)]
+#[derive(Clone, Copy, PartialEq, Eq)]
 enum Said {
     Done,
     Shown(Stat),
@@ -115,10 +115,23 @@ fn looks<N: BookName, F: Callback, R: Rule, H: Wait, G: Gate>(
     client: &mut (Session, Front<N>),
     gate: &G,
 ) -> Result<(u64, Said), Refused> {
-    let call = Call::Stat {
-        path: Path::root(alloc),
-    };
-    make(rt, mount, client, call, gate)
+    make(rt, mount, client, looking(alloc), gate)
+}
+
+// The same, where it is answered at this place.
+fn is_shown<N: BookName, F: Callback, R: Rule, H: Wait + Abort>(
+    rt: &H,
+    alloc: Global,
+    mount: &EndlessMount<N, F, R>,
+    client: &mut (Session, Front<N>),
+    wanted: u64,
+) {
+    let shown = looks(rt, alloc, mount, client, &Open).ok();
+    holds(
+        rt,
+        shown == Some((wanted, Said::Shown(ROOT))),
+        "the root at its place",
+    );
 }
 
 // A client without hooks, whose attach has this place.
@@ -127,13 +140,28 @@ fn attached<N: BookName, F: Callback + Drop, R: Rule, H: Wait + Abort>(
     alloc: Global,
     mount: &EndlessMount<N, F, R>,
     wanted: u64,
-) -> Result<(Session, Front<N>), Fail> {
-    let Some((client, place)) = attach(rt, alloc, mount) else {
-        return Err(Fail::from("not attached"));
-    };
-    assert_eq!(rt; place, wanted);
-    assert_eq!(rt; client.1.len(), wanted.saturating_add(1));
-    Ok(client)
+) -> (Session, Front<N>) {
+    let (client, place) = attach(rt, alloc, mount).expect(rt, "a client");
+    is_number(rt, place, wanted, "the place of the attach");
+    has(rt, &client, 2, wanted.saturating_add(1));
+    client
+}
+
+// What a client has: its session's number, and how much it has seen of the history.
+fn has<N: BookName>(rt: &impl Abort, client: &(Session, Front<N>), number: u64, seen: u64) {
+    is_number(rt, client.0.number, number, "the session's number");
+    is_number(rt, client.1.len(), seen, "what is seen of the history");
+}
+
+// What comes of a client's detach.
+fn goes<N: BookName, F: Callback + Drop, R: Rule, H: Wait + Abort>(
+    rt: &H,
+    mount: &EndlessMount<N, F, R>,
+    client: &mut (Session, Front<N>),
+    wanted: Result<u64, Refused>,
+) {
+    let gone = detach(rt, mount, client);
+    holds(rt, gone == wanted, "what comes of the detach");
 }
 
 // More calls are answered than the manifest's history has places, each at the next place.
@@ -141,17 +169,14 @@ fn goes_on<N: BookName, F: Callback + Drop, R: Rule, H: Wait + Abort>(
     rt: &H,
     alloc: Global,
     mount: &EndlessMount<N, F, R>,
-) -> Result<(), Fail> {
-    let mut client = attached(rt, alloc, mount, 0)?;
+) {
+    let mut client = attached(rt, alloc, mount, 0);
     for wanted in 1..10 {
-        let (place, said) = looks(rt, alloc, mount, &mut client, &Open).map_err(|_| "call")?;
-        assert_eq!(rt; place, wanted);
-        assert_eq!(rt; said, Said::Shown(ROOT));
+        is_shown(rt, alloc, mount, &mut client, wanted);
     }
-    assert_eq!(rt; client.0.number, 11);
-    let place = detach(rt, mount, &mut client).map_err(|_| "detach")?;
-    assert!(rt; place == 10 && client.1.len() == 11);
-    Ok(())
+    has(rt, &client, 11, 10);
+    goes(rt, mount, &mut client, Ok(10));
+    has(rt, &client, 11, 11);
 }
 
 // A copy of a session whose number was used is refused, and the next right one is answered.
@@ -159,23 +184,24 @@ fn uses_a_number<N: BookName, F: Callback + Drop, R: Rule, H: Wait + Abort>(
     rt: &H,
     alloc: Global,
     mount: &EndlessMount<N, F, R>,
-) -> Result<(), Fail> {
-    let mut client = attached(rt, alloc, mount, 0)?;
+) {
+    let mut client = attached(rt, alloc, mount, 0);
     let mut used = (client.0, client.1.again());
-    let _first = looks(rt, alloc, mount, &mut client, &Open).map_err(|_| "first call")?;
+    is_shown(rt, alloc, mount, &mut client, 1);
     let again = looks(rt, alloc, mount, &mut used, &Open).err();
-    assert!(rt; matches!(again, Some(Refused::Session)));
-    assert!(rt; used.0.number == 2 && used.1.len() == 1);
-    let refused = detach(rt, mount, &mut used).err();
-    assert_eq!(rt; refused, Some(Refused::Session));
-    let (place, _) = looks(rt, alloc, mount, &mut client, &Open).map_err(|_| "second call")?;
-    assert!(rt; place == 2 && client.0.number == 4);
-    assert!(rt; detach(rt, mount, &mut client).is_ok());
-    let gone = detach(rt, mount, &mut client).err();
-    assert_eq!(rt; gone, Some(Refused::Session));
-    let next = attached(rt, alloc, mount, 4)?;
-    assert_eq!(rt; next.0.client, 1);
-    Ok(())
+    holds(
+        rt,
+        again == Some(Refused::Session),
+        "a number that was used",
+    );
+    has(rt, &used, 2, 1);
+    goes(rt, mount, &mut used, Err(Refused::Session));
+    is_shown(rt, alloc, mount, &mut client, 2);
+    is_number(rt, client.0.number, 4, "the session's number");
+    goes(rt, mount, &mut client, Ok(3));
+    goes(rt, mount, &mut client, Err(Refused::Session));
+    let next = attached(rt, alloc, mount, 4);
+    is_number(rt, next.0.client, 1, "the next client");
 }
 
 // A call that the gate stops is no entry, and leaves the session's number and the front.
@@ -183,50 +209,49 @@ fn stops<N: BookName, F: Callback + Drop, R: Rule, H: Wait + Abort>(
     rt: &H,
     alloc: Global,
     mount: &EndlessMount<N, F, R>,
-) -> Result<(), Fail> {
-    let mut client = attached(rt, alloc, mount, 0)?;
+) {
+    let mut client = attached(rt, alloc, mount, 0);
     let stopped = looks(rt, alloc, mount, &mut client, &Shut).err();
-    assert!(rt; matches!(stopped, Some(Refused::Stopped)));
-    assert!(rt; client.0.number == 2 && client.1.len() == 1);
-    let (place, _) = looks(rt, alloc, mount, &mut client, &Open).map_err(|_| "call")?;
-    assert_eq!(rt; place, 1);
-    Ok(())
+    holds(
+        rt,
+        stopped == Some(Refused::Stopped),
+        "a call that is stopped",
+    );
+    has(rt, &client, 2, 1);
+    is_shown(rt, alloc, mount, &mut client, 1);
 }
 
 // A worker's client attaches, makes its calls and detaches. Its front comes back, and how often it
 // was the one that made the directory.
-fn works<N: BookName, F: Callback + Drop, R: Rule, H: Wait>(
+fn works<N: BookName, F: Callback + Drop, R: Rule, H: Wait + Abort>(
     rt: &H,
     alloc: Global,
     mount: &EndlessMount<N, F, R>,
-) -> Option<(Front<N>, u64)> {
-    let (mut client, _place) = attach(rt, alloc, mount)?;
+) -> (Front<N>, u64) {
+    let (mut client, _place) = attach(rt, alloc, mount).expect(rt, "a client");
     let mut made = 0u64;
     for _ in 0..CALLS {
-        let path = path_of(alloc, "/d").ok()?;
+        let path = path_of(rt, alloc, "/d");
         let call = Call::Mkdir { path, mode: 0o755 };
-        let (_, said) = make(rt, mount, &mut client, call, &Open).ok()?;
+        let answered = make(rt, mount, &mut client, call, &Open).ok();
+        let (_, said) = answered.expect(rt, "an answer");
         if said == Said::Done {
             made = made.saturating_add(1);
         }
     }
-    let _gone = detach(rt, mount, &mut client).ok()?;
-    Some((client.1, made))
+    holds(rt, detach(rt, mount, &mut client).is_ok(), "a detach");
+    (client.1, made)
 }
 
 // The longest of the workers' fronts, and how often the directory was made.
-fn longest<N: BookName>(
-    first: &Front<N>,
-    worked: Vec<Option<(Front<N>, u64)>>,
-) -> Option<(Front<N>, u64)> {
+fn longest<N: BookName>(first: &Front<N>, worked: Vec<(Front<N>, u64)>) -> (Front<N>, u64) {
     let mut seen = first.again();
     let mut made = 0u64;
-    for one in worked {
-        let (front, count) = one?;
+    for (front, count) in worked {
         seen = seen.longer(&front);
         made = made.saturating_add(count);
     }
-    Some((seen, made))
+    (seen, made)
 }
 
 // Each worker's calls are answered, one of them makes the directory, and the longest front has all
@@ -236,15 +261,17 @@ fn races<
     F: Callback + Drop + Send,
     R: Rule + Send,
     H: Threads + Wait + Abort + Sync,
->(rt: &H, alloc: Global, mount: &EndlessMount<N, F, R>, seen: &mut Front<N>) -> Result<(), Fail> {
-    let worked = thread::map_indices(rt, alloc, WORKERS, &|_worker| works(rt, alloc, mount))?;
-    let Some((front, made)) = longest(seen, worked) else {
-        return Err(Fail::from("a worker failed"));
-    };
+>(rt: &H, alloc: Global, mount: &EndlessMount<N, F, R>, seen: &mut Front<N>) {
+    let worked = thread::map_indices(rt, alloc, WORKERS, &|_worker| works(rt, alloc, mount));
+    let (front, made) = longest(seen, worked.expect(rt, "threads"));
     *seen = front;
-    assert_eq!(rt; made, 1);
-    assert_eq!(rt; seen.len(), Trial::Races.entries());
-    Ok(())
+    is_number(rt, made, 1, "directories that are made");
+    is_number(
+        rt,
+        seen.len(),
+        Trial::Races.entries(),
+        "what is seen of the history",
+    );
 }
 
 // Tries this, and leaves what was seen of the history.
@@ -253,13 +280,7 @@ fn tried<
     F: Callback + Drop + Send,
     R: Rule + Send,
     H: Threads + Wait + Abort + Sync,
->(
-    rt: &H,
-    alloc: Global,
-    mount: &EndlessMount<N, F, R>,
-    trial: Trial,
-    seen: &mut Front<N>,
-) -> Result<(), Fail> {
+>(rt: &H, alloc: Global, mount: &EndlessMount<N, F, R>, trial: Trial, seen: &mut Front<N>) {
     match trial {
         Trial::GoesOn => goes_on(rt, alloc, mount),
         Trial::UsesANumber => uses_a_number(rt, alloc, mount),
@@ -286,16 +307,15 @@ fn tries<
     F: Callback + Drop + Send,
     R: Rule + Send,
     H: Threads + Wait + Abort + Sync,
->(rt: &H, alloc: Global, blank: Blank<F, R>, trial: Trial) -> Result<(), Fail>
+>(rt: &H, alloc: Global, blank: Blank<F, R>, trial: Trial)
     requires { IsNamed N.book N.opening blank }
 {
     let (mount, first) = EndlessMount::<N, F, R>::open(blank);
     let mut seen = first;
-    let outcome = tried(rt, alloc, &mount, trial, &mut seen);
+    tried(rt, alloc, &mount, trial, &mut seen);
     let (entries, finished) = ended(rt, mount, seen);
-    outcome?;
-    assert!(rt; entries == trial.entries() && finished == entries);
-    Ok(())
+    is_number(rt, entries, trial.entries(), "entries");
+    is_number(rt, finished, entries, "what was done on the core");
 }
 
 // Tries this on a mount of its own.
@@ -304,31 +324,31 @@ fn named<F: Callback + Drop + Send, R: Rule + Send, H: Threads + Wait + Abort + 
     alloc: Global,
     keys: RandomState,
     trial: Trial,
-) -> Result<(), Fail> {
-    let blank = Blank::new(alloc, core_of::<F, R>(alloc, keys, FILE)?);
-    tries::<Brand, F, R, H>(rt, alloc, blank, trial)
+) {
+    let blank = Blank::new(alloc, core_of::<F, R>(rt, alloc, keys, FILE));
+    tries::<Brand, F, R, H>(rt, alloc, blank, trial);
 }
 
 #[test]
-fn endless_history_goes_on(rt: HostRuntime) -> Result<(), Fail> {
-    let keys = RandomState::new(&rt)?;
-    named::<Silent, AnyAnswer, _>(&rt, rt.alloc(), keys, Trial::GoesOn)
+fn endless_history_goes_on(rt: HostRuntime) {
+    let keys = keys_of(&rt);
+    named::<Silent, AnyAnswer, _>(&rt, rt.alloc(), keys, Trial::GoesOn);
 }
 
 #[test]
-fn endless_history_refuses_a_used_number(rt: HostRuntime) -> Result<(), Fail> {
-    let keys = RandomState::new(&rt)?;
-    named::<Silent, AnyAnswer, _>(&rt, rt.alloc(), keys, Trial::UsesANumber)
+fn endless_history_refuses_a_used_number(rt: HostRuntime) {
+    let keys = keys_of(&rt);
+    named::<Silent, AnyAnswer, _>(&rt, rt.alloc(), keys, Trial::UsesANumber);
 }
 
 #[test]
-fn endless_history_leaves_out_a_stopped_call(rt: HostRuntime) -> Result<(), Fail> {
-    let keys = RandomState::new(&rt)?;
-    named::<Silent, AnyAnswer, _>(&rt, rt.alloc(), keys, Trial::Stops)
+fn endless_history_leaves_out_a_stopped_call(rt: HostRuntime) {
+    let keys = keys_of(&rt);
+    named::<Silent, AnyAnswer, _>(&rt, rt.alloc(), keys, Trial::Stops);
 }
 
 #[test]
-fn eight_threads_make_one_endless_history(rt: HostRuntime) -> Result<(), Fail> {
-    let keys = RandomState::new(&rt)?;
-    named::<Silent, AnyAnswer, _>(&rt, rt.alloc(), keys, Trial::Races)
+fn eight_threads_make_one_endless_history(rt: HostRuntime) {
+    let keys = keys_of(&rt);
+    named::<Silent, AnyAnswer, _>(&rt, rt.alloc(), keys, Trial::Races);
 }

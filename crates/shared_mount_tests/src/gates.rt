@@ -1,18 +1,17 @@
 // Calls that a gate holds between their steps, while other calls are made, and calls that it stops.
 ghost use Rattle.std.specs.Prelude.{◌≡◌};
 
-use crate::mounts::{Silent, attached, detach, make, path_of, reply_in};
+use crate::checks::{holds, is_number, keys_of};
+use crate::mounts::{Silent, attached, detach, detached, made, make, path_of, reply_in};
 use crate::opened::{Trial, named};
 use locked_history::{Gate, Mount, MountName, Open, Pass, Past, Receipt, Refused, Session};
 use merged_lookup::Topmost;
-use ov_base::{Call, OpenFlags, Path, Reply};
-use std::alloc::{AllocError, Global};
-use std::hash::RandomState;
+use ov_base::{Call, OpenFlags, Reply};
+use std::alloc::Global;
 use std::process::Abort;
 use std::rt::Clock;
 use std::sync::Wait;
 use std::sync::atomic::{AtomicBool, Ordering};
-use std::test::Fail;
 use std::thread;
 use std::thread::Threads;
 use std::time::Duration;
@@ -70,8 +69,7 @@ impl<H: Clock> Gate for Holding<'_, H> {
 }
 
 // `open` for writing, for appending too where that is asked.
-fn opening(alloc: Global, text: &str, append: bool) -> Result<Call, AllocError> {
-    let path = path_of(alloc, text)?;
+fn opening(rt: &impl Abort, alloc: Global, text: &str, append: bool) -> Call {
     let flags = OpenFlags {
         reads: false,
         writes: true,
@@ -82,42 +80,42 @@ fn opening(alloc: Global, text: &str, append: bool) -> Result<Call, AllocError> 
         directory: false,
         unknown: false,
     };
-    Ok(Call::Open {
-        path,
+    Call::Open {
+        path: path_of(rt, alloc, text),
         flags,
         mode: 0,
-    })
+    }
 }
 
 // Copies a file by a call that the gate holds.
-fn is_held<N: MountName, F: Callback, R: Rule, H: Clock + Wait>(
+fn is_held<N: MountName, F: Callback, R: Rule, H: Clock + Wait + Abort>(
     rt: &H,
     alloc: Global,
     mount: &Mount<N, F, R>,
     session: Session,
     gate: &Holding<'_, H>,
-) -> Option<Receipt<N>> {
+) -> Receipt<N> {
     let mut session = session;
-    let copies = opening(alloc, "/f", false).ok()?;
-    make(rt, mount, &mut session, copies, gate).ok()
+    let copies = opening(rt, alloc, "/f", false);
+    match make(rt, mount, &mut session, copies, gate) {
+        Ok(receipt) => receipt,
+        Err(_) => panic!(rt; "the held call is not answered"),
+    }
 }
 
 // Opens the other file while the gate holds that call, and tells the gate.
-fn goes_between<N: MountName, F: Callback, R: Rule, H: Clock + Wait>(
+fn goes_between<N: MountName, F: Callback, R: Rule, H: Clock + Wait + Abort>(
     rt: &H,
     alloc: Global,
     mount: &Mount<N, F, R>,
     session: Session,
     gate: &Holding<'_, H>,
-) -> Option<Receipt<N>> {
-    if !comes(rt, &gate.reached) {
-        return None;
-    }
+) -> Receipt<N> {
+    holds(rt, comes(rt, &gate.reached), "the step is reached");
     let mut session = session;
-    let other = opening(alloc, "/g", true).ok()?;
-    let made = make(rt, mount, &mut session, other, &Open).ok();
+    let receipt = made(rt, mount, &mut session, opening(rt, alloc, "/g", true));
     gate.answered.store(true, Ordering::SeqCst);
-    made
+    receipt
 }
 
 // Both calls, each in a thread of its own.
@@ -125,15 +123,10 @@ fn both<
     N: MountName + Send + Sync,
     F: Callback + Drop + Send,
     R: Rule + Send,
-    H: Threads + Wait + Clock + Sync,
->(
-    rt: &H,
-    alloc: Global,
-    mount: &Mount<N, F, R>,
-    step: u64,
-) -> Result<(Option<Receipt<N>>, Option<Receipt<N>>), Fail> {
-    let (first, _came) = attached(rt, mount, Vec::new(alloc))?;
-    let (second, _came) = attached(rt, mount, Vec::new(alloc))?;
+    H: Threads + Wait + Abort + Clock + Sync,
+>(rt: &H, alloc: Global, mount: &Mount<N, F, R>, step: u64) -> (Receipt<N>, Receipt<N>) {
+    let (first, _came) = attached(rt, mount, Vec::new(alloc));
+    let (second, _came) = attached(rt, mount, Vec::new(alloc));
     let gate = Holding {
         clock: rt,
         step,
@@ -141,22 +134,20 @@ fn both<
         answered: AtomicBool::new(false),
     };
     let held = &gate;
-    Ok(thread::join(
+    thread::join(
         rt,
         move || is_held(rt, alloc, mount, first, held),
         move || goes_between(rt, alloc, mount, second, held),
-    ))
+    )
 }
 
 // Whether a call was answered with the client's first descriptor, at this place.
 fn is_opened<N: MountName, F: Callback, R: Rule>(
     mount: &Mount<N, F, R>,
-    made: Option<Receipt<N>>,
+    made: Receipt<N>,
     place: usize,
 ) -> bool {
-    let Some(mut receipt) = made else {
-        return false;
-    };
+    let mut receipt = made;
     let at = receipt.place() == place;
     at && matches!(
         reply_in(mount.event_of(&mut receipt)),
@@ -170,21 +161,23 @@ pub fn lets_through<
     F: Callback + Drop + Send,
     R: Rule + Send,
     H: Threads + Wait + Abort + Clock + Sync,
->(rt: &H, alloc: Global, mount: &Mount<N, F, R>, step: u64) -> Result<(), Fail> {
-    let (held, between) = both(rt, alloc, mount, step)?;
-    assert!(rt; is_opened(mount, between, 2));
-    assert!(rt; is_opened(mount, held, 3));
-    Ok(())
+>(rt: &H, alloc: Global, mount: &Mount<N, F, R>, step: u64) {
+    let (held, between) = both(rt, alloc, mount, step);
+    holds(
+        rt,
+        is_opened(mount, between, 2),
+        "the call between the steps",
+    );
+    holds(rt, is_opened(mount, held, 3), "the call that is held");
 }
 
 #[test]
-fn gate_lets_others_through(rt: HostRuntime) -> Result<(), Fail> {
-    let keys = RandomState::new(&rt)?;
+fn gate_lets_others_through(rt: HostRuntime) {
+    let keys = keys_of(&rt);
     for step in 2..=STEPS {
         let trial = Trial::LetsThrough(step);
-        named::<Silent, AnyAnswer, _>(&rt, rt.alloc(), keys, FILES, trial)?;
+        named::<Silent, AnyAnswer, _>(&rt, rt.alloc(), keys, FILES, trial);
     }
-    Ok(())
 }
 
 /// Stops a call before one of its steps.
@@ -207,14 +200,12 @@ impl Gate for Stopping {
 
 /// Whether `/f` is the lower layer's file still, and no temp is left.
 pub fn is_untouched<N: MountName, F: Callback, R: Rule>(
+    rt: &impl Abort,
     alloc: Global,
     past: &Past<N, F, R>,
 ) -> bool {
-    let Ok(path) = path_of(alloc, "/f") else {
-        return false;
-    };
     let core = past.core();
-    match core.layers().walk_topmost(&path) {
+    match core.layers().walk_topmost(&path_of(rt, alloc, "/f")) {
         Ok(Topmost::Inode(place)) => place.layer == 1 && core.temps() == 0,
         _ => false,
     }
@@ -227,29 +218,31 @@ pub fn stops_at<N: MountName, F: Callback + Drop, R: Rule, H: Wait + Abort>(
     alloc: Global,
     mount: &Mount<N, F, R>,
     step: u64,
-) -> Result<(), Fail> {
-    let (mut session, _came) = attached(rt, mount, Vec::new(alloc))?;
-    let copies = opening(alloc, "/f", false)?;
+) {
+    let (mut session, _came) = attached(rt, mount, Vec::new(alloc));
+    let copies = opening(rt, alloc, "/f", false);
     let gate = Stopping { step };
     let stopped = make(rt, mount, &mut session, copies, &gate).err();
-    assert_eq!(rt; stopped, Some(Refused::Stopped));
-    assert_eq!(rt; session.number, 2);
-    Ok(())
+    holds(
+        rt,
+        stopped == Some(Refused::Stopped),
+        "a call that is stopped",
+    );
+    is_number(rt, session.number, 2, "the session's number");
 }
 
 #[test]
-fn gate_stops_at_each_step(rt: HostRuntime) -> Result<(), Fail> {
-    let keys = RandomState::new(&rt)?;
+fn gate_stops_at_each_step(rt: HostRuntime) {
+    let keys = keys_of(&rt);
     for step in 1..=STEPS {
         let trial = Trial::StopsAt(step);
-        named::<Silent, AnyAnswer, _>(&rt, rt.alloc(), keys, FILES, trial)?;
+        named::<Silent, AnyAnswer, _>(&rt, rt.alloc(), keys, FILES, trial);
     }
-    Ok(())
 }
 
 /// Before the step behind a chunk it uses copies of the session whose call it holds.
 #[derive(Drop)]
-struct Meddling<'a, N: MountName, F: Callback + Drop, R: Rule, H: Wait> {
+struct Meddling<'a, N: MountName, F: Callback + Drop, R: Rule, H: Wait + Abort> {
     rt: &'a H,
     alloc: Global,
     mount: &'a Mount<N, F, R>,
@@ -257,20 +250,18 @@ struct Meddling<'a, N: MountName, F: Callback + Drop, R: Rule, H: Wait> {
     told: AtomicBool,
 }
 
-impl<N: MountName, F: Callback + Drop, R: Rule, H: Wait> Meddling<'_, N, F, R, H> {
+impl<N: MountName, F: Callback + Drop, R: Rule, H: Wait + Abort> Meddling<'_, N, F, R, H> {
     // A detach by one copy is refused, and a `stat` by another is answered.
     fn meddles(&self) -> bool {
         let detached = detach(self.rt, self.mount, self.session).err();
-        let Ok(path) = path_of(self.alloc, "/g") else {
-            return false;
-        };
+        let path = path_of(self.rt, self.alloc, "/g");
         let mut copy = self.session;
-        let looked = make(self.rt, self.mount, &mut copy, Call::Stat { path }, &Open);
-        detached == Some(Refused::Session) && looked.is_ok()
+        let _looked = made(self.rt, self.mount, &mut copy, Call::Stat { path });
+        detached == Some(Refused::Session)
     }
 }
 
-impl<N: MountName, F: Callback + Drop, R: Rule, H: Wait> Gate for Meddling<'_, N, F, R, H> {
+impl<N: MountName, F: Callback + Drop, R: Rule, H: Wait + Abort> Gate for Meddling<'_, N, F, R, H> {
     ghost may_stop = { λ gate client step. ⊥ };
 
     fn pass(&self, _client: u64, step: u64) -> Pass {
@@ -282,13 +273,13 @@ impl<N: MountName, F: Callback + Drop, R: Rule, H: Wait> Gate for Meddling<'_, N
 }
 
 // Whether the gate was told what it is to be, and why the call that it held was refused.
-fn meddled<'a, N: MountName, F: Callback + Drop, R: Rule, H: Wait>(
+fn meddled<'a, N: MountName, F: Callback + Drop, R: Rule, H: Wait + Abort>(
     rt: &'a H,
     alloc: Global,
     mount: &'a Mount<N, F, R>,
     session: &mut Session,
-) -> Result<(bool, Option<Refused>), AllocError> {
-    let copies = opening(alloc, "/f", false)?;
+) -> (bool, Option<Refused>) {
+    let copies = opening(rt, alloc, "/f", false);
     let gate = Meddling {
         rt,
         alloc,
@@ -297,7 +288,7 @@ fn meddled<'a, N: MountName, F: Callback + Drop, R: Rule, H: Wait>(
         told: AtomicBool::new(false),
     };
     let refused = make(rt, mount, session, copies, &gate).err();
-    Ok((gate.told.load(Ordering::SeqCst), refused))
+    (gate.told.load(Ordering::SeqCst), refused)
 }
 
 /// A client whose call is on its way isn't detached. A call by a copy of its session is answered;
@@ -306,19 +297,22 @@ pub fn refuses_held<N: MountName, F: Callback + Drop, R: Rule, H: Wait + Abort>(
     rt: &H,
     alloc: Global,
     mount: &Mount<N, F, R>,
-) -> Result<(), Fail> {
-    let (mut session, _came) = attached(rt, mount, Vec::new(alloc))?;
-    let (told, refused) = meddled(rt, alloc, mount, &mut session)?;
-    assert!(rt; told);
-    assert_eq!(rt; refused, Some(Refused::Session));
-    assert_eq!(rt; session.number, 2);
+) {
+    let (mut session, _came) = attached(rt, mount, Vec::new(alloc));
+    let (told, refused) = meddled(rt, alloc, mount, &mut session);
+    holds(rt, told, "what the gate was told");
+    holds(
+        rt,
+        refused == Some(Refused::Session),
+        "the call that was held",
+    );
+    is_number(rt, session.number, 2, "the session's number");
     session.number = 3;
-    let _gone = detach(rt, mount, session).map_err(|_| "detach")?;
-    Ok(())
+    let _gone = detached(rt, mount, session);
 }
 
 #[test]
-fn held_call_keeps_its_client(rt: HostRuntime) -> Result<(), Fail> {
-    let keys = RandomState::new(&rt)?;
-    named::<Silent, AnyAnswer, _>(&rt, rt.alloc(), keys, FILES, Trial::IsMeddledWith)
+fn held_call_keeps_its_client(rt: HostRuntime) {
+    let keys = keys_of(&rt);
+    named::<Silent, AnyAnswer, _>(&rt, rt.alloc(), keys, FILES, Trial::IsMeddledWith);
 }

@@ -1,18 +1,20 @@
 // Blank mounts, the callback, the gate and the calls of the tests, and what their entries say.
-ghost use Rattle.std.specs.Prelude.{◌≡◌, IfOk};
+ghost use Rattle.std.specs.Prelude.{◌≡◌};
 ghost use Rattle.overlay_core.specs.Views.{core_finished};
 
 use crate::doors::is_left_clean;
 use crate::gates::is_untouched;
 use crate::refusals::is_filled;
-use locked_history::{Blank, Deed, Entry, Gate, Mount, MountName, Pass, Receipt, Refused, Session};
+use locked_history::{
+    Blank, Deed, Entry, Gate, Mount, MountName, Open, Pass, Receipt, Refused, Session,
+};
 use ov_base::{Call, Errno, Event, Notice, Path, Reply};
 use ov_wire::manifest_of;
 use overlay_core::Core;
-use std::alloc::{AllocError, Global};
+use std::alloc::Global;
 use std::hash::RandomState;
+use std::process::Abort;
 use std::sync::Wait;
-use std::test::Fail;
 use watch_table::{Callback, Hook, Rule};
 
 /// A callback that no client has.
@@ -42,29 +44,33 @@ impl Gate for Shut {
 
 /// A mount of a manifest's layers, without a name.
 pub fn blank_of<F: Callback + Drop, R: Rule>(
+    rt: &impl Abort,
     alloc: Global,
     keys: RandomState,
     manifest: &str,
-) -> Result<Blank<F, R>, Fail> {
-    let core = core_of::<F, R>(alloc, keys, manifest)?;
-    Blank::new(alloc, core).map_err(|_| Fail::from("out of memory"))
+) -> Blank<F, R> {
+    let core = core_of::<F, R>(rt, alloc, keys, manifest);
+    match Blank::new(alloc, core) {
+        Ok(blank) => blank,
+        Err(_) => panic!(rt; "out of memory"),
+    }
 }
 
 /// A core of a manifest's layers, on which nothing was done.
 pub fn core_of<F: Callback + Drop, R: Rule>(
+    rt: &impl Abort,
     alloc: Global,
     keys: RandomState,
     manifest: &str,
-) -> Result<Core<F, R>, Fail>
-    ensures { IfOk result (λ core. core_finished core ≡ 0) }
+) -> Core<F, R>
+    ensures { core_finished result ≡ 0 }
 {
-    let (upper, lowers, options) = manifest_of(alloc, keys, manifest.as_bytes())?;
+    let Ok((upper, lowers, options)) = manifest_of(alloc, keys, manifest.as_bytes()) else {
+        panic!(rt; "no layers");
+    };
     match Core::mount(alloc, keys, upper, lowers, options) {
-        Ok(core) => Ok(core),
-        Err(unmounted) => {
-            drop(unmounted);
-            Err(Fail::from("no mount"))
-        }
+        Ok(core) => core,
+        Err(_) => panic!(rt; "no mount"),
     }
 }
 
@@ -84,19 +90,23 @@ pub struct End {
 /// Ends a mount, to which the receipts are given back. It and its past are let go nowhere else,
 /// since each place where a core is dropped costs much of a proof.
 pub fn ended<N: MountName, F: Callback + Drop, R: Rule>(
+    rt: &impl Abort,
     alloc: Global,
     mount: Mount<N, F, R>,
     receipts: Vec<Receipt<N>>,
 ) -> End {
     let (mut past, left) = mount.finish(receipts);
-    End {
+    let end = End {
         entries: past.len(),
         handed_back: left.len(),
         temps: past.core().temps(),
         is_filled: is_filled(&mut past),
-        is_untouched: is_untouched(alloc, &past),
+        is_untouched: is_untouched(rt, alloc, &past),
         is_left_clean: is_left_clean(past.core()),
-    }
+    };
+    drop(left);
+    drop(past);
+    end
 }
 
 /// A client with these hooks, and the receipt of its attach. Tests attach, call and detach by this
@@ -140,14 +150,39 @@ pub fn detach<N: MountName, F: Callback + Drop, R: Rule, H: Wait>(
 }
 
 /// A client with these hooks, where there has to be one.
-pub fn attached<N: MountName, F: Callback + Drop, R: Rule, H: Wait>(
+pub fn attached<N: MountName, F: Callback + Drop, R: Rule, H: Wait + Abort>(
     rt: &H,
     mount: &Mount<N, F, R>,
     hooks: Vec<Hook<F, R>>,
-) -> Result<(Session, Receipt<N>), Fail> {
+) -> (Session, Receipt<N>) {
     match attach(rt, mount, hooks) {
-        Ok(attached) => Ok(attached),
-        Err(_) => Err(Fail::from("not attached")),
+        Ok(attached) => attached,
+        Err(_) => panic!(rt; "not attached"),
+    }
+}
+
+/// Makes a session's next call, where it has to be answered.
+pub fn made<N: MountName, F: Callback, R: Rule, H: Wait + Abort>(
+    rt: &H,
+    mount: &Mount<N, F, R>,
+    session: &mut Session,
+    call: Call,
+) -> Receipt<N> {
+    match make(rt, mount, session, call, &Open) {
+        Ok(receipt) => receipt,
+        Err(_) => panic!(rt; "no answer"),
+    }
+}
+
+/// Detaches a session's client, where it has to go.
+pub fn detached<N: MountName, F: Callback + Drop, R: Rule, H: Wait + Abort>(
+    rt: &H,
+    mount: &Mount<N, F, R>,
+    session: Session,
+) -> Receipt<N> {
+    match detach(rt, mount, session) {
+        Ok(receipt) => receipt,
+        Err(_) => panic!(rt; "not detached"),
     }
 }
 
@@ -159,18 +194,20 @@ pub fn looks<N: MountName, F: Callback, R: Rule, H: Wait, G: Gate>(
     session: &mut Session,
     gate: &G,
 ) -> Result<Receipt<N>, Refused> {
-    let call = Call::Stat {
-        path: Path::root(alloc),
-    };
-    make(rt, mount, session, call, gate)
+    make(rt, mount, session, looking(alloc), gate)
 }
 
-/// A path of one name.
-pub fn path_of(alloc: Global, text: &str) -> Result<Path, AllocError> {
-    match Path::parse(alloc, text.as_bytes())? {
-        Ok(path) => Ok(path),
-        Err(_) => Ok(Path::root(alloc)),
+/// `stat /`.
+pub fn looking(alloc: Global) -> Call {
+    Call::Stat {
+        path: Path::root(alloc),
     }
+}
+
+/// A path.
+pub fn path_of(rt: &impl Abort, alloc: Global, text: &str) -> Path {
+    let parsed = Path::parse(alloc, text.as_bytes()).expect(rt, "memory");
+    parsed.expect(rt, "a path")
 }
 
 /// The reply that an entry has, if it is a call's.

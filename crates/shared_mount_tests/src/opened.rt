@@ -1,6 +1,8 @@
 // Mounts that are opened under a name, and what is tried on each.
 ghost use Rattle.locked_history.specs.Names.{IsNamed};
 
+use crate::checks::holds;
+use crate::doors::{Scenario, happens};
 use crate::gates::{lets_through, refuses_held, stops_at};
 use crate::mounts::{End, blank_of, ended};
 use crate::racing::{RACED, races};
@@ -12,9 +14,8 @@ use std::marker::Brand;
 use std::process::Abort;
 use std::rt::Clock;
 use std::sync::Wait;
-use std::test::Fail;
 use std::thread::Threads;
-use watch_table::{Callback, Rule};
+use watch_table::{Callback, Hook, Rule};
 
 /// What is tried on a mount.
 #[derive(Clone, Copy)]
@@ -26,6 +27,8 @@ pub enum Trial {
     LetsThrough(u64),
     StopsAt(u64),
     IsMeddledWith,
+    /// A session over bytes in memory.
+    HasSession(Scenario),
 }
 
 /// Tries this on a mount of a manifest's layers.
@@ -35,9 +38,18 @@ pub fn named<F: Callback + Drop + Send, R: Rule + Send, H: Threads + Wait + Abor
     keys: RandomState,
     manifest: &str,
     trial: Trial,
-) -> Result<(), Fail> {
-    let blank: Blank<F, R> = blank_of(alloc, keys, manifest)?;
-    tries::<Brand, F, R, H>(rt, alloc, blank, trial)
+) {
+    named_with::<F, R, H>(rt, alloc, keys, manifest, trial, Vec::new(alloc));
+}
+
+/// The same where a client comes with these hooks.
+pub fn named_with<
+    F: Callback + Drop + Send,
+    R: Rule + Send,
+    H: Threads + Wait + Abort + Clock + Sync,
+>(rt: &H, alloc: Global, keys: RandomState, manifest: &str, trial: Trial, hooks: Vec<Hook<F, R>>) {
+    let blank: Blank<F, R> = blank_of(rt, alloc, keys, manifest);
+    tries::<Brand, F, R, H>(rt, alloc, blank, trial, hooks);
 }
 
 fn tries<
@@ -45,16 +57,14 @@ fn tries<
     F: Callback + Drop + Send,
     R: Rule + Send,
     H: Threads + Wait + Abort + Clock + Sync,
->(rt: &H, alloc: Global, blank: Blank<F, R>, trial: Trial) -> Result<(), Fail>
+>(rt: &H, alloc: Global, blank: Blank<F, R>, trial: Trial, hooks: Vec<Hook<F, R>>)
     requires { IsNamed N.cells N.name N.parts N.opening blank }
 {
     let mount = Mount::<N, F, R>::open(blank);
     let mut receipts = Vec::new(alloc);
-    let outcome = tried(rt, alloc, &mount, trial, &mut receipts);
-    let end = ended(alloc, mount, receipts);
-    outcome?;
+    tried(rt, alloc, &mount, trial, hooks, &mut receipts);
+    let end = ended(rt, alloc, mount, receipts);
     check_end(rt, trial, end);
-    Ok(())
 }
 
 // Tries this, and leaves the receipts that the mount is to be given back.
@@ -68,8 +78,13 @@ fn tried<
     alloc: Global,
     mount: &Mount<N, F, R>,
     trial: Trial,
+    hooks: Vec<Hook<F, R>>,
     receipts: &mut Vec<Receipt<N>>,
-) -> Result<(), Fail> {
+) {
+    if let Trial::HasSession(scenario) = trial {
+        return happens(rt, alloc, mount, scenario, hooks, receipts);
+    }
+    drop(hooks);
     match trial {
         Trial::Fills => fill(rt, alloc, mount, receipts),
         Trial::UsesANumber => uses_a_number(rt, alloc, mount),
@@ -78,17 +93,23 @@ fn tried<
         Trial::LetsThrough(step) => lets_through(rt, alloc, mount, step),
         Trial::StopsAt(step) => stops_at(rt, alloc, mount, step),
         Trial::IsMeddledWith => refuses_held(rt, alloc, mount),
+        Trial::HasSession(_) => {}
     }
 }
 
 // What a mount comes to on which this was tried.
 fn check_end(rt: &impl Abort, trial: Trial, end: End) {
-    match trial {
-        Trial::Fills => assert!(rt; end.handed_back == 0 && end.is_filled),
-        Trial::UsesANumber | Trial::Stops => {}
-        Trial::Races => assert!(rt; end.handed_back == 0 && end.entries == RACED),
-        Trial::LetsThrough(_) => assert!(rt; end.entries == 4 && end.temps == 0),
-        Trial::StopsAt(_) => assert!(rt; end.entries == 1 && end.is_untouched),
-        Trial::IsMeddledWith => assert!(rt; end.entries == 3 && end.is_untouched),
-    }
+    let is_whole = end.handed_back == 0;
+    let is_so = match trial {
+        Trial::Fills => is_whole && end.is_filled,
+        Trial::UsesANumber | Trial::Stops => true,
+        Trial::Races => is_whole && end.entries == RACED,
+        Trial::LetsThrough(_) => end.entries == 4 && end.temps == 0,
+        Trial::StopsAt(_) => end.entries == 1 && end.is_untouched,
+        Trial::IsMeddledWith => end.entries == 3 && end.is_untouched,
+        Trial::HasSession(scenario) => {
+            is_whole && end.entries == scenario.entries() && end.is_left_clean
+        }
+    };
+    holds(rt, is_so, "what the mount comes to");
 }

@@ -1,13 +1,12 @@
 // Threads whose calls race on one mount.
-use crate::mounts::{Silent, attach, detach, make, path_of, reply_in};
+use crate::checks::{add, counts, keys_of};
+use crate::mounts::{Silent, attached, detached, made, path_of, reply_in};
 use crate::opened::{Trial, named};
-use locked_history::{Mount, MountName, Open, Receipt};
+use locked_history::{Mount, MountName, Receipt};
 use ov_base::{Call, Reply};
-use std::alloc::{AllocError, Global};
-use std::hash::RandomState;
+use std::alloc::Global;
 use std::process::Abort;
 use std::sync::Wait;
-use std::test::Fail;
 use std::thread;
 use std::thread::Threads;
 use watch_table::{AnyAnswer, Callback, Rule};
@@ -24,36 +23,36 @@ const FILE: &str = "history = 64
 layer = [{}, {entry = [{path = '/f', kind = 'file', text = 'x'}]}]";
 
 // `mkdir 755 /d`, `stat /d` and `unlink /f`.
-fn calls(alloc: Global) -> Result<[Call; 3], AllocError> {
-    let made = path_of(alloc, "/d")?;
-    let looked_at = path_of(alloc, "/d")?;
-    let removed = path_of(alloc, "/f")?;
-    Ok([
+fn calls(rt: &impl Abort, alloc: Global) -> [Call; 3] {
+    [
         Call::Mkdir {
-            path: made,
+            path: path_of(rt, alloc, "/d"),
             mode: 0o755,
         },
-        Call::Stat { path: looked_at },
-        Call::Unlink { path: removed },
-    ])
+        Call::Stat {
+            path: path_of(rt, alloc, "/d"),
+        },
+        Call::Unlink {
+            path: path_of(rt, alloc, "/f"),
+        },
+    ]
 }
 
 // A worker's client attaches, makes its calls and detaches; all receipts come back.
-fn works<N: MountName, F: Callback + Drop, R: Rule, H: Wait>(
+fn works<N: MountName, F: Callback + Drop, R: Rule, H: Wait + Abort>(
     rt: &H,
     alloc: Global,
     mount: &Mount<N, F, R>,
-) -> Option<Vec<Receipt<N>>> {
-    let mut receipts = Vec::with_capacity(alloc, DEEDS).ok()?;
-    let (mut session, came) = attach(rt, mount, Vec::new(alloc)).ok()?;
-    receipts.push(came).ok()?;
-    for call in calls(alloc).ok()? {
-        let receipt = make(rt, mount, &mut session, call, &Open).ok()?;
-        receipts.push(receipt).ok()?;
+) -> Vec<Receipt<N>> {
+    let mut receipts = Vec::new(alloc);
+    let (mut session, came) = attached(rt, mount, Vec::new(alloc));
+    add(rt, &mut receipts, came);
+    for call in calls(rt, alloc) {
+        let receipt = made(rt, mount, &mut session, call);
+        add(rt, &mut receipts, receipt);
     }
-    let gone = detach(rt, mount, session).ok()?;
-    receipts.push(gone).ok()?;
-    Some(receipts)
+    add(rt, &mut receipts, detached(rt, mount, session));
+    receipts
 }
 
 // How many calls were answered `Done`, by the entries of receipts.
@@ -70,18 +69,17 @@ fn done_calls<N: MountName, F: Callback, R: Rule>(
     done
 }
 
-// The receipts of all workers; none where one of them failed.
-fn all_of<N: MountName>(
-    alloc: Global,
-    worked: Vec<Option<Vec<Receipt<N>>>>,
-) -> Option<Vec<Receipt<N>>> {
-    let mut receipts = Vec::new(alloc);
+// Adds the receipts of all workers.
+fn push_all<N: MountName>(
+    rt: &impl Abort,
+    worked: Vec<Vec<Receipt<N>>>,
+    receipts: &mut Vec<Receipt<N>>,
+) {
     for one in worked {
-        for receipt in one? {
-            receipts.push(receipt).ok()?;
+        for receipt in one {
+            add(rt, receipts, receipt);
         }
     }
-    Some(receipts)
 }
 
 /// Each worker's calls are answered. The receipts of all are left.
@@ -90,25 +88,21 @@ pub fn races<
     F: Callback + Drop + Send,
     R: Rule + Send,
     H: Threads + Wait + Abort + Sync,
->(
-    rt: &H,
-    alloc: Global,
-    mount: &Mount<N, F, R>,
-    receipts: &mut Vec<Receipt<N>>,
-) -> Result<(), Fail> {
-    let worked = thread::map_indices(rt, alloc, WORKERS, &|_worker| works(rt, alloc, mount))?;
-    let Some(all) = all_of(alloc, worked) else {
-        return Err(Fail::from("a worker failed"));
-    };
-    *receipts = all;
-    assert_eq!(rt; receipts.len(), RACED);
+>(rt: &H, alloc: Global, mount: &Mount<N, F, R>, receipts: &mut Vec<Receipt<N>>) {
+    let worked = thread::map_indices(rt, alloc, WORKERS, &|_worker| works(rt, alloc, mount));
+    push_all(rt, worked.expect(rt, "threads"), receipts);
+    counts(rt, receipts.len(), RACED, "receipts");
     // One `mkdir` and one `unlink` find the name as it was at the mount.
-    assert_eq!(rt; done_calls(mount, receipts.as_mut_slice()), 2);
-    Ok(())
+    counts(
+        rt,
+        done_calls(mount, receipts.as_mut_slice()),
+        2,
+        "calls that are done",
+    );
 }
 
 #[test]
-fn eight_threads_make_one_history(rt: HostRuntime) -> Result<(), Fail> {
-    let keys = RandomState::new(&rt)?;
-    named::<Silent, AnyAnswer, _>(&rt, rt.alloc(), keys, FILE, Trial::Races)
+fn eight_threads_make_one_history(rt: HostRuntime) {
+    let keys = keys_of(&rt);
+    named::<Silent, AnyAnswer, _>(&rt, rt.alloc(), keys, FILE, Trial::Races);
 }

@@ -1,13 +1,14 @@
 // What is refused through a mount that threads share, and what it leaves.
-use crate::mounts::{Shut, Silent, attach, attached, detach, looks, reply_in};
+use crate::checks::{add, counts, holds, is_number, keys_of};
+use crate::mounts::{
+    Shut, Silent, attach, attached, detach, detached, looking, looks, made, reply_in,
+};
 use crate::opened::{Trial, named};
-use locked_history::{Mount, MountName, Open, Past, Receipt, Refused};
+use locked_history::{Mount, MountName, Open, Past, Receipt, Refused, Session};
 use ov_base::{Errno, ObjectKind, Reply, Stat};
 use std::alloc::Global;
-use std::hash::RandomState;
 use std::process::Abort;
 use std::sync::Wait;
-use std::test::Fail;
 use watch_table::{AnyAnswer, Callback, Rule};
 
 const THREE: &str = "history = 3\nlayer = [{}, {}]";
@@ -30,19 +31,42 @@ pub fn fill<N: MountName, F: Callback + Drop, R: Rule, H: Wait + Abort>(
     alloc: Global,
     mount: &Mount<N, F, R>,
     receipts: &mut Vec<Receipt<N>>,
-) -> Result<(), Fail> {
-    let (mut session, came) = attached(rt, mount, Vec::new(alloc))?;
-    receipts.push(came)?;
+) {
+    let (mut session, came) = attached(rt, mount, Vec::new(alloc));
+    add(rt, receipts, came);
     let second = attach(rt, mount, Vec::new(alloc)).err();
-    assert_eq!(rt; second, Some(Errno::ENOSPC));
-    let made = looks(rt, alloc, mount, &mut session, &Open).map_err(|_| "call")?;
-    receipts.push(made)?;
-    let full = looks(rt, alloc, mount, &mut session, &Open).err();
-    assert_eq!(rt; full, Some(Refused::Full));
-    assert_eq!(rt; session.number, 3);
-    let gone = detach(rt, mount, session).map_err(|_| "detach")?;
-    receipts.push(gone)?;
-    Ok(())
+    holds(rt, second == Some(Errno::ENOSPC), "no second client");
+    let answered = made(rt, mount, &mut session, looking(alloc));
+    add(rt, receipts, answered);
+    refuses_call(rt, alloc, mount, &mut session, (Refused::Full, 3));
+    add(rt, receipts, detached(rt, mount, session));
+}
+
+// A session's next call is refused so, and its number is this one still.
+fn refuses_call<N: MountName, F: Callback + Drop, R: Rule, H: Wait + Abort>(
+    rt: &H,
+    alloc: Global,
+    mount: &Mount<N, F, R>,
+    session: &mut Session,
+    (why, number): (Refused, u64),
+) {
+    let refused = looks(rt, alloc, mount, session, &Open).err();
+    holds(rt, refused == Some(why), "the refusal");
+    is_number(rt, session.number, number, "the session's number");
+}
+
+// A session's detach is refused, since it is not the right one.
+fn refuses_detach<N: MountName, F: Callback + Drop, R: Rule, H: Wait + Abort>(
+    rt: &H,
+    mount: &Mount<N, F, R>,
+    session: Session,
+) {
+    let refused = detach(rt, mount, session).err();
+    holds(
+        rt,
+        refused == Some(Refused::Session),
+        "the refusal of a detach",
+    );
 }
 
 /// There are three entries, the call's has the status of the root, and the last one is the detach
@@ -62,9 +86,9 @@ pub fn is_filled<N: MountName, F: Callback, R: Rule>(past: &mut Past<N, F, R>) -
 }
 
 #[test]
-fn three_places_are_one_call(rt: HostRuntime) -> Result<(), Fail> {
-    let keys = RandomState::new(&rt)?;
-    named::<Silent, AnyAnswer, _>(&rt, rt.alloc(), keys, THREE, Trial::Fills)
+fn three_places_are_one_call(rt: HostRuntime) {
+    let keys = keys_of(&rt);
+    named::<Silent, AnyAnswer, _>(&rt, rt.alloc(), keys, THREE, Trial::Fills);
 }
 
 /// A copy of a session whose number was used is refused, and the next right one is answered.
@@ -72,27 +96,24 @@ pub fn uses_a_number<N: MountName, F: Callback + Drop, R: Rule, H: Wait + Abort>
     rt: &H,
     alloc: Global,
     mount: &Mount<N, F, R>,
-) -> Result<(), Fail> {
-    let (mut session, _came) = attached(rt, mount, Vec::new(alloc))?;
+) {
+    let (mut session, _came) = attached(rt, mount, Vec::new(alloc));
     let mut used = session;
-    let _first = looks(rt, alloc, mount, &mut session, &Open).map_err(|_| "first call")?;
-    let again = looks(rt, alloc, mount, &mut used, &Open).err();
-    assert_eq!(rt; again, Some(Refused::Session));
-    assert_eq!(rt; used.number, 2);
-    assert_eq!(rt; detach(rt, mount, used).err(), Some(Refused::Session));
-    let second = looks(rt, alloc, mount, &mut session, &Open).map_err(|_| "second call")?;
-    assert_eq!(rt; second.place(), 2);
-    assert_eq!(rt; session.number, 4);
-    let gone = detach(rt, mount, session).map_err(|_| "detach")?;
-    assert_eq!(rt; gone.place(), 3);
-    assert_eq!(rt; detach(rt, mount, session).err(), Some(Refused::Session));
-    Ok(())
+    let _first = made(rt, mount, &mut session, looking(alloc));
+    refuses_call(rt, alloc, mount, &mut used, (Refused::Session, 2));
+    refuses_detach(rt, mount, used);
+    let second = made(rt, mount, &mut session, looking(alloc));
+    counts(rt, second.place(), 2, "the place of the second call");
+    is_number(rt, session.number, 4, "the session's number");
+    let gone = detached(rt, mount, session);
+    counts(rt, gone.place(), 3, "the place of the detach");
+    refuses_detach(rt, mount, session);
 }
 
 #[test]
-fn used_number_is_refused(rt: HostRuntime) -> Result<(), Fail> {
-    let keys = RandomState::new(&rt)?;
-    named::<Silent, AnyAnswer, _>(&rt, rt.alloc(), keys, TEN, Trial::UsesANumber)
+fn used_number_is_refused(rt: HostRuntime) {
+    let keys = keys_of(&rt);
+    named::<Silent, AnyAnswer, _>(&rt, rt.alloc(), keys, TEN, Trial::UsesANumber);
 }
 
 /// A call that the gate stops is no entry, and the session's number stays.
@@ -100,20 +121,34 @@ pub fn stops<N: MountName, F: Callback + Drop, R: Rule, H: Wait + Abort>(
     rt: &H,
     alloc: Global,
     mount: &Mount<N, F, R>,
-) -> Result<(), Fail> {
-    let (mut session, _came) = attached(rt, mount, Vec::new(alloc))?;
+) {
+    let (mut session, _came) = attached(rt, mount, Vec::new(alloc));
     let stopped = looks(rt, alloc, mount, &mut session, &Shut).err();
-    assert_eq!(rt; stopped, Some(Refused::Stopped));
-    assert_eq!(rt; session.number, 2);
-    assert!(rt; mount.event(0).is_some() && mount.event(1).is_none());
-    let made = looks(rt, alloc, mount, &mut session, &Open).map_err(|_| "call")?;
-    assert_eq!(rt; made.place(), 1);
-    assert!(rt; mount.event(1).is_some() && mount.event(10).is_none());
-    Ok(())
+    holds(
+        rt,
+        stopped == Some(Refused::Stopped),
+        "a call that is stopped",
+    );
+    is_number(rt, session.number, 2, "the session's number");
+    has_entries(rt, mount, 0, 1);
+    let answered = made(rt, mount, &mut session, looking(alloc));
+    counts(rt, answered.place(), 1, "the place of the call");
+    has_entries(rt, mount, 1, 10);
+}
+
+// There is an entry at one place, and none at another.
+fn has_entries<N: MountName, F: Callback, R: Rule>(
+    rt: &impl Abort,
+    mount: &Mount<N, F, R>,
+    taken: usize,
+    free: usize,
+) {
+    holds(rt, mount.event(taken).is_some(), "an entry");
+    holds(rt, mount.event(free).is_none(), "no entry");
 }
 
 #[test]
-fn gate_stops_a_call(rt: HostRuntime) -> Result<(), Fail> {
-    let keys = RandomState::new(&rt)?;
-    named::<Silent, AnyAnswer, _>(&rt, rt.alloc(), keys, TEN, Trial::Stops)
+fn gate_stops_a_call(rt: HostRuntime) {
+    let keys = keys_of(&rt);
+    named::<Silent, AnyAnswer, _>(&rt, rt.alloc(), keys, TEN, Trial::Stops);
 }

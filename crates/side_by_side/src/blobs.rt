@@ -1,4 +1,5 @@
 // The blobs of every manifest that is played here, whatever names it gives them.
+use crate::list::List;
 use ov_base::Bytes;
 use std::alloc::{AllocError, Global};
 
@@ -7,18 +8,28 @@ const BLOBS: [&[u8]; 2] = [b"0123456789", b""];
 
 /// The blobs, for the engine.
 pub fn all_blobs(alloc: Global) -> Result<Vec<Bytes>, AllocError> {
-    let mut blobs = Vec::new(alloc);
+    let mut blobs = List::new(alloc);
     for bytes in BLOBS {
-        blobs.push(Bytes::from_slice(alloc, bytes)?)?;
+        blobs.put(Bytes::from_slice(alloc, bytes));
     }
-    Ok(blobs)
+    blobs.end()
 }
 
 /// The bytes of one from a place on, so many or else all, for the slow reference.
 pub fn part_of_blob(number: u32, start: u32, size: Option<u32>) -> Option<&'static [u8]> {
-    let from = BLOBS.get(number as usize)?.get(start as usize..)?;
-    match size {
-        Some(size) => from.get(..size as usize),
-        None => Some(from),
+    let bytes: &'static [u8] = match number {
+        0 => BLOBS[0],
+        1 => BLOBS[1],
+        _ => return None,
+    };
+    let start = start as usize;
+    let most = bytes.len().saturating_sub(start);
+    let count = match size {
+        Some(size) => size as usize,
+        None => most,
+    };
+    if start > bytes.len() || count > most {
+        return None;
     }
+    Some(&bytes[start..start + count])
 }

@@ -10,9 +10,10 @@ pub fn attributes_of(alloc: Global, entry: &Entry<'_>) -> Result<Option<Attribut
     let Ok(mode) = Mode::parse(entry.mode) else {
         return Ok(None);
     };
-    let Some(user) = user_attributes(alloc, entry.user)? else {
+    let mut user = UserAttributes::new(alloc);
+    if !fill(alloc, &mut user, entry.user)? {
         return Ok(None);
-    };
+    }
     Ok(Some(Attributes {
         mode,
         uid: entry.uid,
@@ -21,22 +22,35 @@ pub fn attributes_of(alloc: Global, entry: &Entry<'_>) -> Result<Option<Attribut
     }))
 }
 
-fn user_attributes(alloc: Global, pairs: &[Value]) -> Result<Option<UserAttributes>, AllocError> {
-    let mut user = UserAttributes::new(alloc);
+// Gives user attributes these names and values; false where one of these isn't both.
+fn fill(alloc: Global, user: &mut UserAttributes, pairs: &[Value]) -> Result<bool, AllocError> {
     for pair in pairs {
-        let Some((name, value)) = name_and_value(pair) else {
-            return Ok(None);
-        };
-        let name = Bytes::from_slice(alloc, name.as_bytes())?;
-        let value = Bytes::from_slice(alloc, value.as_bytes())?;
-        user.set(name, value)?;
+        match name_and_value(pair) {
+            Some((name, value)) => set(alloc, user, name, value)?,
+            None => return Ok(false),
+        }
     }
-    Ok(Some(user))
+    Ok(true)
+}
+
+fn set(
+    alloc: Global,
+    user: &mut UserAttributes,
+    name: &str,
+    value: &str,
+) -> Result<(), AllocError> {
+    let name = Bytes::from_slice(alloc, name.as_bytes())?;
+    let value = Bytes::from_slice(alloc, value.as_bytes())?;
+    user.set(name, value)?;
+    Ok(())
 }
 
 fn name_and_value(pair: &Value) -> Option<(&str, &str)> {
-    match pair.as_array()?.as_slice() {
-        [name, value] => Some((name.as_str()?, value.as_str()?)),
+    let Value::Array(pair) = pair else {
+        return None;
+    };
+    match pair.as_slice() {
+        [Value::String(name), Value::String(value)] => Some((name.as_str(), value.as_str())),
         _ => None,
     }
 }
@@ -65,17 +79,24 @@ pub fn size_of(spelling: Spelling<'_>) -> u64 {
 }
 
 fn bytes_of(alloc: Global, spelling: Spelling<'_>) -> Result<Option<Bytes>, AllocError> {
-    match spelling {
-        Spelling::Text(text) => Ok(Some(Bytes::from_slice(alloc, text)?)),
-        Spelling::Digits(digits) => match hex::decode(alloc, digits) {
-            Ok(bytes) => Ok(Some(Bytes::from_vec(bytes))),
-            Err(FromHexError::OutOfMemory) => Err(AllocError),
-            Err(_) => Ok(None),
-        },
-        Spelling::Zeros(count) => {
-            let mut bytes = Vec::new(alloc);
-            bytes.resize(count as usize, 0)?;
-            Ok(Some(Bytes::from_vec(bytes)))
-        }
+    let bytes = match spelling {
+        Spelling::Text(text) => Bytes::from_slice(alloc, text),
+        Spelling::Digits(digits) => return decoded(alloc, digits),
+        Spelling::Zeros(count) => zeros(alloc, count),
+    };
+    Ok(Some(bytes?))
+}
+
+fn decoded(alloc: Global, digits: &str) -> Result<Option<Bytes>, AllocError> {
+    match hex::decode(alloc, digits) {
+        Ok(bytes) => Ok(Some(Bytes::from_vec(bytes))),
+        Err(FromHexError::OutOfMemory) => Err(AllocError),
+        Err(_) => Ok(None),
     }
+}
+
+fn zeros(alloc: Global, count: u32) -> Result<Bytes, AllocError> {
+    let mut bytes = Vec::new(alloc);
+    bytes.resize(count as usize, 0)?;
+    Ok(Bytes::from_vec(bytes))
 }

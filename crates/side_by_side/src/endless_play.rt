@@ -9,7 +9,7 @@ use crate::told::Told;
 use endless_mount::{Blank, BookName, EndlessMount, Front};
 use locked_history::{Open, Refused, Session};
 use ov_base::{Call, Errno};
-use std::alloc::{AllocError, Global};
+use std::alloc::Global;
 use std::sync::Wait;
 use watch_table::{Callback, Hook, Rule};
 
@@ -34,7 +34,7 @@ pub fn endless_play<N: BookName, F: Callback + Copy, R: Rule, H: Wait>(
     script: &[u8],
     hooks: &[Hook<F, R>],
     told: &mut Told,
-) -> Result<bool, AllocError>
+) -> bool
     requires { IsNamed N.book N.opening blank }
 {
     let (mount, seen) = EndlessMount::<N, F, R>::open(blank);
@@ -103,6 +103,11 @@ impl<N: BookName, F: Callback + Copy, R: Rule> SharedMount for LoneMount<'_, N, 
     ) -> Result<String, Refused> {
         let (place, reply) = self.mount.call(rt, session, &mut self.seen, call, &Open)?;
         self.count(place);
-        reply_line(self.alloc, client, &reply).map_err(|_| Refused::Memory)
+        let line = reply_line(self.alloc, client, &reply);
+        drop(reply);
+        match line {
+            Ok(line) => Ok(line),
+            Err(_) => Err(Refused::Memory),
+        }
     }
 }

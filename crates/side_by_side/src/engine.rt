@@ -94,7 +94,9 @@ fn run_keeping(
     };
     let refuses_manifest = matches!(&outcome, Err(Fault::Manifest(_)));
     if let Err(fault) = outcome {
-        writeln!(text, "{fault}")?;
+        let told = writeln!(text, "{fault}");
+        drop(fault);
+        told?;
     }
     Ok(Run {
         text,
@@ -113,14 +115,15 @@ fn play(
     requires { look_ups ≤ 65536 }
 {
     let hooks = hooks_by_slot(alloc)?;
+    let blobs = all_blobs(alloc)?;
+    let table = table_of(alloc, manifest)?;
     let mut input = CountedReader::new(script);
     let mut output = Output::new(alloc, CountedWriter::new(text));
-    let blobs = all_blobs(alloc)?;
     play_run_keeping(
         alloc,
         keys,
         look_ups,
-        table_of(alloc, manifest)?,
+        table,
         blobs,
         hooks.as_slice(),
         &mut input,
@@ -134,7 +137,8 @@ fn show(
     manifest: &[u8],
     text: &mut Vec<u8>,
 ) -> Result<(), Fault> {
-    let mut output = Output::new(alloc, CountedWriter::new(text));
     let blobs = all_blobs(alloc)?;
-    show_run(alloc, keys, table_of(alloc, manifest)?, blobs, &mut output)
+    let table = table_of(alloc, manifest)?;
+    let mut output = Output::new(alloc, CountedWriter::new(text));
+    show_run(alloc, keys, table, blobs, &mut output)
 }

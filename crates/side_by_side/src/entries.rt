@@ -1,11 +1,12 @@
 // What the entries of a manifest say, read for the slow reference alone.
 use crate::blobs::part_of_blob;
+use crate::list::List;
 use crate::plain_layer::PlainLayer;
 use std::alloc::{AllocError, Global};
 use toml::{Table, Value};
 
 /// What entries describe.
-#[derive(Clone, Copy, Debug, PartialEq, Eq)]
+#[derive(Clone, Copy, PartialEq, Eq)]
 pub enum Kind {
     Directory,
     File,
@@ -44,76 +45,114 @@ pub struct Entry<'a> {
     pub metacopy: Option<&'a [u8]>,
 }
 
+impl<'a> Entry<'a> {
+    /// One of this kind at a path, with nothing told of it.
+    pub fn bare(path: &'a [u8], kind: Kind) -> Entry<'a> {
+        Entry {
+            path,
+            first: path,
+            kind,
+            mode: mode_unless_told(kind),
+            uid: 0,
+            gid: 0,
+            user: &[],
+            bytes: Spelling::Zeros(0),
+            links: 1,
+            opaque: false,
+            redirect: None,
+            metacopy: None,
+        }
+    }
+}
+
 /// The layers of a manifest, the upper first; without one, an upper that holds nothing, with the root of the first layer. None where the
 /// manifest isn't of that form.
 pub fn layers_of<'a>(
     alloc: Global,
     manifest: &'a Table,
 ) -> Result<Option<Vec<PlainLayer<'a>>>, AllocError> {
-    let mut layers = Vec::new(alloc);
+    let mut layers = List::new(alloc);
+    let is_of_form = put_layers(alloc, manifest, &mut layers);
+    let layers = layers.end()?;
+    if is_of_form {
+        Ok(Some(layers))
+    } else {
+        Ok(None)
+    }
+}
+
+// Adds the layers of a manifest; false where one isn't of that form.
+fn put_layers<'a>(alloc: Global, manifest: &'a Table, layers: &mut List<PlainLayer<'a>>) -> bool {
     for layer in items(manifest.get("layer")) {
-        let Some(layer) = layer.as_table() else {
-            return Ok(None);
-        };
-        let Some(entries) = entries_of(alloc, items(layer.get("entry")))? else {
-            return Ok(None);
-        };
-        let entries = with_links(alloc, entries.as_slice())?;
-        layers.push(PlainLayer { entries })?;
+        match entries_of(alloc, layer) {
+            Ok(Some(entries)) => layers.put(with_links(alloc, entries.as_slice())),
+            Ok(None) => return false,
+            Err(fault) => layers.put(Err(fault)),
+        }
     }
     if !has_upper(manifest) {
-        put_bare(alloc, &mut layers)?;
+        put_bare(alloc, layers);
     }
-    Ok(Some(layers))
+    true
 }
 
 /// Whether the first layer of a manifest is an upper.
 pub fn has_upper(manifest: &Table) -> bool {
-    manifest
-        .get("upper")
-        .and_then(Value::as_bool)
-        .unwrap_or(true)
+    !matches!(manifest.get("upper"), Some(Value::Boolean(false)))
 }
 
 // Puts an upper that holds nothing above layers, with the root of the first.
-fn put_bare(alloc: Global, layers: &mut Vec<PlainLayer<'_>>) -> Result<(), AllocError> {
-    let Some(first) = layers.first() else {
-        return Ok(());
-    };
-    let upper = first.bare(alloc)?;
-    layers.insert(0, upper)?;
-    Ok(())
+fn put_bare(alloc: Global, layers: &mut List<PlainLayer<'_>>) {
+    if let Some(first) = layers.as_slice().first() {
+        let upper = first.bare(alloc);
+        layers.put_first(upper);
+    }
 }
 
 fn items(value: Option<&Value>) -> &[Value] {
-    match value.and_then(Value::as_array) {
-        Some(items) => items.as_slice(),
-        None => &[],
+    match value {
+        Some(Value::Array(items)) => items.as_slice(),
+        _ => &[],
     }
 }
 
-fn entries_of<'a>(
-    alloc: Global,
-    entries: &'a [Value],
-) -> Result<Option<Vec<Entry<'a>>>, AllocError> {
-    let mut list = Vec::new(alloc);
-    for entry in entries {
-        match entry_of(list.as_slice(), entry) {
-            Some(entry) => list.push(entry)?,
-            None => return Ok(None),
+// The entries of a layer. None where it isn't of that form.
+fn entries_of<'a>(alloc: Global, layer: &'a Value) -> Result<Option<Vec<Entry<'a>>>, AllocError> {
+    let mut entries = List::new(alloc);
+    let is_of_form = match layer {
+        Value::Table(layer) => put_entries(items(layer.get("entry")), &mut entries),
+        _ => false,
+    };
+    let entries = entries.end()?;
+    if is_of_form {
+        Ok(Some(entries))
+    } else {
+        Ok(None)
+    }
+}
+
+// Adds entries; false where one isn't of that form.
+fn put_entries<'a>(told: &'a [Value], entries: &mut List<Entry<'a>>) -> bool {
+    for entry in told {
+        match entry_of(entries.as_slice(), entry) {
+            Some(entry) => entries.add(entry),
+            None => return false,
         }
     }
-    Ok(Some(list))
+    true
 }
 
-// The entries, each with the number of its object's names.
-fn with_links<'a>(alloc: Global, entries: &[Entry<'a>]) -> Result<Vec<Entry<'a>>, AllocError> {
-    let mut list = Vec::new(alloc);
+// The layer of these entries, each with the number of its object's names.
+fn with_links<'a>(alloc: Global, entries: &[Entry<'a>]) -> Result<PlainLayer<'a>, AllocError> {
+    let mut list = List::new(alloc);
     for entry in entries {
-        let links = names_of(entries, entry.first);
-        list.push(Entry { links, ..*entry })?;
+        let mut linked = *entry;
+        linked.links = names_of(entries, entry.first);
+        list.add(linked);
     }
-    Ok(list)
+    Ok(PlainLayer {
+        entries: list.end()?,
+    })
 }
 
 // How many names the object has that was described first at a path.
@@ -128,75 +167,131 @@ fn names_of(entries: &[Entry<'_>], first: &[u8]) -> u32 {
 }
 
 fn entry_of<'a>(earlier: &[Entry<'a>], entry: &'a Value) -> Option<Entry<'a>> {
-    let table = entry.as_table()?;
+    let Value::Table(table) = entry else {
+        return None;
+    };
     let path = path_in(bytes_at(table, "path")?);
-    match text_at(table, "kind")? {
-        "link" => further_name(earlier, path, bytes_at(table, "to")?),
-        kind => object_of(table, path, kind_named(kind)?),
+    match text_at(table, "kind") {
+        Some("link") => further_name(earlier, path, bytes_at(table, "to")),
+        Some(kind) => object_of(table, path, kind_named(kind)),
+        None => None,
     }
 }
 
 // A further name of what an earlier entry describes.
-fn further_name<'a>(earlier: &[Entry<'a>], path: &'a [u8], to: &[u8]) -> Option<Entry<'a>> {
-    let described = earlier.iter().find(|entry| entry.path == to)?;
-    Some(Entry { path, ..*described })
+fn further_name<'a>(earlier: &[Entry<'a>], path: &'a [u8], to: Option<&[u8]>) -> Option<Entry<'a>> {
+    let to = to?;
+    for described in earlier {
+        if described.path == to {
+            let mut named = *described;
+            named.path = path;
+            return Some(named);
+        }
+    }
+    None
 }
 
-fn object_of<'a>(table: &'a Table, path: &'a [u8], kind: Kind) -> Option<Entry<'a>> {
-    Some(Entry {
-        path,
-        first: path,
-        kind,
-        mode: number_at(table, "mode", mode_unless_told(kind))?,
-        uid: number_at(table, "uid", 0)?,
-        gid: number_at(table, "gid", 0)?,
-        user: items(table.get("attrs")),
-        bytes: spelling_in(kind, table)?,
-        links: 1,
-        opaque: table
-            .get("opaque")
-            .and_then(Value::as_bool)
-            .unwrap_or(false),
-        redirect: bytes_at(table, "redirect"),
-        metacopy: None,
-    })
+fn object_of<'a>(table: &'a Table, path: &'a [u8], kind: Option<Kind>) -> Option<Entry<'a>> {
+    let mut entry = Entry::bare(path, kind?);
+    entry.user = items(table.get("attrs"));
+    entry.opaque = is_set(table, "opaque");
+    entry.redirect = bytes_at(table, "redirect");
+    if take_numbers(table, &mut entry) && take_bytes(table, &mut entry) {
+        Some(entry)
+    } else {
+        None
+    }
+}
+
+// Takes the mode and the owners; false where one isn't a number.
+fn take_numbers(table: &Table, entry: &mut Entry<'_>) -> bool {
+    let mode = number_at(table, "mode", entry.mode);
+    let uid = number_at(table, "uid", 0);
+    let gid = number_at(table, "gid", 0);
+    match (mode, uid, gid) {
+        (Some(mode), Some(uid), Some(gid)) => {
+            entry.mode = mode;
+            entry.uid = uid;
+            entry.gid = gid;
+            true
+        }
+        _ => false,
+    }
+}
+
+// Takes the bytes; false where they aren't spelled.
+fn take_bytes<'a>(table: &'a Table, entry: &mut Entry<'a>) -> bool {
+    match spelling_in(entry.kind, table) {
+        Some(bytes) => {
+            entry.bytes = bytes;
+            true
+        }
+        None => false,
+    }
 }
 
 fn bytes_at<'a>(table: &'a Table, key: &str) -> Option<&'a [u8]> {
-    Some(text_at(table, key)?.as_bytes())
+    match table.get(key) {
+        Some(Value::String(text)) => Some(text.as_bytes()),
+        _ => None,
+    }
 }
 
 fn text_at<'a>(table: &'a Table, key: &str) -> Option<&'a str> {
-    table.get(key)?.as_str()
+    match table.get(key) {
+        Some(Value::String(text)) => Some(text.as_str()),
+        _ => None,
+    }
+}
+
+fn is_set(table: &Table, key: &str) -> bool {
+    matches!(table.get(key), Some(Value::Boolean(true)))
 }
 
 fn spelling_in(kind: Kind, table: &Table) -> Option<Spelling<'_>> {
     if kind == Kind::SymbolicLink {
-        return Some(Spelling::Text(bytes_at(table, "target")?));
+        return text_in(bytes_at(table, "target"));
     }
     if let Some(digits) = text_at(table, "hex") {
         return Some(Spelling::Digits(digits));
     }
     if table.get("blob").is_some() {
-        return Some(Spelling::Text(part_in(table)?));
+        return text_in(part_in(table));
     }
     match bytes_at(table, "text") {
         Some(text) => Some(Spelling::Text(text)),
-        None => Some(Spelling::Zeros(number_at(table, "zeros", 0)?)),
+        None => zeros_in(table),
+    }
+}
+
+fn text_in(bytes: Option<&[u8]>) -> Option<Spelling<'_>> {
+    match bytes {
+        Some(bytes) => Some(Spelling::Text(bytes)),
+        None => None,
+    }
+}
+
+fn zeros_in<'a>(table: &Table) -> Option<Spelling<'a>> {
+    match number_at(table, "zeros", 0) {
+        Some(count) => Some(Spelling::Zeros(count)),
+        None => None,
     }
 }
 
 // The part of a blob that an entry takes.
 fn part_in(table: &Table) -> Option<&'static [u8]> {
-    let size = match table.get("size") {
-        Some(_) => Some(number_at(table, "size", 0)?),
-        None => None,
+    let number = number_at(table, "blob", 0);
+    let start = number_at(table, "at", 0);
+    let (Some(number), Some(start)) = (number, start) else {
+        return None;
     };
-    part_of_blob(
-        number_at(table, "blob", 0)?,
-        number_at(table, "at", 0)?,
-        size,
-    )
+    if table.get("size").is_none() {
+        return part_of_blob(number, start, None);
+    }
+    match number_at(table, "size", 0) {
+        Some(size) => part_of_blob(number, start, Some(size)),
+        None => None,
+    }
 }
 
 /// The path of an entry, for a path text.
@@ -225,6 +320,7 @@ fn mode_unless_told(kind: Kind) -> u32 {
 fn number_at(table: &Table, key: &str, without: u32) -> Option<u32> {
     match table.get(key) {
         None => Some(without),
-        Some(number) => u32::try_from(number.as_integer()?).ok(),
+        Some(Value::Integer(number)) => u32::try_from(*number).ok(),
+        Some(_) => None,
     }
 }

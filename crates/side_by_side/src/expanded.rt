@@ -17,15 +17,30 @@ pub fn push_line(alloc: Global, bytes: &mut Vec<u8>, line: &str) -> Result<(), A
 
 // What follows a `<`: a repeated word up to the `>`, and text.
 fn push_piece(alloc: Global, bytes: &mut Vec<u8>, piece: &str) -> Result<(), AllocError> {
-    let (repeated, text) = piece.split_once('>').unwrap_or((piece, ""));
-    let (count, word) = repeated.split_once('*').unwrap_or(("1", repeated));
-    let count = count.parse::<u32>().unwrap_or(1);
-    if let Some(word) = EscapedWord::parse(word.as_bytes()) {
-        let word = word.bytes(alloc)?;
-        for _ in 0..count {
-            bytes.extend_from_slice(word.as_slice())?;
+    match piece.split_once('>') {
+        Some((repeated, text)) => {
+            push_repeated(alloc, bytes, repeated)?;
+            bytes.extend_from_slice(text.as_bytes())
         }
+        None => push_repeated(alloc, bytes, piece),
     }
-    bytes.extend_from_slice(text.as_bytes())?;
+}
+
+// A word behind how often it stands there; without a count it stands there once.
+fn push_repeated(alloc: Global, bytes: &mut Vec<u8>, repeated: &str) -> Result<(), AllocError> {
+    match repeated.split_once('*') {
+        Some((count, word)) => push_word(alloc, bytes, word, count.parse::<u32>().unwrap_or(1)),
+        None => push_word(alloc, bytes, repeated, 1),
+    }
+}
+
+fn push_word(alloc: Global, bytes: &mut Vec<u8>, word: &str, count: u32) -> Result<(), AllocError> {
+    let Some(word) = EscapedWord::parse(word.as_bytes()) else {
+        return Ok(());
+    };
+    let word = word.bytes(alloc)?;
+    for _ in 0..count {
+        bytes.extend_from_slice(word.as_slice())?;
+    }
     Ok(())
 }

@@ -2,11 +2,12 @@
 // share and that keeps no history.
 use crate::dice::Dice;
 use crate::engine::{look_ups_difference, look_ups_difference_in_turn, run_of};
-use crate::manifests::Manifests;
+use crate::manifests::{Manifest, Manifests};
 use crate::playing::reference_difference;
 use crate::random_calls::{push_call, push_open_of};
 use crate::random_watches::{push_arm_of, push_watch_call};
 use crate::shared::endless_difference;
+use crate::text::Text;
 use std::alloc::{AllocError, Global};
 use std::hash::RandomState;
 use std::ops::Range;
@@ -38,13 +39,24 @@ pub fn play_generated<R: Files + AllocGlobal + Print + Wait>(
     let mut count = 0u64;
     for seed in 0..SCRIPTS {
         let manifest = manifests.with_seed(seed);
-        let script = script_of(rt.alloc(), seed, manifest.numbers(layers))?;
-        match script_difference(rt, (rt.alloc(), keys), manifest.text, script.as_bytes())? {
+        match seed_difference(rt, (rt.alloc(), keys), manifest, layers, seed)? {
             None => count = count.saturating_add(1),
             Some(found) => println!(rt; "script {seed} over {file} differs: {found}")?,
         }
     }
     println!(rt; "{count} generated scripts over {file} agree")
+}
+
+// How the answers to the script of a seed differ.
+fn seed_difference<H: Wait>(
+    rt: &H,
+    (alloc, keys): (Global, RandomState),
+    manifest: Manifest<'_>,
+    layers: u32,
+    seed: u64,
+) -> io::Result<Option<String>> {
+    let script = script_of(alloc, seed, manifest.numbers(layers))?;
+    script_difference(rt, (alloc, keys), manifest.text, script.as_bytes())
 }
 
 fn script_difference<H: Wait>(
@@ -87,76 +99,71 @@ pub fn script_difference_in_turn(
 // comes, and one to three make more calls. Then what stands at some paths is read, and the layers and the whole tree are printed.
 fn script_of(alloc: Global, seed: u64, layers: Range<u32>) -> Result<String, AllocError> {
     let mut dice = Dice::new(seed);
-    let mut script = String::from_str(alloc, "attach\nattach\nattach\n")?;
+    let mut script = Text::new(alloc);
+    script.add("attach\nattach\nattach\n");
     let clients = dice.front(&["0", "1", "2"]);
-    push_arms(&mut dice, clients, &mut script)?;
-    for _ in 0..OPENS {
-        push_open_of(&mut dice, clients, &mut script)?;
-    }
-    push_calls(LINES, &mut dice, clients, &mut script)?;
-    push_unread(&["1"], &mut script)?;
-    script.push_str("1 detach\nattach\n")?;
+    push_first((ARMS, OPENS), &mut dice, clients, &mut script);
+    push_calls(LINES, &mut dice, clients, &mut script);
+    push_unread(&["1"], &mut script);
+    script.add("1 detach\nattach\n");
     let clients = dice.front(&["0", "2", "3"]);
-    push_calls(LINES_MORE, &mut dice, clients, &mut script)?;
-    push_unread(&["0", "2", "3"], &mut script)?;
-    push_readings(alloc, &mut script)?;
-    push_unread(&["0", "2", "3"], &mut script)?;
-    for layer in layers {
-        script.push_str(format!(in alloc; "layer {layer}\n")?.as_str())?;
-    }
-    script.push_str("merge\n")?;
-    Ok(script)
+    push_calls(LINES_MORE, &mut dice, clients, &mut script);
+    push_unread(&["0", "2", "3"], &mut script);
+    push_readings(&mut script);
+    push_unread(&["0", "2", "3"], &mut script);
+    script.layers(alloc, layers);
+    script.add("merge\n");
+    script.end()
 }
 
-fn push_arms(
+/// Appends lines of so many arms and opens of these clients.
+pub fn push_first(
+    (arms, opens): (u32, u32),
     dice: &mut Dice,
     clients: &[&'static str],
-    script: &mut String,
-) -> Result<(), AllocError> {
-    for _ in 0..ARMS {
-        push_arm_of(dice, clients, script)?;
+    script: &mut Text,
+) {
+    for _ in 0..arms {
+        push_arm_of(dice, clients, script);
     }
-    Ok(())
+    for _ in 0..opens {
+        push_open_of(dice, clients, script);
+    }
 }
 
 // Lines of calls of these clients, with some on watches among them.
-fn push_calls(
-    count: u32,
-    dice: &mut Dice,
-    clients: &[&'static str],
-    script: &mut String,
-) -> Result<(), AllocError> {
+fn push_calls(count: u32, dice: &mut Dice, clients: &[&'static str], script: &mut Text) {
     for _ in 0..count {
-        push_call(dice, clients, script)?;
+        push_call(dice, clients, script);
         if dice.roll(3) == 0 {
-            push_watch_call(dice, clients, script)?;
+            push_watch_call(dice, clients, script);
         }
     }
-    Ok(())
 }
 
 // The lines by which clients read all that they haven't read.
-fn push_unread(clients: &[&str], script: &mut String) -> Result<(), AllocError> {
+fn push_unread(clients: &[&str], script: &mut Text) {
     for client in clients {
-        script.push_str(client)?;
-        script.push_str(" notices 65\n")?;
+        script.add(client);
+        script.add(" notices 65\n");
     }
-    Ok(())
 }
 
 // A further client reads the bytes and user attributes of paths of one name and of two.
-fn push_readings(alloc: Global, script: &mut String) -> Result<(), AllocError> {
-    script.push_str("attach\n")?;
+fn push_readings(script: &mut Text) {
+    script.add("attach\n");
     for first in ["/a", "/b", "/c", "/d"] {
         for second in ["", "/a", "/b", "/c", "/d"] {
-            let path = format!(in alloc; "{first}{second}")?;
-            let opened = format!(in alloc;
-                "4 open r {path}\n4 fstat 0\n4 read 0 200\n4 close 0\n"
-            )?;
-            let attributes = format!(in alloc; "4 attrs {path}\n4 getattr {path} user.a\n")?;
-            script.push_str(opened.as_str())?;
-            script.push_str(attributes.as_str())?;
+            for (before, after) in [
+                ("4 open r ", "\n4 fstat 0\n4 read 0 200\n4 close 0\n"),
+                ("4 attrs ", "\n"),
+                ("4 getattr ", " user.a\n"),
+            ] {
+                script.add(before);
+                script.add(first);
+                script.add(second);
+                script.add(after);
+            }
         }
     }
-    Ok(())
 }

@@ -3,6 +3,7 @@ use crate::dice::Dice;
 use crate::generated::script_difference_in_turn;
 use crate::manifests::Manifests;
 use crate::random_limits::{FILES, LIMITS, Limit, push_call_at_limit, push_open_at_limit};
+use crate::text::Text;
 use std::alloc::{AllocError, Global};
 use std::hash::RandomState;
 use std::ops::Range;
@@ -111,20 +112,19 @@ fn script_of(
     layers: Range<u32>,
 ) -> Result<String, AllocError> {
     let mut dice = Dice::new(seed);
-    let mut script = String::from_str(alloc, "attach\nattach\n")?;
+    let mut script = Text::new(alloc);
+    script.add("attach\nattach\n");
     for _ in 0..OPENS {
         let client = dice.pick(&["0", "1"]);
-        push_open_at_limit(&mut dice, client, &mut script)?;
+        push_open_at_limit(&mut dice, client, &mut script);
     }
-    push_calls(LINES, &mut dice, &["0", "1"], limit, &mut script)?;
-    script.push_str("1 detach\nattach\n")?;
-    push_calls(LINES_MORE, &mut dice, &["0", "0", "2"], limit, &mut script)?;
-    push_readings(alloc, &mut script)?;
-    for layer in layers {
-        script.push_str(format!(in alloc; "layer {layer}\n")?.as_str())?;
-    }
-    script.push_str("merge\n")?;
-    Ok(script)
+    push_calls(LINES, &mut dice, &["0", "1"], limit, &mut script);
+    script.add("1 detach\nattach\n");
+    push_calls(LINES_MORE, &mut dice, &["0", "0", "2"], limit, &mut script);
+    push_readings(&mut script);
+    script.layers(alloc, layers);
+    script.add("merge\n");
+    script.end()
 }
 
 fn push_calls(
@@ -132,22 +132,20 @@ fn push_calls(
     dice: &mut Dice,
     clients: &[&'static str],
     limit: Limit,
-    script: &mut String,
-) -> Result<(), AllocError> {
+    script: &mut Text,
+) {
     for _ in 0..count {
         let client = dice.pick(clients);
-        push_call_at_limit(dice, client, limit, script)?;
+        push_call_at_limit(dice, client, limit, script);
     }
-    Ok(())
 }
 
 // A further client reads the first and the last bytes of each file.
-fn push_readings(alloc: Global, script: &mut String) -> Result<(), AllocError> {
-    script.push_str("attach\n")?;
+fn push_readings(script: &mut Text) {
+    script.add("attach\n");
     for path in FILES {
-        let opened = format!(in alloc; "3 open r {path}\n3 fstat 0\n3 read 0 20\n")?;
-        script.push_str(opened.as_str())?;
-        script.push_str("3 seek 0 -9 end\n3 read 0 20\n3 close 0\n")?;
+        script.add("3 open r ");
+        script.add(path);
+        script.add("\n3 fstat 0\n3 read 0 20\n3 seek 0 -9 end\n3 read 0 20\n3 close 0\n");
     }
-    Ok(())
 }

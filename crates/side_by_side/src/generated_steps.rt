@@ -1,12 +1,11 @@
 // Scripts of calls in steps made by a seeded generator, on the engine and on the slow reference.
 use crate::dice::Dice;
 use crate::expanded::push_line;
-use crate::generated::script_difference_in_turn;
+use crate::generated::{push_first, script_difference_in_turn};
 use crate::manifests::{Manifest, Manifests};
-use crate::random_calls::push_open_of;
 use crate::random_steps::{FILES, PLACES, push_turn};
-use crate::random_watches::push_arm_of;
 use crate::stepper::Stepper;
+use crate::text::Text;
 use ov_server::{core_of, hooks_by_slot};
 use ov_wire::table_of;
 use std::alloc::{AllocError, Global};
@@ -82,24 +81,30 @@ fn drafted<F: Callback + Copy, R: Rule>(
     hooks: &[Hook<F, R>],
     seed: u64,
 ) -> Result<Option<String>, AllocError> {
-    let Ok(table) = table_of(alloc, manifest.text) else {
-        return Ok(None);
+    let table = match table_of(alloc, manifest.text) {
+        Ok(table) => table,
+        Err(fault) => {
+            drop(fault);
+            return Ok(None);
+        }
     };
     let core = core_of::<F, R>(alloc, keys, &table, &[], None);
     drop(table);
-    let Ok(core) = core else {
-        return Ok(None);
+    let core = match core {
+        Ok(core) => core,
+        Err(fault) => {
+            drop(fault);
+            return Ok(None);
+        }
     };
     let mut draft = Draft {
         manifest,
         dice: Dice::new(seed),
-        text: String::new(alloc),
+        text: Text::new(alloc),
         stepper: Stepper::new(alloc, core),
     };
-    let outcome = draft.fill(alloc, hooks);
-    let text = draft.end();
-    outcome?;
-    Ok(Some(text))
+    draft.fill(alloc, hooks);
+    Ok(Some(draft.end().end()?))
 }
 
 // A script on its way, and the mount on which its lines were played, which tells whose call goes
@@ -107,7 +112,7 @@ fn drafted<F: Callback + Copy, R: Rule>(
 struct Draft<'a, F: Callback, R: Rule> {
     manifest: Manifest<'a>,
     dice: Dice,
-    text: String,
+    text: Text,
     stepper: Stepper<F, R>,
 }
 
@@ -115,21 +120,22 @@ impl<F: Callback + Copy, R: Rule> Draft<'_, F, R> {
     // Three clients come, and the first, the first two or all of them watch, open files and make calls
     // in steps. One goes, another comes, and one to three make more. What stands at some paths is
     // read, while calls may go on.
-    fn fill(&mut self, alloc: Global, hooks: &[Hook<F, R>]) -> Result<(), AllocError> {
-        let mut lines = String::from_str(alloc, "attach\nattach\nattach\n")?;
+    fn fill(&mut self, alloc: Global, hooks: &[Hook<F, R>]) {
+        let mut lines = Text::new(alloc);
+        lines.add("attach\nattach\nattach\n");
         let clients = self.dice.front(&["0", "1", "2"]);
-        push_first(&mut self.dice, clients, &mut lines)?;
-        self.add(alloc, hooks, &mut lines)?;
-        self.add_turns(alloc, hooks, LINES, clients)?;
-        lines.push_str("1 detach\nattach\n")?;
-        self.add(alloc, hooks, &mut lines)?;
+        push_first((ARMS, OPENS), &mut self.dice, clients, &mut lines);
+        self.add(alloc, hooks, &mut lines);
+        self.add_turns(alloc, hooks, LINES, clients);
+        lines.add("1 detach\nattach\n");
+        self.add(alloc, hooks, &mut lines);
         let clients = self.dice.front(&["0", "2", "3"]);
-        self.add_turns(alloc, hooks, LINES_MORE, clients)?;
-        push_readings(alloc, &mut lines)?;
-        self.add(alloc, hooks, &mut lines)?;
-        self.add_ends(alloc, hooks, &["0", "2", "3"])?;
-        push_sights(alloc, self.manifest, &mut lines)?;
-        self.add(alloc, hooks, &mut lines)
+        self.add_turns(alloc, hooks, LINES_MORE, clients);
+        push_readings(&mut lines);
+        self.add(alloc, hooks, &mut lines);
+        self.add_ends(alloc, hooks, &["0", "2", "3"]);
+        push_sights(alloc, self.manifest, &mut lines);
+        self.add(alloc, hooks, &mut lines);
     }
 
     // Adds so many lines of these clients.
@@ -139,48 +145,36 @@ impl<F: Callback + Copy, R: Rule> Draft<'_, F, R> {
         hooks: &[Hook<F, R>],
         count: u32,
         clients: &[&'static str],
-    ) -> Result<(), AllocError> {
-        let mut line = String::new(alloc);
+    ) {
+        let mut line = Text::new(alloc);
         let sight = self.manifest.first_layer();
         for _ in 0..count {
             let client = self.dice.pick(clients);
             let is_calling = self.stepper.is_calling(number_of(client));
-            push_turn(&mut self.dice, client, is_calling, sight, &mut line)?;
-            self.add(alloc, hooks, &mut line)?;
+            push_turn(&mut self.dice, client, is_calling, sight, &mut line);
+            self.add(alloc, hooks, &mut line);
         }
-        Ok(())
     }
 
     // Ends the calls of these clients, which read what they have heard then.
-    fn add_ends(
-        &mut self,
-        alloc: Global,
-        hooks: &[Hook<F, R>],
-        clients: &[&'static str],
-    ) -> Result<(), AllocError> {
-        let mut lines = String::new(alloc);
+    fn add_ends(&mut self, alloc: Global, hooks: &[Hook<F, R>], clients: &[&'static str]) {
+        let mut lines = Text::new(alloc);
         for client in clients {
             let is_calling = self.stepper.is_calling(number_of(client));
-            push_end(client, is_calling, &mut lines)?;
+            push_end(client, is_calling, &mut lines);
         }
-        self.add(alloc, hooks, &mut lines)
+        self.add(alloc, hooks, &mut lines);
     }
 
     // Plays lines and adds them to the script. None are left.
-    fn add(
-        &mut self,
-        alloc: Global,
-        hooks: &[Hook<F, R>],
-        lines: &mut String,
-    ) -> Result<(), AllocError> {
-        self.stepper.play(alloc, hooks, lines.as_bytes())?;
-        self.text.push_str(lines.as_str())?;
-        lines.clear();
-        Ok(())
+    fn add(&mut self, alloc: Global, hooks: &[Hook<F, R>], lines: &mut Text) {
+        let played = self.stepper.play(alloc, hooks, lines.as_str().as_bytes());
+        self.text.note(played);
+        self.text.take(lines);
     }
 
     // The script.
-    fn end(self) -> String {
+    fn end(self) -> Text {
         let Draft {
             manifest: _,
             dice: _,
@@ -196,60 +190,38 @@ fn number_of(client: &str) -> u32 {
     client.parse::<u32>().unwrap_or(0)
 }
 
-fn push_end(client: &str, is_calling: bool, lines: &mut String) -> Result<(), AllocError> {
+fn push_end(client: &str, is_calling: bool, lines: &mut Text) {
     if is_calling {
-        lines.push_str(client)?;
-        lines.push_str(" step 100000\n")?;
+        lines.add(client);
+        lines.add(" step 100000\n");
     }
-    lines.push_str(client)?;
-    lines.push_str(" notices 65\n")
-}
-
-// Lines of arms and opens of these clients.
-fn push_first(
-    dice: &mut Dice,
-    clients: &[&'static str],
-    lines: &mut String,
-) -> Result<(), AllocError> {
-    for _ in 0..ARMS {
-        push_arm_of(dice, clients, lines)?;
-    }
-    for _ in 0..OPENS {
-        push_open_of(dice, clients, lines)?;
-    }
-    Ok(())
+    lines.add(client);
+    lines.add(" notices 65\n");
 }
 
 // A further client reads bytes at the beginning, about the end of the first chunk and at the end
 // of each file.
-fn push_readings(alloc: Global, lines: &mut String) -> Result<(), AllocError> {
-    lines.push_str("attach\n")?;
+fn push_readings(lines: &mut Text) {
+    lines.add("attach\n");
     for path in FILES {
-        push_reading(alloc, path, lines)?;
+        push_reading(path, lines);
     }
     for path in PLACES {
-        push_reading(alloc, path, lines)?;
+        push_reading(path, lines);
     }
-    Ok(())
 }
 
-fn push_reading(alloc: Global, path: &str, lines: &mut String) -> Result<(), AllocError> {
-    let opened = format!(in alloc; "4 open r {path}\n4 fstat 0\n4 read 0 20\n")?;
-    lines.push_str(opened.as_str())?;
-    lines.push_str("4 seek 0 4090 set\n4 read 0 12\n")?;
-    lines.push_str("4 seek 0 -9 end\n4 read 0 20\n4 close 0\n")
+fn push_reading(path: &str, lines: &mut Text) {
+    lines.add("4 open r ");
+    lines.add(path);
+    lines.add("\n4 fstat 0\n4 read 0 20\n4 seek 0 4090 set\n4 read 0 12\n");
+    lines.add("4 seek 0 -9 end\n4 read 0 20\n4 close 0\n");
 }
 
 // The layers and the tree. In the end no client is there, and no temp.
-fn push_sights(
-    alloc: Global,
-    manifest: Manifest<'_>,
-    lines: &mut String,
-) -> Result<(), AllocError> {
-    lines.push_str("work\n")?;
-    for layer in manifest.numbers(LAYERS) {
-        lines.push_str(format!(in alloc; "layer {layer}\n")?.as_str())?;
-    }
-    lines.push_str("merge\n0 detach\n2 detach\n3 detach\n4 detach\nwork\n")?;
-    lines.push_str(manifest.first_layer())
+fn push_sights(alloc: Global, manifest: Manifest<'_>, lines: &mut Text) {
+    lines.add("work\n");
+    lines.layers(alloc, manifest.numbers(LAYERS));
+    lines.add("merge\n0 detach\n2 detach\n3 detach\n4 detach\nwork\n");
+    lines.add(manifest.first_layer());
 }

@@ -37,12 +37,30 @@ pub fn judged<R: AllocGlobal + Wait>(
     let wanted = row.wanted.as_slice();
     let engine = run_of(alloc, keys, manifest, script)?;
     if engine.text.as_slice() != wanted {
-        let found = String::from_utf8_lossy(alloc, engine.text.as_slice())?;
-        return Ok(Verdict::Differs(format!(in alloc; "the engine answers\n{found}")?));
+        return engine_differs(alloc, engine.text.as_slice());
     }
-    if engine.refuses_manifest {
+    let refuses_manifest = engine.refuses_manifest;
+    drop(engine);
+    if refuses_manifest {
         return Ok(Verdict::NoMount);
     }
+    judged_others(rt, (alloc, keys), manifest, script, wanted)
+}
+
+fn engine_differs(alloc: Global, found: &[u8]) -> io::Result<Verdict> {
+    let found = String::from_utf8_lossy(alloc, found)?;
+    Ok(Verdict::Differs(format!(in alloc; "the engine answers\n{found}")?))
+}
+
+// Whether the engine where it keeps fewer look-ups, the reference and mounts that threads share
+// answer what is wanted.
+fn judged_others<H: Wait>(
+    rt: &H,
+    (alloc, keys): (Global, RandomState),
+    manifest: &[u8],
+    script: Option<&[u8]>,
+    wanted: &[u8],
+) -> io::Result<Verdict> {
     if let Some(found) = kept_difference(alloc, keys, manifest, script, wanted)? {
         return Ok(Verdict::Differs(found));
     }
@@ -81,24 +99,46 @@ fn judged_shared<H: Wait>(
     wanted: &[u8],
 ) -> io::Result<Verdict> {
     let told = told_by(rt, (alloc, keys), Keeps::Entries, manifest, script)?;
-    let found = told.text;
+    let is_full = told.is_full;
+    let found = told.into_text()?;
     if found.as_bytes() != wanted {
         return Ok(Verdict::Differs(format!(in alloc; "a shared mount answers\n{found}")?));
     }
-    let (verdict, difference) = if told.is_full {
-        let longest = without_length(alloc, manifest)?;
-        let engine = run_of(alloc, keys, longest.as_slice(), script)?;
-        let wanted = engine.text.as_slice();
-        let difference = endless_difference(rt, (alloc, keys), manifest, script, wanted)?;
-        (Verdict::FillsHistory, difference)
+    drop(found);
+    if is_full {
+        judged_full(rt, (alloc, keys), manifest, script)
     } else {
-        let difference = endless_difference(rt, (alloc, keys), manifest, script, wanted)?;
-        (Verdict::Agrees, difference)
-    };
-    Ok(match difference {
-        Some(found) => Verdict::Differs(found),
-        None => verdict,
-    })
+        judged_endless(rt, (alloc, keys), manifest, script, wanted, false)
+    }
+}
+
+// The same of a mount that keeps no history, where the others have no place.
+fn judged_full<H: Wait>(
+    rt: &H,
+    (alloc, keys): (Global, RandomState),
+    manifest: &[u8],
+    script: Option<&[u8]>,
+) -> io::Result<Verdict> {
+    let longest = without_length(alloc, manifest)?;
+    let engine = run_of(alloc, keys, longest.as_slice(), script)?;
+    drop(longest);
+    let wanted = engine.text.as_slice();
+    judged_endless(rt, (alloc, keys), manifest, script, wanted, true)
+}
+
+fn judged_endless<H: Wait>(
+    rt: &H,
+    (alloc, keys): (Global, RandomState),
+    manifest: &[u8],
+    script: Option<&[u8]>,
+    wanted: &[u8],
+    fills_history: bool,
+) -> io::Result<Verdict> {
+    match endless_difference(rt, (alloc, keys), manifest, script, wanted)? {
+        Some(found) => Ok(Verdict::Differs(found)),
+        None if fills_history => Ok(Verdict::FillsHistory),
+        None => Ok(Verdict::Agrees),
+    }
 }
 
 // A manifest without the line that sets how long the history may get.

@@ -1,11 +1,11 @@
 // The trees that a mount keeps: each layer, and the merge of all.
-use crate::tree_lines::{Tree, push_path, push_target, push_words};
+use crate::text::Text;
+use crate::tree_lines::{Tree, push_escaped, push_path, push_target, push_words};
 use dir_listing::names;
 use layer_tree::{Entry, Layer, Marks, Node};
 use merged_lookup::{Found, Layers, Place};
 use mount_calls::status_of;
 use ov_base::{Content, NameList, Path, Redirect, Stat};
-use ov_script::Escaped;
 use std::alloc::{AllocError, Global};
 
 /// The layer of a number, among those of a mount.
@@ -17,20 +17,15 @@ pub struct KeptLayer<'a> {
 }
 
 impl Tree for KeptLayer<'_> {
-    fn push_object(
-        &self,
-        alloc: Global,
-        path: &Path,
-        lines: &mut String,
-    ) -> Result<(), AllocError> {
+    fn push_object(&self, alloc: Global, path: &Path, lines: &mut Text) {
         match self.layer.find(path) {
             Some(Entry::Object(key)) => push_kept(alloc, self, key, path, lines),
             Some(Entry::Whiteout) => {
-                lines.push_str("c 0000 0 0 0 1 ")?;
-                push_path(alloc, path, lines)?;
-                lines.push_str("\n")
+                lines.add("c 0000 0 0 0 1 ");
+                push_path(alloc, path, lines);
+                lines.add("\n");
             }
-            None => Ok(()),
+            None => {}
         }
     }
 
@@ -43,55 +38,46 @@ impl Tree for KeptLayer<'_> {
 }
 
 impl Tree for Layers {
-    fn push_object(
-        &self,
-        alloc: Global,
-        path: &Path,
-        lines: &mut String,
-    ) -> Result<(), AllocError> {
+    fn push_object(&self, alloc: Global, path: &Path, lines: &mut Text) {
         let Ok(shown) = self.walk_topmost(path) else {
-            return Ok(());
+            return;
         };
         let place = shown.place();
         if let Some(node) = self.node(place) {
-            push_node(alloc, node, size_at(self, place), path, lines)?;
-            lines.push_str("\n")?;
+            push_node(alloc, node, size_at(self, place), path, lines);
+            lines.add("\n");
         }
-        Ok(())
     }
 
     fn names_at(&self, alloc: Global, path: &Path) -> Result<NameList, AllocError> {
         match self.walk(path) {
-            Ok(Found::Directory(stack)) => Ok(NameList::from_vec(names(alloc, self, &stack)?)),
+            Ok(Found::Directory(stack)) => {
+                let found = names(alloc, self, &stack);
+                drop(stack);
+                Ok(NameList::from_vec(found?))
+            }
             _ => Ok(NameList::new(alloc)),
         }
     }
 }
 
 // Appends the line of an object that a layer keeps under a key.
-fn push_kept(
-    alloc: Global,
-    kept: &KeptLayer<'_>,
-    key: usize,
-    path: &Path,
-    lines: &mut String,
-) -> Result<(), AllocError> {
+fn push_kept(alloc: Global, kept: &KeptLayer<'_>, key: usize, path: &Path, lines: &mut Text) {
     let place = Place {
         layer: kept.index,
         key,
     };
     if let Some(node) = kept.layer.node(key) {
-        push_node(alloc, node, size_at(kept.layers, place), path, lines)?;
+        push_node(alloc, node, size_at(kept.layers, place), path, lines);
         if let Some(marks) = kept.layer.marks(key) {
-            push_marks(alloc, marks, lines)?;
+            push_marks(alloc, marks, lines);
         }
         if let Some(mark) = kept.layer.mark(key) {
-            lines.push_str(" metacopy ")?;
-            push_path(alloc, mark, lines)?;
+            lines.add(" metacopy ");
+            push_path(alloc, mark, lines);
         }
-        lines.push_str("\n")?;
+        lines.add("\n");
     }
-    Ok(())
 }
 
 // How many bytes the file or the target of the symbolic link at a place shows.
@@ -104,40 +90,30 @@ fn size_at(layers: &Layers, place: Place) -> u64 {
 }
 
 // Appends what a line says of an object of this size but for its marks.
-fn push_node(
-    alloc: Global,
-    node: &Node,
-    size: u64,
-    path: &Path,
-    lines: &mut String,
-) -> Result<(), AllocError> {
+fn push_node(alloc: Global, node: &Node, size: u64, path: &Path, lines: &mut Text) {
     let status = Stat {
         size,
         ..status_of(node)
     };
-    push_words(alloc, status, lines)?;
-    push_path(alloc, path, lines)?;
+    push_words(alloc, status, lines);
+    push_path(alloc, path, lines);
     if let Node::Inode(inode) = node {
         if let Content::SymbolicLink(target) = &inode.content {
-            push_target(alloc, target.as_bytes().as_slice(), lines)?;
+            push_target(alloc, target.as_bytes().as_slice(), lines);
         }
     }
-    Ok(())
 }
 
-fn push_marks(alloc: Global, marks: &Marks, lines: &mut String) -> Result<(), AllocError> {
+fn push_marks(alloc: Global, marks: &Marks, lines: &mut Text) {
     if marks.opaque {
-        lines.push_str(" opaque")?;
+        lines.add(" opaque");
     }
     match &marks.redirect {
-        None => Ok(()),
+        None => {}
         Some(Redirect::Absolute(path)) => {
-            lines.push_str(" redirect ")?;
-            push_path(alloc, path, lines)
+            lines.add(" redirect ");
+            push_path(alloc, path, lines);
         }
-        Some(Redirect::Single(name)) => {
-            let name = Escaped(name.as_slice());
-            lines.push_str(format!(in alloc; " redirect {name}")?.as_str())
-        }
+        Some(Redirect::Single(name)) => push_escaped(alloc, " redirect ", name.as_slice(), lines),
     }
 }

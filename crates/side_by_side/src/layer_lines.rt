@@ -2,51 +2,62 @@
 use crate::contents::size_of;
 use crate::entries::{Entry, Kind, Spelling};
 use crate::plain_layer::PlainLayer;
-use crate::tree_lines::{push_path, push_words};
+use crate::text::Text;
+use crate::tree_lines::{push_escaped, push_path, push_words};
 use ov_base::{ObjectKind, Path, Stat};
-use ov_script::Escaped;
 use std::alloc::{AllocError, Global};
 
 /// The most objects of a layer that are printed.
 const OBJECTS_MOST: u32 = 1_000_000;
 
 /// Appends the lines of a layer, depth first, each directory before what is in it, names in the order of their bytes.
-pub fn push_layer(
-    alloc: Global,
-    layer: &PlainLayer<'_>,
-    lines: &mut String,
-) -> Result<(), AllocError> {
+pub fn push_layer(alloc: Global, layer: &PlainLayer<'_>, lines: &mut Text) {
     let mut left = Vec::new(alloc);
-    left.push(layer.root())?;
+    lines.note(left.extend_from_slice(&[layer.root()]));
     for _ in 0..OBJECTS_MOST {
         let Some(entry) = left.pop() else {
             break;
         };
-        push_entry(alloc, &entry, lines)?;
+        push_entry(alloc, &entry, lines);
         if entry.kind == Kind::Directory {
-            let inside = layer.inside(alloc, entry.path)?;
-            left.extend_from_slice(inside.as_slice())?;
+            lines.note(push_inside(alloc, layer, entry.path, &mut left));
         }
     }
-    Ok(())
 }
 
-fn push_entry(alloc: Global, entry: &Entry<'_>, lines: &mut String) -> Result<(), AllocError> {
+// Puts what is in a directory on the pile, the first name on top.
+fn push_inside<'a>(
+    alloc: Global,
+    layer: &PlainLayer<'a>,
+    directory: &[u8],
+    left: &mut Vec<Entry<'a>>,
+) -> Result<(), AllocError> {
+    let inside = layer.inside(alloc, directory)?;
+    left.extend_from_slice(inside.as_slice())
+}
+
+// Where the bytes of a path are none there is no line.
+fn push_entry(alloc: Global, entry: &Entry<'_>, lines: &mut Text) {
     let text = if entry.path.is_empty() {
         b"/"
     } else {
         entry.path
     };
-    let Ok(path) = Path::parse(alloc, text)? else {
-        return Ok(());
-    };
-    match stat_of(entry) {
-        Some(stat) => push_words(alloc, stat, lines)?,
-        None => lines.push_str("c 0000 0 0 0 1 ")?,
+    match Path::parse(alloc, text) {
+        Ok(Ok(path)) => push_line(alloc, entry, &path, lines),
+        Ok(Err(_)) => {}
+        Err(fault) => lines.note(Err(fault)),
     }
-    push_path(alloc, &path, lines)?;
-    push_rest(alloc, entry, lines)?;
-    lines.push_str("\n")
+}
+
+fn push_line(alloc: Global, entry: &Entry<'_>, path: &Path, lines: &mut Text) {
+    match stat_of(entry) {
+        Some(stat) => push_words(alloc, stat, lines),
+        None => lines.add("c 0000 0 0 0 1 "),
+    }
+    push_path(alloc, path, lines);
+    push_rest(alloc, entry, lines);
+    lines.add("\n");
 }
 
 // None for a whiteout.
@@ -68,21 +79,17 @@ fn stat_of(entry: &Entry<'_>) -> Option<Stat> {
 }
 
 // The words after a path.
-fn push_rest(alloc: Global, entry: &Entry<'_>, lines: &mut String) -> Result<(), AllocError> {
+fn push_rest(alloc: Global, entry: &Entry<'_>, lines: &mut Text) {
     if entry.opaque {
-        lines.push_str(" opaque")?;
+        lines.add(" opaque");
     }
     if let Some(redirect) = entry.redirect {
-        let redirect = Escaped(redirect);
-        lines.push_str(format!(in alloc; " redirect {redirect}")?.as_str())?;
+        push_escaped(alloc, " redirect ", redirect, lines);
     }
     if let Some(path) = entry.metacopy {
-        let path = Escaped(path);
-        lines.push_str(format!(in alloc; " metacopy {path}")?.as_str())?;
+        push_escaped(alloc, " metacopy ", path, lines);
     }
     if let (Kind::SymbolicLink, Spelling::Text(target)) = (entry.kind, entry.bytes) {
-        let target = Escaped(target);
-        lines.push_str(format!(in alloc; " -> {target}")?.as_str())?;
+        push_escaped(alloc, " -> ", target, lines);
     }
-    Ok(())
 }

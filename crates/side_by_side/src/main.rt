@@ -18,6 +18,7 @@ mod history;
 mod judging;
 mod kept_trees;
 mod layer_lines;
+mod list;
 mod manifests;
 mod merged;
 mod mount;
@@ -36,6 +37,7 @@ mod shared_clients;
 mod shared_mount;
 mod sights;
 mod stepper;
+mod text;
 mod told;
 mod told_entries;
 mod told_layers;
@@ -45,7 +47,7 @@ use crate::generated::play_generated;
 use crate::generated_limits::play_generated_limits;
 use crate::generated_steps::play_generated_steps;
 use crate::judging::{Verdict, judged};
-use crate::rows::rows_in;
+use crate::rows::{Row, rows_in};
 use std::hash::RandomState;
 use std::rt::Files;
 use std::sync::Wait;
@@ -130,7 +132,7 @@ fn main(rt: HostRuntime) -> io::Result<()> {
     play_generated_limits(&rt, keys)
 }
 
-// Plays the rows of a file, tells of each, and counts those that agree.
+// Plays the rows of a file.
 fn play_file<R: Files + AllocGlobal + Print + Wait>(
     rt: &R,
     keys: RandomState,
@@ -138,14 +140,25 @@ fn play_file<R: Files + AllocGlobal + Print + Wait>(
     counts: &mut Counts,
 ) -> io::Result<()> {
     let text = fs::read_to_string(rt, file)?;
-    for row in rows_in(rt.alloc(), text.as_str())? {
-        let name = row.name;
-        let verdict = judged(rt, keys, &row)?;
-        counts.count(&verdict);
-        match verdict {
-            Verdict::Differs(found) => println!(rt; "{name}: differs: {found}")?,
-            _ => println!(rt; "{name}: agrees")?,
-        }
+    let rows = rows_in(rt.alloc(), text.as_str())?;
+    for row in rows.as_slice() {
+        play_row(rt, keys, row, counts)?;
     }
     Ok(())
+}
+
+// Plays a row, tells of it, and counts it if it agrees.
+fn play_row<R: AllocGlobal + Print + Wait>(
+    rt: &R,
+    keys: RandomState,
+    row: &Row<'_>,
+    counts: &mut Counts,
+) -> io::Result<()> {
+    let name = row.name;
+    let verdict = judged(rt, keys, row)?;
+    counts.count(&verdict);
+    match verdict {
+        Verdict::Differs(found) => println!(rt; "{name}: differs: {found}"),
+        _ => println!(rt; "{name}: agrees"),
+    }
 }

@@ -1,6 +1,7 @@
 // What the layers of a manifest show, by whole paths: each path is asked of each layer from the top, with nothing kept in between.
 use crate::contents::size_of;
 use crate::entries::{Entry, Kind};
+use crate::list::List;
 use crate::plain_layer::{PlainLayer, push_name, split_last};
 use std::alloc::{AllocError, Global};
 
@@ -18,55 +19,103 @@ pub struct Shown<'a> {
 /// The most directories of a merged tree that are looked into.
 const DIRECTORIES_MOST: u32 = 1_000_000;
 
+/// What was shown so far, and the directories among it that are to be looked into.
+#[derive(Drop)]
+struct Search<'a> {
+    shown: List<Shown<'a>>,
+    open: List<Vec<u8>>,
+}
+
 /// All that is shown below the root, each directory before what is in it.
 pub fn shown_below<'a>(
     alloc: Global,
     layers: &[PlainLayer<'a>],
 ) -> Result<Vec<Shown<'a>>, AllocError> {
-    let names = all_names(alloc, layers)?;
-    let mut shown = Vec::new(alloc);
-    let mut open = Vec::new(alloc);
-    open.push(Vec::new(alloc))?;
-    for _ in 0..DIRECTORIES_MOST {
-        let Some(directory) = open.pop() else {
-            break;
-        };
-        look_into(
-            alloc,
-            layers,
-            directory.as_slice(),
-            names.as_slice(),
-            (&mut shown, &mut open),
-        )?;
-    }
-    Ok(shown)
+    let mut search = Search {
+        shown: List::new(alloc),
+        open: List::new(alloc),
+    };
+    search.open.add(Vec::new(alloc));
+    search.run(alloc, layers);
+    search.end()
 }
 
-// Tries each name in a directory: adds what is shown, and the directories among that to those that are looked into.
-fn look_into<'a>(
-    alloc: Global,
-    layers: &[PlainLayer<'a>],
-    directory: &[u8],
-    names: &[&[u8]],
-    (shown, open): (&mut Vec<Shown<'a>>, &mut Vec<Vec<u8>>),
-) -> Result<(), AllocError> {
-    for name in names {
-        let mut path = copy_of(alloc, directory)?;
-        push_name(&mut path, name)?;
-        if let Some((index, entry)) = shown_at(alloc, layers, path.as_slice())? {
-            if entry.kind == Kind::Directory {
-                open.push(path.clone()?)?;
+impl<'a> Search<'a> {
+    fn run(&mut self, alloc: Global, layers: &[PlainLayer<'a>]) {
+        let names = all_names(alloc, layers);
+        for _ in 0..DIRECTORIES_MOST {
+            let Some(directory) = self.open.pop() else {
+                break;
+            };
+            self.look_into(alloc, layers, directory.as_slice(), names.as_slice());
+        }
+        self.shown.note(names.lacks_memory());
+    }
+
+    // Tries each name in a directory.
+    fn look_into(
+        &mut self,
+        alloc: Global,
+        layers: &[PlainLayer<'a>],
+        directory: &[u8],
+        names: &[&[u8]],
+    ) {
+        for name in names {
+            match path_of(alloc, directory, name) {
+                Ok(path) => self.look_at(alloc, layers, path),
+                Err(fault) => self.open.put(Err(fault)),
             }
-            let is_base = is_base(alloc, layers, path.as_slice())?;
-            shown.push(Shown {
-                path,
-                entry,
-                is_upper: index == 0,
-                is_base,
-            })?;
         }
     }
-    Ok(())
+
+    // Adds what is shown at a path.
+    fn look_at(&mut self, alloc: Global, layers: &[PlainLayer<'a>], path: Vec<u8>) {
+        match shown_at(alloc, layers, path.as_slice()) {
+            Ok(Some((index, entry))) => self.take(alloc, layers, path, index, entry),
+            Ok(None) => {}
+            Err(fault) => self.open.put(Err(fault)),
+        }
+    }
+
+    fn take(
+        &mut self,
+        alloc: Global,
+        layers: &[PlainLayer<'a>],
+        path: Vec<u8>,
+        index: usize,
+        entry: Entry<'a>,
+    ) {
+        if entry.kind == Kind::Directory {
+            self.open.put(path.clone());
+        }
+        let (is_base, lacks_memory) = match is_base(alloc, layers, path.as_slice()) {
+            Ok(is_base) => (is_base, false),
+            Err(_) => (false, true),
+        };
+        self.shown.note(lacks_memory);
+        self.shown.add(Shown {
+            path,
+            entry,
+            is_upper: index == 0,
+            is_base,
+        });
+    }
+
+    // All that was shown.
+    fn end(self) -> Result<Vec<Shown<'a>>, AllocError> {
+        let Search { shown, open } = self;
+        let mut shown = shown;
+        shown.note(open.lacks_memory());
+        drop(open);
+        shown.end()
+    }
+}
+
+// The path of a name in a directory.
+fn path_of(alloc: Global, directory: &[u8], name: &[u8]) -> Result<Vec<u8>, AllocError> {
+    let mut path = copy_of(alloc, directory)?;
+    push_name(&mut path, name)?;
+    Ok(path)
 }
 
 fn copy_of(alloc: Global, path: &[u8]) -> Result<Vec<u8>, AllocError> {
@@ -115,13 +164,22 @@ fn shown_at<'a>(
         if let Some(entry) = layer.held(spelling.as_slice()) {
             return Ok(unless_whiteout(index, entry));
         }
-        let handed = layer.hands_on(alloc, spelling.as_slice())?;
-        if handed.is_cut {
-            return Ok(None);
+        if !goes_on(alloc, layer, &mut spelling)? {
+            break;
         }
-        spelling = handed.spelling;
     }
     Ok(None)
+}
+
+// Spells a path for the layer below this one; false where nothing below is reached.
+fn goes_on(
+    alloc: Global,
+    layer: &PlainLayer<'_>,
+    spelling: &mut Vec<u8>,
+) -> Result<bool, AllocError> {
+    let handed = layer.hands_on(alloc, spelling.as_slice())?;
+    *spelling = handed.spelling;
+    Ok(!handed.is_cut)
 }
 
 fn unless_whiteout(index: usize, entry: Entry<'_>) -> Option<(usize, Entry<'_>)> {
@@ -139,31 +197,37 @@ fn is_base(alloc: Global, layers: &[PlainLayer<'_>], path: &[u8]) -> Result<bool
         if index > 0 && layer.holds_directory(spelling.as_slice()) {
             return Ok(true);
         }
-        let handed = layer.hands_on(alloc, spelling.as_slice())?;
-        if handed.is_cut {
-            return Ok(false);
+        if !goes_on(alloc, layer, &mut spelling)? {
+            break;
         }
-        spelling = handed.spelling;
     }
     Ok(false)
 }
 
 // Each last name of an entry, once.
-fn all_names<'a>(alloc: Global, layers: &[PlainLayer<'a>]) -> Result<Vec<&'a [u8]>, AllocError> {
-    let mut names = Vec::new(alloc);
+fn all_names<'a>(alloc: Global, layers: &[PlainLayer<'a>]) -> List<&'a [u8]> {
+    let mut names = List::new(alloc);
     for layer in layers {
         for entry in layer.entries.as_slice() {
             if let Some((_, name)) = split_last(entry.path) {
-                add_name(&mut names, name)?;
+                add_name(&mut names, name);
             }
         }
     }
-    Ok(names)
+    names
 }
 
-fn add_name<'a>(names: &mut Vec<&'a [u8]>, name: &'a [u8]) -> Result<(), AllocError> {
-    if !names.iter().any(|known| *known == name) {
-        names.push(name)?;
+fn add_name<'a>(names: &mut List<&'a [u8]>, name: &'a [u8]) {
+    if !has_name(names.as_slice(), name) {
+        names.add(name);
     }
-    Ok(())
+}
+
+fn has_name(names: &[&[u8]], name: &[u8]) -> bool {
+    for known in names {
+        if *known == name {
+            return true;
+        }
+    }
+    false
 }

@@ -6,8 +6,9 @@ use crate::layer_lines::push_layer;
 use crate::opening::reference_of;
 use crate::pending::Begun;
 use crate::plain_layer::{PlainLayer, push_name};
+use crate::text::Text;
 use crate::tree_lines::push_tree;
-use ov_base::{Call, Errno, Path};
+use ov_base::{Call, Errno, Name, Path};
 use plain_reference::{MountOptions, Reference};
 use std::alloc::{AllocError, Global};
 use std::collections::BTreeMap;
@@ -110,7 +111,9 @@ impl PlainMount {
         match self.reference.call(client, call)? {
             Some(reply) => {
                 self.history.finish();
-                reply_line(alloc, client, &reply)
+                let line = reply_line(alloc, client, &reply);
+                drop(reply);
+                line
             }
             None => String::from_str(alloc, "not offered\n"),
         }
@@ -118,9 +121,9 @@ impl PlainMount {
 
     /// The lines of the merged tree.
     pub fn merge_lines(&self, alloc: Global) -> Result<String, AllocError> {
-        let mut lines = String::new(alloc);
-        push_tree(alloc, &self.reference, &mut lines)?;
-        Ok(lines)
+        let mut lines = Text::new(alloc);
+        push_tree(alloc, &self.reference, &mut lines);
+        lines.end()
     }
 
     /// The layers of the manifest, the upper first.
@@ -152,33 +155,49 @@ impl PlainMount {
         upper: &PlainLayer<'_>,
         path: &[u8],
     ) -> Result<Option<Vec<u8>>, AllocError> {
+        match self.began_at(alloc, path)? {
+            Some(began) => {
+                let handed = upper.hands_on(alloc, began.as_slice())?;
+                Ok(Some(handed.spelling))
+            }
+            None => Ok(None),
+        }
+    }
+
+    // Where the file began whose bytes what stands at a path shows, if its bytes aren't its own.
+    fn began_at(&self, alloc: Global, path: &[u8]) -> Result<Option<Vec<u8>>, AllocError> {
         let Ok(path) = Path::parse(alloc, path)? else {
             return Ok(None);
         };
-        let Some(names) = self.reference.marked_from(&path)? else {
-            return Ok(None);
-        };
-        let mut began = Vec::new(alloc);
-        for name in names.iter().rev() {
-            push_name(&mut began, name.as_slice())?;
+        match self.reference.marked_from(&path)? {
+            Some(names) => Ok(Some(path_text(alloc, names.as_slice())?)),
+            None => Ok(None),
         }
-        let handed = upper.hands_on(alloc, began.as_slice())?;
-        Ok(Some(handed.spelling))
     }
 
     /// The lines of a layer, as the manifest describes it. A lower layer stays so.
     pub fn layer_lines(&self, alloc: Global, index: usize) -> Result<String, AllocError> {
-        let mut lines = String::new(alloc);
-        if let Some(layer) = self.layers(alloc)?.get(index) {
-            push_layer(alloc, layer, &mut lines)?;
+        let layers = self.layers(alloc)?;
+        let mut lines = Text::new(alloc);
+        if let Some(layer) = layers.get(index) {
+            push_layer(alloc, layer, &mut lines);
         }
-        Ok(lines)
+        lines.end()
     }
+}
+
+// The text of a path whose names these are, the last one first.
+fn path_text(alloc: Global, names: &[Name]) -> Result<Vec<u8>, AllocError> {
+    let mut text = Vec::new(alloc);
+    for name in names.iter().rev() {
+        push_name(&mut text, name.as_slice())?;
+    }
+    Ok(text)
 }
 
 /// The lines of the tree that layers show; none where the root of the upper has no mode.
 pub fn lines_of(alloc: Global, layers: &[PlainLayer<'_>]) -> Result<String, AllocError> {
-    let mut lines = String::new(alloc);
+    let mut lines = Text::new(alloc);
     let options = MountOptions {
         redirects: false,
         metacopy: false,
@@ -186,9 +205,8 @@ pub fn lines_of(alloc: Global, layers: &[PlainLayer<'_>]) -> Result<String, Allo
         file_limit: FILE_LIMIT,
     };
     if let Some(reference) = reference_of(alloc, layers, options)? {
-        let pushed = push_tree(alloc, &reference, &mut lines);
+        push_tree(alloc, &reference, &mut lines);
         drop(reference);
-        pushed?;
     }
-    Ok(lines)
+    lines.end()
 }

@@ -3,7 +3,7 @@ use crate::contents::{attributes_of, content_of};
 use crate::entries::Kind;
 use crate::merged::{Shown, shown_below};
 use crate::plain_layer::PlainLayer;
-use ov_base::Path;
+use ov_base::{Attributes, Content, Path};
 use plain_reference::{Builder, MountOptions, Origin, Reference};
 use std::alloc::{AllocError, Global};
 
@@ -64,13 +64,16 @@ fn put_before<'a>(objects: &'a [Shown<'_>], shown: &Shown<'_>) -> Option<&'a [u8
     if !shown.is_upper {
         return None;
     }
-    let first = objects.iter().find(|other| other.is_upper
-        && other.entry.first == shown.entry.first)?;
-    if first.path.as_slice() == shown.path.as_slice() {
-        None
-    } else {
-        Some(first.path.as_slice())
+    for other in objects {
+        if other.is_upper && other.entry.first == shown.entry.first {
+            return unless_same(other.path.as_slice(), shown.path.as_slice());
+        }
     }
+    None
+}
+
+fn unless_same<'a>(path: &'a [u8], other: &[u8]) -> Option<&'a [u8]> {
+    if path == other { None } else { Some(path) }
 }
 
 fn put_name(
@@ -97,9 +100,26 @@ fn put_object(
     if shown.entry.kind == Kind::Directory {
         return builder.directory(path, attributes, shown.is_base);
     }
-    let Some(content) = content_of(alloc, &shown.entry)? else {
-        return Ok(());
-    };
+    match content_of(alloc, &shown.entry) {
+        Ok(Some(content)) => put_leaf(builder, path, shown, content, attributes),
+        Ok(None) => {
+            drop(attributes);
+            Ok(())
+        }
+        Err(fault) => {
+            drop(attributes);
+            Err(fault)
+        }
+    }
+}
+
+fn put_leaf(
+    builder: &mut Builder,
+    path: &Path,
+    shown: &Shown<'_>,
+    content: Content,
+    attributes: Attributes,
+) -> Result<(), AllocError> {
     let links = u64::from(shown.entry.links);
     if shown.is_upper {
         builder.leaf(path, content, attributes, Origin::Own(false), links)

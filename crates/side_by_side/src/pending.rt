@@ -42,8 +42,16 @@ pub fn started(
     match text.call(alloc)? {
         Err(errno) => Ok(Some(not_taken_line(alloc, client, errno)?)),
         Ok(call) => {
-            drop(mount.begun.insert(client, Begun { call, steps: 0 })?);
-            Ok(Some(String::new(alloc)))
+            match mount.begun.insert(client, Begun { call, steps: 0 }) {
+                Ok(before) => {
+                    drop(before);
+                    Ok(Some(String::new(alloc)))
+                }
+                Err(fault) => {
+                    drop(fault);
+                    Err(AllocError)
+                }
+            }
         }
     }
 }

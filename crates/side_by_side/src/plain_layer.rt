@@ -1,5 +1,6 @@
 // What one layer holds at a whole path, and how it hands the path on.
-use crate::entries::{Entry, Kind, Spelling};
+use crate::entries::{Entry, Kind};
+use crate::list::List;
 use std::alloc::{AllocError, Global};
 use std::cmp::Reverse;
 
@@ -19,54 +20,58 @@ pub struct HandedOn {
 impl<'a> PlainLayer<'a> {
     /// What the layer holds at a path.
     pub fn held(&self, path: &[u8]) -> Option<Entry<'a>> {
-        self.entries
-            .iter()
-            .find(|entry| entry.path == path)
-            .copied()
+        for entry in self.entries.as_slice() {
+            if entry.path == path {
+                return Some(*entry);
+            }
+        }
+        None
     }
 
     /// The root, a directory without marks, as an entry says or else as each layer has it.
     pub fn root(&self) -> Entry<'a> {
         match self.held(&[]) {
-            Some(entry) => Entry {
-                kind: Kind::Directory,
-                opaque: false,
-                redirect: None,
-                ..entry
-            },
-            None => bare_root(),
+            Some(entry) => {
+                let mut root = entry;
+                root.kind = Kind::Directory;
+                root.opaque = false;
+                root.redirect = None;
+                root
+            }
+            None => Entry::bare(&[], Kind::Directory),
         }
     }
 
     /// A layer that holds nothing, with the root of this one.
     pub fn bare(&self, alloc: Global) -> Result<PlainLayer<'a>, AllocError> {
-        let mut entries = Vec::new(alloc);
-        entries.push(self.root())?;
-        Ok(PlainLayer { entries })
+        let mut entries = List::new(alloc);
+        entries.add(self.root());
+        Ok(PlainLayer {
+            entries: entries.end()?,
+        })
     }
 
     /// What it holds in a directory, the last name first.
     pub fn inside(&self, alloc: Global, directory: &[u8]) -> Result<Vec<Entry<'a>>, AllocError> {
-        let mut inside = Vec::new(alloc);
+        let mut inside = List::new(alloc);
         for entry in self.entries.as_slice() {
             if is_inside(entry.path, directory) {
-                inside.push(*entry)?;
+                inside.add(*entry);
             }
         }
-        inside.sort_by_key(|entry| Reverse(entry.path))?;
-        Ok(inside)
+        sorted(inside.end()?)
     }
 
     /// Takes its whiteouts out.
     pub fn take_whiteouts(&mut self, alloc: Global) -> Result<Vec<Entry<'a>>, AllocError> {
-        let mut whiteouts = Vec::new(alloc);
+        let mut whiteouts = List::new(alloc);
         for entry in self.entries.as_slice() {
             if entry.kind == Kind::Whiteout {
-                whiteouts.push(*entry)?;
+                whiteouts.add(*entry);
             }
         }
         self.entries.retain(|entry| entry.kind != Kind::Whiteout);
-        Ok(whiteouts)
+        whiteouts.end()
     }
 
     /// Whether it holds a directory at a path. The root is one.
@@ -80,35 +85,40 @@ impl<'a> PlainLayer<'a> {
     /// How the layer hands a path on, told from the root down: a redirect from the root begins a spelling anew and lifts a cut, one name
     /// stands for another, and whatever is no directory, or an opaque one, cuts.
     pub fn hands_on(&self, alloc: Global, path: &[u8]) -> Result<HandedOn, AllocError> {
-        let mut at = Vec::new(alloc);
         let mut handed = HandedOn {
             spelling: Vec::new(alloc),
             is_cut: false,
         };
+        let spelled = self.hand_names_on(alloc, path, &mut handed);
+        match spelled {
+            Ok(()) => Ok(handed),
+            Err(fault) => {
+                drop(handed);
+                Err(fault)
+            }
+        }
+    }
+
+    fn hand_names_on(
+        &self,
+        alloc: Global,
+        path: &[u8],
+        handed: &mut HandedOn,
+    ) -> Result<(), AllocError> {
+        let mut at = Vec::new(alloc);
         for name in path.split(|byte| *byte == b'/').skip(1) {
             push_name(&mut at, name)?;
-            hand_on(&mut handed, self.held(at.as_slice()), name)?;
+            hand_on(handed, self.held(at.as_slice()), name)?;
         }
-        Ok(handed)
+        Ok(())
     }
 }
 
-// The root of a layer of which no entry says anything.
-fn bare_root<'a>() -> Entry<'a> {
-    Entry {
-        path: &[],
-        first: &[],
-        kind: Kind::Directory,
-        mode: 0o755,
-        uid: 0,
-        gid: 0,
-        user: &[],
-        bytes: Spelling::Zeros(0),
-        links: 1,
-        opaque: false,
-        redirect: None,
-        metacopy: None,
-    }
+// The last path first.
+fn sorted<'a>(entries: Vec<Entry<'a>>) -> Result<Vec<Entry<'a>>, AllocError> {
+    let mut entries = entries;
+    entries.sort_by_key(|entry| Reverse(entry.path))?;
+    Ok(entries)
 }
 
 fn is_inside(path: &[u8], directory: &[u8]) -> bool {
@@ -120,25 +130,34 @@ fn is_inside(path: &[u8], directory: &[u8]) -> bool {
 
 /// The directory of a path, and its last name. None for the root.
 pub fn split_last(path: &[u8]) -> Option<(&[u8], &[u8])> {
-    let slash = path.iter().rposition(|byte| *byte == b'/')?;
-    let name = path.get(slash.saturating_add(1)..)?;
-    Some((path.get(..slash)?, name))
+    let (parent, rest) = path.split_at(last_slash(path).min(path.len()));
+    match rest {
+        [b'/', name @ ..] => Some((parent, name)),
+        _ => None,
+    }
+}
+
+// The place of the last slash, or behind the end.
+fn last_slash(path: &[u8]) -> usize {
+    let mut last = path.len();
+    for (place, byte) in path.iter().enumerate() {
+        if *byte == b'/' {
+            last = place;
+        }
+    }
+    last
 }
 
 // One name on, where the layer holds this there.
 fn hand_on(handed: &mut HandedOn, held: Option<Entry<'_>>, name: &[u8]) -> Result<(), AllocError> {
-    match held {
-        None => {
-            push_name(&mut handed.spelling, name)?;
-        }
-        Some(entry) => {
-            spell(handed, entry.redirect, name)?;
-            if entry.opaque || entry.kind != Kind::Directory {
-                handed.is_cut = true;
-            }
-        }
+    let Some(entry) = held else {
+        return push_name(&mut handed.spelling, name);
+    };
+    let spelled = spell(handed, entry.redirect, name);
+    if entry.opaque || entry.kind != Kind::Directory {
+        handed.is_cut = true;
     }
-    Ok(())
+    spelled
 }
 
 // The spelling of a name whose directory may have a redirect.

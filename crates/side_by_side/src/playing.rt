@@ -45,12 +45,16 @@ fn tree_difference(
     if tree.as_bytes() == wanted {
         Ok(None)
     } else {
-        Ok(Some(differs(alloc, 0, tree.as_str())?))
+        differs(alloc, 0, tree.as_str())
     }
 }
 
-fn differs(alloc: Global, line: u64, found: &str) -> Result<String, AllocError> {
-    format!(in alloc; "the reference answers to line {line}\n{found}")
+fn differs(alloc: Global, line: u64, found: &str) -> Result<Option<String>, AllocError> {
+    Ok(Some(format!(in alloc; "the reference answers to line {line}\n{found}")?))
+}
+
+fn at_line(alloc: Global, line: u64, found: String) -> Result<Option<String>, AllocError> {
+    Ok(Some(format!(in alloc; "line {line}: {found}")?))
 }
 
 // Takes the answers to the lines of the script one by one from those that are wanted.
@@ -69,13 +73,13 @@ fn played_difference(
                 let rest = after_layer(left);
                 let told = left.strip_suffix(rest).unwrap_or(left);
                 if let Some(found) = layer_difference(alloc, mount, index, told)? {
-                    return Ok(Some(format!(in alloc; "line {number}: {found}")?));
+                    return at_line(alloc, number, found);
                 }
                 left = rest;
             }
             Answer::Lines(lines) => match left.strip_prefix(lines.as_bytes()) {
                 Some(rest) => left = rest,
-                None => return Ok(Some(differs(alloc, number, lines.as_str())?)),
+                None => return differs(alloc, number, lines.as_str()),
             },
             Answer::BadCommand => return bad_line_difference(alloc, number, left),
         }
@@ -83,7 +87,7 @@ fn played_difference(
     if left.is_empty() {
         Ok(None)
     } else {
-        Ok(Some(differs(alloc, number, "nothing more")?))
+        differs(alloc, number, "nothing more")
     }
 }
 
@@ -96,7 +100,7 @@ fn bad_line_difference(
     if left == fault.as_bytes() {
         Ok(None)
     } else {
-        Ok(Some(differs(alloc, number, fault.as_str())?))
+        differs(alloc, number, fault.as_str())
     }
 }
 
@@ -150,20 +154,24 @@ fn answer_of(
         return Ok(Answer::BadCommand);
     };
     let lines = match command {
-        Command::Attach => Some(attached(alloc, mount)?),
-        Command::Detach { client } => detached(alloc, mount, client)?,
-        Command::Call { client, call } => called(alloc, mount, client, &call)?,
-        Command::Start { client, call } => started(alloc, mount, client, &call)?,
-        Command::Step { client, steps } => stepped(alloc, mount, client, steps, wanted)?,
-        Command::Drop { client } => dropped(alloc, mount, client)?,
+        Command::Attach => told(attached(alloc, mount)),
+        Command::Detach { client } => detached(alloc, mount, client),
+        Command::Call { client, call } => called(alloc, mount, client, &call),
+        Command::Start { client, call } => started(alloc, mount, client, &call),
+        Command::Step { client, steps } => stepped(alloc, mount, client, steps, wanted),
+        Command::Drop { client } => dropped(alloc, mount, client),
         Command::Layer { index } => return Ok(layer_answer(mount, index as usize)),
-        Command::Merge => Some(mount.merge_lines(alloc)?),
-        Command::Work => Some(counted(alloc, mount, wanted)?),
+        Command::Merge => told(mount.merge_lines(alloc)),
+        Command::Work => told(counted(alloc, mount, wanted)),
     };
-    match lines {
+    match lines? {
         Some(lines) => Ok(Answer::Lines(lines)),
         None => Ok(Answer::BadCommand),
     }
+}
+
+fn told(lines: Result<String, AllocError>) -> Result<Option<String>, AllocError> {
+    Ok(Some(lines?))
 }
 
 fn layer_answer(mount: &PlainMount, index: usize) -> Answer {

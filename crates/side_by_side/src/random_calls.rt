@@ -1,6 +1,6 @@
 // Lines of calls, as dice choose them: names `a` to `d`, three names deep, and user attributes `user.a` to `user.c`.
 use crate::dice::Dice;
-use std::alloc::AllocError;
+use crate::text::Text;
 
 // Words that stand twice are chosen more often.
 const DESCRIPTOR_CALLS: [&str; 16] = [
@@ -91,147 +91,127 @@ const ATTRIBUTES: [&str; 7] = [
 ];
 
 /// Appends the line of an open of one of these clients.
-pub fn push_open_of(
-    dice: &mut Dice,
-    clients: &[&'static str],
-    script: &mut String,
-) -> Result<(), AllocError> {
-    script.push_str(dice.pick(clients))?;
-    push_open(dice, script)?;
-    script.push_str("\n")
+pub fn push_open_of(dice: &mut Dice, clients: &[&'static str], script: &mut Text) {
+    script.add(dice.pick(clients));
+    push_open(dice, script);
+    script.add("\n");
 }
 
 /// Appends the line of any call of one of these clients.
-pub fn push_call(
-    dice: &mut Dice,
-    clients: &[&'static str],
-    script: &mut String,
-) -> Result<(), AllocError> {
-    script.push_str(dice.pick(clients))?;
+pub fn push_call(dice: &mut Dice, clients: &[&'static str], script: &mut Text) {
+    script.add(dice.pick(clients));
     match dice.roll(48) {
-        0..=15 => push_descriptor_call(dice, script)?,
-        16..=21 => push_open(dice, script)?,
-        22..=32 => push_path_call(dice, script)?,
-        33..=36 => push_link(dice, script)?,
-        37..=44 => push_rename(dice, script)?,
-        _ => push_attribute_call(dice, script)?,
+        0..=15 => push_descriptor_call(dice, script),
+        16..=21 => push_open(dice, script),
+        22..=32 => push_path_call(dice, script),
+        33..=36 => push_link(dice, script),
+        37..=44 => push_rename(dice, script),
+        _ => push_attribute_call(dice, script),
     }
-    script.push_str("\n")
-}
-
-/// Appends a word and the space before it.
-pub fn push_word(script: &mut String, word: &str) -> Result<(), AllocError> {
-    script.push_str(" ")?;
-    script.push_str(word)
+    script.add("\n");
 }
 
 /// Appends one of a few words and the space before it.
-pub fn push_one_of(
-    dice: &mut Dice,
-    words: &[&'static str],
-    script: &mut String,
-) -> Result<(), AllocError> {
+pub fn push_one_of(dice: &mut Dice, words: &[&'static str], script: &mut Text) {
     let word = dice.pick(words);
-    push_word(script, word)
+    script.word(word);
 }
 
 // A call of a descriptor.
-fn push_descriptor_call(dice: &mut Dice, script: &mut String) -> Result<(), AllocError> {
+fn push_descriptor_call(dice: &mut Dice, script: &mut Text) {
     let name = dice.pick(&DESCRIPTOR_CALLS);
-    push_word(script, name)?;
-    push_one_of(dice, &DESCRIPTORS, script)?;
+    script.word(name);
+    push_one_of(dice, &DESCRIPTORS, script);
     match name {
         "read" => push_one_of(dice, &COUNTS, script),
         "write" => push_one_of(dice, &DATA, script),
         "seek" => {
-            push_one_of(dice, &OFFSETS, script)?;
-            push_one_of(dice, &["set", "cur", "end"], script)
+            push_one_of(dice, &OFFSETS, script);
+            push_one_of(dice, &["set", "cur", "end"], script);
         }
         "truncate" => push_one_of(dice, &SIZES, script),
         "list" => push_one_of(dice, &["1", "2", "256"], script),
-        _ => Ok(()),
+        _ => {}
     }
 }
 
 // An open of a directory, or one with any flags, and in some lines with a mode.
-fn push_open(dice: &mut Dice, script: &mut String) -> Result<(), AllocError> {
-    push_word(script, "open")?;
+fn push_open(dice: &mut Dice, script: &mut Text) {
+    script.word("open");
     if dice.roll(8) == 0 {
-        push_word(script, "rd")?;
+        script.word("rd");
         return push_one_of(dice, &DIRECTORIES, script);
     }
     if dice.roll(4) == 0 {
-        push_any_flags(dice, script)?;
+        push_any_flags(dice, script);
     } else {
-        push_one_of(dice, &FLAGS, script)?;
+        push_one_of(dice, &FLAGS, script);
     }
     if dice.roll(3) == 0 {
-        push_path(dice, script)?;
+        push_path(dice, script);
     } else {
-        push_one_of(dice, &FILES, script)?;
+        push_one_of(dice, &FILES, script);
     }
     if dice.roll(6) == 0 {
-        push_one_of(dice, &MODES, script)?;
+        push_one_of(dice, &MODES, script);
     }
-    Ok(())
 }
 
 // Flags of which not all go together.
-fn push_any_flags(dice: &mut Dice, script: &mut String) -> Result<(), AllocError> {
-    push_one_of(dice, &["r", "w", "b"], script)?;
+fn push_any_flags(dice: &mut Dice, script: &mut Text) {
+    push_one_of(dice, &["r", "w", "b"], script);
     for flag in [["c", ""], ["x", ""], ["t", ""], ["a", ""], ["d", ""]] {
-        script.push_str(dice.pick(&flag))?;
+        script.add(dice.pick(&flag));
     }
-    Ok(())
 }
 
 // A call of a path, but for opens and the calls on user attributes.
-fn push_path_call(dice: &mut Dice, script: &mut String) -> Result<(), AllocError> {
+fn push_path_call(dice: &mut Dice, script: &mut Text) {
     let name = dice.pick(&PATH_CALLS);
-    push_word(script, name)?;
+    script.word(name);
     match name {
-        "mkdir" | "chmod" => push_one_of(dice, &MODES, script)?,
-        "symlink" => push_one_of(dice, &["t", "a/b"], script)?,
+        "mkdir" | "chmod" => push_one_of(dice, &MODES, script),
+        "symlink" => push_one_of(dice, &["t", "a/b"], script),
         "chown" => {
-            push_one_of(dice, &["0", "7", "4294967295"], script)?;
-            push_one_of(dice, &["0", "8"], script)?;
+            push_one_of(dice, &["0", "7", "4294967295"], script);
+            push_one_of(dice, &["0", "8"], script);
         }
         _ => {}
     }
     if matches!(name, "mkdir" | "rmdir") && dice.roll(2) == 0 {
         return push_one_of(dice, &PLACES, script);
     }
-    push_path(dice, script)
+    push_path(dice, script);
 }
 
 // A link of any path, more often of a file, to any path, more often to one at which the mounts begin with nothing.
-fn push_link(dice: &mut Dice, script: &mut String) -> Result<(), AllocError> {
-    push_word(script, "link")?;
+fn push_link(dice: &mut Dice, script: &mut Text) {
+    script.word("link");
     if dice.roll(4) == 0 {
-        push_path(dice, script)?;
+        push_path(dice, script);
     } else {
-        push_one_of(dice, &FILES, script)?;
+        push_one_of(dice, &FILES, script);
     }
     if dice.roll(3) == 0 {
         return push_path(dice, script);
     }
-    push_one_of(dice, &FREE_NAMES, script)
+    push_one_of(dice, &FREE_NAMES, script);
 }
 
 // A rename of a file, of a directory or of what came to a name that was free. The new path is that of such a name, any other one, or the old
 // path itself or one below it.
-fn push_rename(dice: &mut Dice, script: &mut String) -> Result<(), AllocError> {
-    push_word(script, "rename")?;
+fn push_rename(dice: &mut Dice, script: &mut Text) {
+    script.word("rename");
     let old = match dice.roll(4) {
         0 => dice.pick(&FILES),
         1 => dice.pick(&FREE_NAMES),
         _ => dice.pick(&DIRECTORIES),
     };
-    push_word(script, old)?;
+    script.word(old);
     match dice.roll(8) {
         0 => {
-            push_word(script, old)?;
-            script.push_str(dice.pick(&["", "/a", "/b", "/d"]))
+            script.word(old);
+            script.add(dice.pick(&["", "/a", "/b", "/d"]));
         }
         1 | 2 => push_path(dice, script),
         3 => push_one_of(dice, &DIRECTORIES, script),
@@ -240,28 +220,27 @@ fn push_rename(dice: &mut Dice, script: &mut String) -> Result<(), AllocError> {
 }
 
 // A call on one user attribute.
-fn push_attribute_call(dice: &mut Dice, script: &mut String) -> Result<(), AllocError> {
+fn push_attribute_call(dice: &mut Dice, script: &mut Text) {
     let name = dice.pick(&["setattr", "setattr", "getattr", "delattr"]);
-    push_word(script, name)?;
-    push_path(dice, script)?;
-    push_one_of(dice, &ATTRIBUTES, script)?;
+    script.word(name);
+    push_path(dice, script);
+    push_one_of(dice, &ATTRIBUTES, script);
     if name == "setattr" {
-        push_one_of(dice, &["\\-", "1", "\\xff"], script)?;
+        push_one_of(dice, &["\\-", "1", "\\xff"], script);
     }
-    Ok(())
 }
 
 /// Appends a path of at most three names, of which the first are more often those of directories that a mount begins with.
-pub fn push_path(dice: &mut Dice, script: &mut String) -> Result<(), AllocError> {
-    script.push_str(" ")?;
+pub fn push_path(dice: &mut Dice, script: &mut Text) {
+    script.add(" ");
     let parent = match dice.roll(10) {
-        0 => return script.push_str("/"),
+        0 => return script.add("/"),
         1 | 2 => "",
         3..=6 => dice.pick(&["/a", "/a", "/a", "/b", "/c", "/d"]),
         _ => dice.pick(&[
             "/a/a", "/a/b", "/a/b", "/a/b", "/a/c", "/a/d", "/b/b", "/c/a", "/c/b", "/d/d",
         ]),
     };
-    script.push_str(parent)?;
-    script.push_str(dice.pick(&["/a", "/b", "/c", "/d"]))
+    script.add(parent);
+    script.add(dice.pick(&["/a", "/b", "/c", "/d"]));
 }

@@ -1,7 +1,7 @@
 // Lines of calls on files that are about as long as they may be, as dice choose them.
 use crate::dice::Dice;
-use crate::random_calls::{push_call, push_one_of, push_word};
-use std::alloc::AllocError;
+use crate::random_calls::{push_call, push_one_of};
+use crate::text::Text;
 
 /// The most bytes of a file on a mount.
 #[derive(Clone, Copy)]
@@ -76,25 +76,16 @@ const COUNTS: [&str; 3] = ["1", "5", "100"];
 const LONG: u32 = 5_000;
 
 /// Appends the line of an open of a client, of a file with which the mount began.
-pub fn push_open_at_limit(
-    dice: &mut Dice,
-    client: &str,
-    script: &mut String,
-) -> Result<(), AllocError> {
-    script.push_str(client)?;
-    push_word(script, "open")?;
-    push_one_of(dice, &FLAGS, script)?;
-    push_one_of(dice, &FILES, script)?;
-    script.push_str("\n")
+pub fn push_open_at_limit(dice: &mut Dice, client: &str, script: &mut Text) {
+    script.add(client);
+    script.word("open");
+    push_one_of(dice, &FLAGS, script);
+    push_one_of(dice, &FILES, script);
+    script.add("\n");
 }
 
 /// Appends the line of a call of a client, mostly one that reaches about as far as a file may.
-pub fn push_call_at_limit(
-    dice: &mut Dice,
-    client: &'static str,
-    limit: Limit,
-    script: &mut String,
-) -> Result<(), AllocError> {
+pub fn push_call_at_limit(dice: &mut Dice, client: &'static str, limit: Limit, script: &mut Text) {
     match dice.roll(16) {
         0 => push_call(dice, &[client], script),
         1 | 2 => push_open_at_limit(dice, client, script),
@@ -102,51 +93,40 @@ pub fn push_call_at_limit(
     }
 }
 
-fn push_descriptor_call(
-    dice: &mut Dice,
-    client: &str,
-    limit: Limit,
-    script: &mut String,
-) -> Result<(), AllocError> {
+fn push_descriptor_call(dice: &mut Dice, client: &str, limit: Limit, script: &mut Text) {
     let name = dice.pick(&CALLS);
-    script.push_str(client)?;
-    push_word(script, name)?;
-    push_one_of(dice, &DESCRIPTORS, script)?;
+    script.add(client);
+    script.word(name);
+    push_one_of(dice, &DESCRIPTORS, script);
     match name {
         "seek" => {
-            push_near(dice, &OFFSETS, limit, script)?;
-            push_one_of(dice, &["set", "set", "cur", "end"], script)?;
+            push_near(dice, &OFFSETS, limit, script);
+            push_one_of(dice, &["set", "set", "cur", "end"], script);
         }
-        "truncate" => push_near(dice, &SIZES, limit, script)?,
-        "write" => push_data(dice, script)?,
-        "read" => push_one_of(dice, &COUNTS, script)?,
+        "truncate" => push_near(dice, &SIZES, limit, script),
+        "write" => push_data(dice, script),
+        "read" => push_one_of(dice, &COUNTS, script),
         _ => {}
     }
-    script.push_str("\n")
+    script.add("\n");
 }
 
 // A number near the limit, or another one.
-fn push_near(
-    dice: &mut Dice,
-    others: &[&'static str],
-    limit: Limit,
-    script: &mut String,
-) -> Result<(), AllocError> {
+fn push_near(dice: &mut Dice, others: &[&'static str], limit: Limit, script: &mut Text) {
     if dice.roll(3) == 0 {
-        push_one_of(dice, others, script)
+        push_one_of(dice, others, script);
     } else {
-        push_one_of(dice, &limit.around, script)
+        push_one_of(dice, &limit.around, script);
     }
 }
 
 // The bytes of a write: few, or in one of eight more than two chunks have by half.
-fn push_data(dice: &mut Dice, script: &mut String) -> Result<(), AllocError> {
+fn push_data(dice: &mut Dice, script: &mut Text) {
     if dice.roll(8) > 0 {
         return push_one_of(dice, &DATA, script);
     }
-    push_word(script, "")?;
+    script.word("");
     for _ in 0..LONG {
-        script.push_str("l")?;
+        script.add("l");
     }
-    Ok(())
 }

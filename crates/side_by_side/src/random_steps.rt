@@ -2,7 +2,7 @@
 use crate::dice::Dice;
 use crate::random_calls::{push_call, push_one_of, push_open_of, push_path};
 use crate::random_watches::push_watch_call;
-use std::alloc::AllocError;
+use crate::text::Text;
 
 /// Where the mount begins with files.
 pub const FILES: [&str; 15] = [
@@ -43,15 +43,15 @@ pub fn push_turn(
     client: &'static str,
     is_calling: bool,
     sight: &'static str,
-    line: &mut String,
-) -> Result<(), AllocError> {
+    line: &mut Text,
+) {
     match dice.roll(32) {
-        0 => line.push_str(sight),
-        1 => line.push_str("merge\n"),
-        2 | 3 => line.push_str("work\n"),
+        0 => line.add(sight),
+        1 => line.add("merge\n"),
+        2 | 3 => line.add("work\n"),
         _ if is_calling => {
-            line.push_str(client)?;
-            line.push_str(dice.pick(&STEPS))
+            line.add(client);
+            line.add(dice.pick(&STEPS));
         }
         _ => push_call_of(dice, client, line),
     }
@@ -59,20 +59,16 @@ pub fn push_turn(
 
 // A call that is begun in steps, often one on a file with which the mount began, or one that is
 // made at once.
-fn push_call_of(
-    dice: &mut Dice,
-    client: &'static str,
-    line: &mut String,
-) -> Result<(), AllocError> {
+fn push_call_of(dice: &mut Dice, client: &'static str, line: &mut Text) {
     match dice.roll(16) {
         0..=8 => {
-            line.push_str(client)?;
-            line.push_str(" start")?;
+            line.add(client);
+            line.add(" start");
             push_on_file(dice, line)
         }
         9 | 10 => {
-            line.push_str(client)?;
-            line.push_str(" ")?;
+            line.add(client);
+            line.add(" ");
             push_call(dice, &["start"], line)
         }
         11 => push_watch_call(dice, &[client], line),
@@ -82,35 +78,35 @@ fn push_call_of(
 }
 
 // A call that needs a file in the upper layer, or a place in a directory there.
-fn push_on_file(dice: &mut Dice, line: &mut String) -> Result<(), AllocError> {
+fn push_on_file(dice: &mut Dice, line: &mut Text) {
     match dice.roll(16) {
         0..=7 => {
-            line.push_str(" open")?;
-            push_one_of(dice, &FLAGS, line)?;
-            push_one_of(dice, &FILES, line)?;
+            line.add(" open");
+            push_one_of(dice, &FLAGS, line);
+            push_one_of(dice, &FILES, line);
         }
         8 => {
-            line.push_str(dice.pick(&[" chmod 600", " chown 7 8"]))?;
-            push_one_of(dice, &FILES, line)?;
+            line.add(dice.pick(&[" chmod 600", " chown 7 8"]));
+            push_one_of(dice, &FILES, line);
         }
         9 => {
-            line.push_str(" setattr")?;
-            push_one_of(dice, &FILES, line)?;
-            line.push_str(" user.a 2")?;
+            line.add(" setattr");
+            push_one_of(dice, &FILES, line);
+            line.add(" user.a 2");
         }
         10 => {
-            line.push_str(dice.pick(&[" mkdir 755", " symlink t"]))?;
-            push_one_of(dice, &PLACES, line)?;
+            line.add(dice.pick(&[" mkdir 755", " symlink t"]));
+            push_one_of(dice, &PLACES, line);
         }
         11 => {
-            line.push_str(dice.pick(&[" unlink", " rmdir", " open wc"]))?;
-            push_path(dice, line)?;
+            line.add(dice.pick(&[" unlink", " rmdir", " open wc"]));
+            push_path(dice, line);
         }
         _ => {
-            line.push_str(dice.pick(&[" rename", " link"]))?;
-            push_one_of(dice, &FILES, line)?;
-            push_one_of(dice, &PLACES, line)?;
+            line.add(dice.pick(&[" rename", " link"]));
+            push_one_of(dice, &FILES, line);
+            push_one_of(dice, &PLACES, line);
         }
     }
-    line.push_str("\n")
+    line.add("\n");
 }

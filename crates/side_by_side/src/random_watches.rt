@@ -1,7 +1,7 @@
 // Lines of calls on watches, as dice choose them.
 use crate::dice::Dice;
-use crate::random_calls::{DIRECTORIES, FILES, push_one_of, push_path, push_word};
-use std::alloc::AllocError;
+use crate::random_calls::{DIRECTORIES, FILES, push_one_of, push_path};
+use crate::text::Text;
 
 // By slots of each tag; the last two have no hook.
 const SLOTS: [&str; 20] = [
@@ -20,44 +20,36 @@ const WATCHES: [&str; 8] = ["1", "1", "2", "2", "3", "4", "0", "2147483647"];
 const COUNTS: [&str; 6] = ["0", "1", "3", "9", "65", "66"];
 
 /// Appends the line of an arm of one of these clients.
-pub fn push_arm_of(
-    dice: &mut Dice,
-    clients: &[&'static str],
-    script: &mut String,
-) -> Result<(), AllocError> {
-    script.push_str(dice.pick(clients))?;
-    push_arm(dice, script)?;
-    script.push_str("\n")
+pub fn push_arm_of(dice: &mut Dice, clients: &[&'static str], script: &mut Text) {
+    script.add(dice.pick(clients));
+    push_arm(dice, script);
+    script.add("\n");
 }
 
 /// Appends the line of any call on watches of one of these clients.
-pub fn push_watch_call(
-    dice: &mut Dice,
-    clients: &[&'static str],
-    script: &mut String,
-) -> Result<(), AllocError> {
-    script.push_str(dice.pick(clients))?;
+pub fn push_watch_call(dice: &mut Dice, clients: &[&'static str], script: &mut Text) {
+    script.add(dice.pick(clients));
     match dice.roll(8) {
-        0..=3 => push_arm(dice, script)?,
+        0..=3 => push_arm(dice, script),
         4 => {
-            push_word(script, "disarm")?;
-            push_one_of(dice, &WATCHES, script)?;
+            script.word("disarm");
+            push_one_of(dice, &WATCHES, script);
         }
         _ => {
-            push_word(script, "notices")?;
-            push_one_of(dice, &COUNTS, script)?;
+            script.word("notices");
+            push_one_of(dice, &COUNTS, script);
         }
     }
-    script.push_str("\n")
+    script.add("\n");
 }
 
 // An arm of the root, of a directory, of a file or of any path.
-fn push_arm(dice: &mut Dice, script: &mut String) -> Result<(), AllocError> {
-    push_word(script, "arm")?;
-    push_one_of(dice, &SLOTS, script)?;
-    push_one_of(dice, &MASKS, script)?;
+fn push_arm(dice: &mut Dice, script: &mut Text) {
+    script.word("arm");
+    push_one_of(dice, &SLOTS, script);
+    push_one_of(dice, &MASKS, script);
     match dice.roll(8) {
-        0 => push_word(script, "/"),
+        0 => script.word("/"),
         1..=3 => push_one_of(dice, &DIRECTORIES, script),
         4 | 5 => push_one_of(dice, &FILES, script),
         _ => push_path(dice, script),

@@ -8,7 +8,7 @@ use crate::shared_mount::SharedMount;
 use crate::told::Told;
 use locked_history::{Blank, Deed, Mount, MountName, Open, Receipt, Refused, Session};
 use ov_base::{Call, Errno};
-use std::alloc::{AllocError, Global};
+use std::alloc::Global;
 use std::sync::Wait;
 use watch_table::{Callback, Hook, Rule};
 
@@ -29,7 +29,7 @@ pub fn recorded_play<N: MountName, F: Callback + Copy, R: Rule, H: Wait>(
     script: &[u8],
     hooks: &[Hook<F, R>],
     told: &mut Told,
-) -> Result<bool, AllocError>
+) -> bool
     requires { IsNamed N.cells N.name N.parts N.opening blank }
 {
     let mut played = RecordedMount {
@@ -48,7 +48,10 @@ pub fn recorded_play<N: MountName, F: Callback + Copy, R: Rule, H: Wait>(
     let deeds = receipts.len();
     let (past, left) = mount.finish(receipts);
     let is_whole = past.len() == deeds && left.is_empty();
-    told.end(alloc, past.core(), script, stop, is_whole)
+    drop(left);
+    let told = told.end(alloc, past.core(), script, stop, is_whole);
+    drop(past);
+    told
 }
 
 impl<N: MountName, F: Callback + Copy, R: Rule> SharedMount for RecordedMount<'_, N, F, R> {

@@ -50,7 +50,7 @@ pub fn told_by<H: Wait>(
             (manifest, script),
             hooks.as_slice(),
             &mut told,
-        )? {
+        ) {
             break;
         }
     }
@@ -65,7 +65,8 @@ pub fn endless_difference<H: Wait>(
     script: Option<&[u8]>,
     wanted: &[u8],
 ) -> Result<Option<String>, AllocError> {
-    let found = told_by(rt, (alloc, keys), Keeps::Nothing, manifest, script)?.text;
+    let told = told_by(rt, (alloc, keys), Keeps::Nothing, manifest, script)?;
+    let found = told.into_text()?;
     if found.as_bytes() == wanted {
         return Ok(None);
     }
@@ -81,14 +82,19 @@ fn goes_on<F: Callback + Copy, R: Rule, H: Wait>(
     (manifest, script): (&[u8], &[u8]),
     hooks: &[Hook<F, R>],
     told: &mut Told,
-) -> Result<bool, AllocError> {
-    let Some(core) = core_of::<F, R>(alloc, keys, manifest, places_for(script))? else {
-        return told.end_without_mount();
+) -> bool {
+    let core = match core_of::<F, R>(alloc, keys, manifest, places_for(script)) {
+        Ok(Some(core)) => core,
+        Ok(None) => return told.end_without_mount(),
+        Err(_) => return told.end_without_memory(),
     };
     match keeps {
         Keeps::Entries => match locked_history::Blank::new(alloc, core) {
             Ok(blank) => recorded_play::<Brand, F, R, H>(rt, alloc, blank, script, hooks, told),
-            Err(_) => told.end_without_mount(),
+            Err(core) => {
+                drop(core);
+                told.end_without_mount()
+            }
         },
         Keeps::Nothing => {
             let blank = endless_mount::Blank::new(alloc, core);
@@ -114,13 +120,21 @@ fn core_of<F: Callback + Drop, R: Rule>(
     ensures { IfOk result (λ made. IfSome made (λ core. core_finished core ≡ 0)) }
 {
     let blobs = all_blobs(alloc)?;
-    let Ok(table) = table_of(alloc, manifest) else {
-        return Ok(None);
+    let table = match table_of(alloc, manifest) {
+        Ok(table) => table,
+        Err(fault) => {
+            drop(fault);
+            return Ok(None);
+        }
     };
     let layers = layers_of(alloc, keys, &table, blobs.as_slice());
     drop(table);
-    let Ok((upper, lowers, options)) = layers else {
-        return Ok(None);
+    let (upper, lowers, options) = match layers {
+        Ok(layers) => layers,
+        Err(fault) => {
+            drop(fault);
+            return Ok(None);
+        }
     };
     let options = Options {
         history: options.history.min(places),
@@ -128,6 +142,9 @@ fn core_of<F: Callback + Drop, R: Rule>(
     };
     match Core::mount(alloc, keys, upper, lowers, options) {
         Ok(core) => Ok(Some(core)),
-        Err(_) => Ok(None),
+        Err(unmounted) => {
+            drop(unmounted);
+            Ok(None)
+        }
     }
 }

@@ -1,9 +1,10 @@
 // What a script asks of a mount beside calls, and where its text ends.
 use crate::kept_trees::KeptLayer;
+use crate::text::Text;
 use crate::tree_lines::push_tree;
 use ov_script::{Command, command_of};
 use overlay_core::Core;
-use std::alloc::{AllocError, Global};
+use std::alloc::Global;
 use watch_table::{Callback, Rule};
 
 /// What is seen of a mount: the layer of a number, or the merged tree.
@@ -28,12 +29,12 @@ impl Sight {
         self,
         alloc: Global,
         core: &Core<F, R>,
-        lines: &mut String,
-    ) -> Result<bool, AllocError> {
+        lines: &mut Text,
+    ) -> bool {
         let layers = core.layers();
         match self {
-            Sight::Layer(0) if !core.has_upper() => return Ok(false),
-            Sight::Tree => push_tree(alloc, layers, lines)?,
+            Sight::Layer(0) if !core.has_upper() => return false,
+            Sight::Tree => push_tree(alloc, layers, lines),
             Sight::Layer(index) => match layers.layer(index) {
                 Some(layer) => {
                     let kept = KeptLayer {
@@ -41,11 +42,11 @@ impl Sight {
                         index,
                         layer,
                     };
-                    push_tree(alloc, &kept, lines)?;
+                    push_tree(alloc, &kept, lines);
                 }
-                None => return Ok(false),
+                None => return false,
             },
         }
-        Ok(true)
+        true
     }
 }

@@ -53,13 +53,13 @@ impl<F: Callback + Copy, R: Rule> Stepper<F, R> {
         command: &Command<'_>,
     ) -> Result<(), AllocError> {
         match command {
-            Command::Attach => self.attach(alloc, hooks)?,
-            Command::Detach { client } => self.detach(*client),
+            Command::Attach => return self.attach(alloc, hooks),
+            Command::Start { client, call } => return self.start(alloc, *client, call),
             Command::Call { client, call } => {
                 self.start(alloc, *client, call)?;
                 self.step(*client, u64::MAX);
             }
-            Command::Start { client, call } => self.start(alloc, *client, call)?,
+            Command::Detach { client } => self.detach(*client),
             Command::Step { client, steps } => self.step(*client, *steps),
             Command::Drop { client } => self.drop_call(*client),
             Command::Layer { .. } | Command::Merge | Command::Work => {}
@@ -72,7 +72,7 @@ impl<F: Callback + Copy, R: Rule> Stepper<F, R> {
             return Ok(());
         }
         let copies = copies_of(alloc, hooks)?;
-        let _ = self.core.attach(copies);
+        drop(self.core.attach(copies));
         Ok(())
     }
 
@@ -82,7 +82,7 @@ impl<F: Callback + Copy, R: Rule> Stepper<F, R> {
         if self.core.finished() >= DEEDS_MOST || !self.core.is_attached(client) {
             return;
         }
-        let _ = self.core.detach(client);
+        drop(self.core.detach(client));
     }
 
     fn start(&mut self, alloc: Global, client: u32, text: &CallText<'_>) -> Result<(), AllocError> {
@@ -147,7 +147,12 @@ fn goes_on<F: Callback, R: Rule>(core: &mut Core<F, R>, job: &mut Job) -> bool {
         return false;
     }
     match job.standing() {
-        Standing::Open => matches!(core.advance(job), Turn::More),
+        Standing::Open => {
+            let turn = core.advance(job);
+            let has_more = matches!(&turn, Turn::More);
+            drop(turn);
+            has_more
+        }
         Standing::Answered | Standing::GivenUp => false,
     }
 }

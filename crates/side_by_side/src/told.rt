@@ -4,6 +4,7 @@
 use crate::shared_clients::{Answer, Clients, is_silent};
 use crate::shared_mount::SharedMount;
 use crate::sights::sight_of;
+use crate::text::Text;
 use overlay_core::Core;
 use std::alloc::{AllocError, Global};
 use std::sync::Wait;
@@ -12,7 +13,7 @@ use watch_table::{Callback, Rule};
 /// What a script's lines came to, up to one of them.
 #[derive(Drop)]
 pub struct Told {
-    pub text: String,
+    text: Text,
     /// Whether the history had no place for what one of them asks for.
     pub is_full: bool,
     lines: u64,
@@ -25,13 +26,14 @@ pub enum Stop {
     /// At a line that asks for a layer or the tree.
     Asks,
     BadCommand,
+    NoMemory,
 }
 
 impl Told {
     /// Nothing is told yet.
     pub fn new(alloc: Global) -> Told {
         Told {
-            text: String::new(alloc),
+            text: Text::new(alloc),
             is_full: false,
             lines: 0,
         }
@@ -45,27 +47,37 @@ impl Told {
         alloc: Global,
         mount: &mut M,
         script: &[u8],
-    ) -> Result<Stop, AllocError> {
+    ) -> Stop {
         let mut clients = Clients::new(alloc);
         let mut number = 0u64;
         for line in script.split(|byte| *byte == b'\n') {
             number = number.saturating_add(1);
-            let answer = clients.answer(rt, alloc, mount, line)?;
+            let Ok(answer) = clients.answer(rt, alloc, mount, line) else {
+                return Stop::NoMemory;
+            };
             if number <= self.lines {
                 continue;
             }
-            match answer {
-                Answer::Lines(lines) => self.text.push_str(lines.as_str())?,
-                Answer::NoPlace(lines) => {
-                    self.is_full = true;
-                    self.text.push_str(lines.as_str())?;
-                }
-                Answer::Asks => return Ok(Stop::Asks),
-                Answer::BadCommand => return Ok(Stop::BadCommand),
+            if let Some(stop) = self.tell(answer) {
+                return stop;
             }
             self.lines = number;
         }
-        Ok(Stop::End)
+        Stop::End
+    }
+
+    // Tells what a line answers, or why the play ends there.
+    fn tell(&mut self, answer: Answer) -> Option<Stop> {
+        match answer {
+            Answer::Lines(lines) => self.text.add(lines.as_str()),
+            Answer::NoPlace(lines) => {
+                self.is_full = true;
+                self.text.add(lines.as_str());
+            }
+            Answer::Asks => return Some(Stop::Asks),
+            Answer::BadCommand => return Some(Stop::BadCommand),
+        }
+        None
     }
 
     /// Tells what the mount came to where its play ended; false where nothing is left to tell.
@@ -74,18 +86,18 @@ impl Told {
         alloc: Global,
         core: &Core<F, R>,
         script: &[u8],
-        stop: Result<Stop, AllocError>,
+        stop: Stop,
         is_whole: bool,
-    ) -> Result<bool, AllocError> {
-        let stop = stop?;
+    ) -> bool {
         if !is_whole {
-            self.text.push_str("the history has not what was done\n")?;
-            return Ok(false);
+            self.text.add("the history has not what was done\n");
+            return false;
         }
         match stop {
-            Stop::End => Ok(false),
+            Stop::End => false,
             Stop::Asks => self.tell_sights(alloc, core, script),
             Stop::BadCommand => self.tell_fault(alloc),
+            Stop::NoMemory => self.end_without_memory(),
         }
     }
 
@@ -96,7 +108,7 @@ impl Told {
         alloc: Global,
         core: &Core<F, R>,
         script: &[u8],
-    ) -> Result<bool, AllocError> {
+    ) -> bool {
         let mut number = 0u64;
         for line in script.split(|byte| *byte == b'\n') {
             number = number.saturating_add(1);
@@ -105,28 +117,44 @@ impl Told {
             }
             if !is_silent(line) {
                 let Some(sight) = sight_of(line) else {
-                    return Ok(true);
+                    return true;
                 };
-                if !sight.push_lines(alloc, core, &mut self.text)? {
+                if !sight.push_lines(alloc, core, &mut self.text) {
                     return self.tell_fault(alloc);
                 }
             }
             self.lines = number;
         }
-        Ok(false)
+        false
     }
 
     // The next line is at fault, and nothing is told behind it.
-    fn tell_fault(&mut self, alloc: Global) -> Result<bool, AllocError> {
+    fn tell_fault(&mut self, alloc: Global) -> bool {
         let line = self.lines.saturating_add(1);
-        let fault = format!(in alloc; "line {line}: bad command\n")?;
-        self.text.push_str(fault.as_str())?;
-        Ok(false)
+        self.text
+            .put(format!(in alloc; "line {line}: bad command\n"));
+        false
     }
 
     /// Tells that there is no mount.
-    pub fn end_without_mount(&mut self) -> Result<bool, AllocError> {
-        self.text.push_str("no mount\n")?;
-        Ok(false)
+    pub fn end_without_mount(&mut self) -> bool {
+        self.text.add("no mount\n");
+        false
+    }
+
+    /// Notes that there was no memory for the rest.
+    pub fn end_without_memory(&mut self) -> bool {
+        self.text.note(Err(AllocError));
+        false
+    }
+
+    /// All that was told, if there was memory for it.
+    pub fn into_text(self) -> Result<String, AllocError> {
+        let Told {
+            text,
+            is_full: _,
+            lines: _,
+        } = self;
+        text.end()
     }
 }

@@ -1,10 +1,13 @@
 // What is against the lines that the engine prints of a layer.
 use crate::contents::size_of;
+use crate::entries::Entry;
 use crate::layer_lines::push_layer;
+use crate::list::List;
 use crate::merged::{needless_whiteout, size_shown};
 use crate::mount::{PlainMount, lines_of};
 use crate::plain_layer::PlainLayer;
-use crate::told_entries::told_in;
+use crate::text::Text;
+use crate::told_entries::{Told, told_in};
 use ov_script::Escaped;
 use std::alloc::{AllocError, Global};
 
@@ -36,24 +39,58 @@ fn upper_difference(
 ) -> Result<Option<String>, AllocError> {
     let text = String::from_utf8_lossy(alloc, told)?;
     let list = told_in(alloc, text.as_str())?;
-    let mut entries = Vec::new(alloc);
-    for told in list.as_slice() {
-        entries.push(told.entry())?;
+    let entries = entries_of(alloc, list.as_slice())?;
+    told_difference(alloc, mount, told, PlainLayer { entries })
+}
+
+fn entries_of<'a>(alloc: Global, list: &'a [Told<'a>]) -> Result<Vec<Entry<'a>>, AllocError> {
+    let mut entries: List<Entry<'a>> = List::new(alloc);
+    for told in list {
+        entries.add(told.entry());
     }
-    let upper = PlainLayer { entries };
-    let mut lines = String::new(alloc);
-    push_layer(alloc, &upper, &mut lines)?;
-    if lines.as_bytes() != told {
-        return Ok(Some(format!(in alloc; "these are no layer's lines\n{text}")?));
+    entries.end()
+}
+
+// The same of the upper that the lines tell.
+fn told_difference(
+    alloc: Global,
+    mount: &PlainMount,
+    told: &[u8],
+    upper: PlainLayer<'_>,
+) -> Result<Option<String>, AllocError> {
+    if !has_lines(alloc, &upper, told)? {
+        return no_layer(alloc, told);
     }
     let mut layers = mount.layers_below(alloc, upper)?;
-    if let Some(found) = mark_difference(alloc, mount, layers.as_slice())? {
+    let found = layers_difference(alloc, mount, layers.as_mut_slice());
+    drop(layers);
+    found
+}
+
+fn no_layer(alloc: Global, told: &[u8]) -> Result<Option<String>, AllocError> {
+    let text = String::from_utf8_lossy(alloc, told)?;
+    Ok(Some(format!(in alloc; "these are no layer's lines\n{text}")?))
+}
+
+fn has_lines(alloc: Global, upper: &PlainLayer<'_>, told: &[u8]) -> Result<bool, AllocError> {
+    let mut lines = Text::new(alloc);
+    push_layer(alloc, upper, &mut lines);
+    let lines = lines.end()?;
+    Ok(lines.as_bytes() == told)
+}
+
+fn layers_difference(
+    alloc: Global,
+    mount: &PlainMount,
+    layers: &mut [PlainLayer<'_>],
+) -> Result<Option<String>, AllocError> {
+    if let Some(found) = mark_difference(alloc, mount, layers)? {
         return Ok(Some(found));
     }
-    match shown_difference(alloc, mount, layers.as_slice())? {
-        Some(found) => Ok(Some(found)),
-        None => whiteout_difference(alloc, mount, layers.as_mut_slice()),
+    if let Some(found) = shown_difference(alloc, mount, layers)? {
+        return Ok(Some(found));
     }
+    whiteout_difference(alloc, mount, layers)
 }
 
 // What stands in the upper without bytes of its own is marked by the path that the reference tells, and all else by none; it has the size
@@ -68,19 +105,51 @@ fn mark_difference(
         return Ok(None);
     };
     for entry in upper.entries.as_slice() {
-        let wanted = mount.mark_at(alloc, first, entry.path)?;
-        if entry.metacopy != wanted.as_ref().map(|path| path.as_slice()) {
-            let path = Escaped(entry.path);
-            return Ok(Some(format!(in alloc; "another mark is at {path}\n")?));
-        }
-        if let Some(mark) = entry.metacopy {
-            if size_shown(alloc, lowers, mark)? != Some(size_of(entry.bytes)) {
-                let mark = Escaped(mark);
-                return Ok(Some(format!(in alloc; "no such file is below the mark {mark}\n")?));
-            }
+        if let Some(found) = entry_difference(alloc, mount, (first, lowers), entry)? {
+            return Ok(Some(found));
         }
     }
     Ok(None)
+}
+
+// The same of one entry, where the upper began with this layer.
+fn entry_difference(
+    alloc: Global,
+    mount: &PlainMount,
+    (first, lowers): (&PlainLayer<'_>, &[PlainLayer<'_>]),
+    entry: &Entry<'_>,
+) -> Result<Option<String>, AllocError> {
+    if !has_mark(alloc, mount, first, entry)? {
+        return told_path(alloc, "another mark is at ", entry.path);
+    }
+    let Some(mark) = entry.metacopy else {
+        return Ok(None);
+    };
+    if size_shown(alloc, lowers, mark)? == Some(size_of(entry.bytes)) {
+        return Ok(None);
+    }
+    told_path(alloc, "no such file is below the mark ", mark)
+}
+
+// Whether an entry has the mark that the reference tells.
+fn has_mark(
+    alloc: Global,
+    mount: &PlainMount,
+    first: &PlainLayer<'_>,
+    entry: &Entry<'_>,
+) -> Result<bool, AllocError> {
+    let wanted = mount.mark_at(alloc, first, entry.path)?;
+    Ok(match (&wanted, entry.metacopy) {
+        (Some(wanted), Some(mark)) => wanted.as_slice() == mark,
+        (None, None) => true,
+        _ => false,
+    })
+}
+
+// A line that ends with a path.
+fn told_path(alloc: Global, line: &str, path: &[u8]) -> Result<Option<String>, AllocError> {
+    let path = Escaped(path);
+    Ok(Some(format!(in alloc; "{line}{path}\n")?))
 }
 
 fn shown_difference(
@@ -111,6 +180,5 @@ fn whiteout_difference(
     if needless_whiteout(alloc, layers.as_mut_slice())?.is_some() {
         return Ok(None);
     }
-    let path = Escaped(path);
-    Ok(Some(format!(in alloc; "a whiteout hides nothing at {path}\n")?))
+    told_path(alloc, "a whiteout hides nothing at ", path)
 }

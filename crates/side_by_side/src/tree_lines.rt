@@ -1,5 +1,6 @@
 // The object lines of trees, as that of the slow reference.
-use ov_base::{NameList, ObjectKind, Path, Reply, Stat};
+use crate::text::Text;
+use ov_base::{Name, NameList, ObjectKind, Path, Reply, Stat};
 use ov_script::{Escaped, StatWords};
 use plain_reference::Reference;
 use std::alloc::{AllocError, Global};
@@ -10,28 +11,26 @@ const OBJECTS_MOST: u32 = 1_000_000;
 /// A tree that can be told, object by object.
 pub trait Tree {
     /// Appends the line of what stands at a path, if anything does.
-    fn push_object(&self, alloc: Global, path: &Path, lines: &mut String) -> Result<(), AllocError>;
+    fn push_object(&self, alloc: Global, path: &Path, lines: &mut Text);
 
     /// The names in the directory at a path, in the order of their bytes; elsewhere none.
     fn names_at(&self, alloc: Global, path: &Path) -> Result<NameList, AllocError>;
 }
 
 impl Tree for Reference {
-    fn push_object(
-        &self,
-        alloc: Global,
-        path: &Path,
-        lines: &mut String,
-    ) -> Result<(), AllocError> {
-        if let Reply::Status(stat) = self.status(path)? {
-            push_words(alloc, stat, lines)?;
-            push_path(alloc, path, lines)?;
-            if stat.kind == ObjectKind::SymbolicLink {
-                push_target(alloc, self.content(path)?.as_slice(), lines)?;
+    fn push_object(&self, alloc: Global, path: &Path, lines: &mut Text) {
+        match status_at(self, path) {
+            Ok(Some(stat)) => {
+                push_words(alloc, stat, lines);
+                push_path(alloc, path, lines);
+                if stat.kind == ObjectKind::SymbolicLink {
+                    push_link(alloc, self, path, lines);
+                }
+                lines.add("\n");
             }
-            lines.push_str("\n")?;
+            Ok(None) => {}
+            Err(fault) => lines.note(Err(fault)),
         }
-        Ok(())
     }
 
     fn names_at(&self, _alloc: Global, path: &Path) -> Result<NameList, AllocError> {
@@ -39,64 +38,91 @@ impl Tree for Reference {
     }
 }
 
+// The status of what the reference has at a path, if anything.
+fn status_at(reference: &Reference, path: &Path) -> Result<Option<Stat>, AllocError> {
+    let reply = reference.status(path)?;
+    let status = match &reply {
+        Reply::Status(stat) => Some(*stat),
+        _ => None,
+    };
+    drop(reply);
+    Ok(status)
+}
+
+// Appends the target of the symbolic link at a path.
+fn push_link(alloc: Global, reference: &Reference, path: &Path, lines: &mut Text) {
+    match reference.content(path) {
+        Ok(target) => push_target(alloc, target.as_slice(), lines),
+        Err(fault) => lines.note(Err(fault)),
+    }
+}
+
 /// Appends the lines of the tree, depth first, each directory before what is in it, names in the order of their bytes.
-pub fn push_tree<T: Tree>(alloc: Global, tree: &T, lines: &mut String) -> Result<(), AllocError> {
+pub fn push_tree<T: Tree>(alloc: Global, tree: &T, lines: &mut Text) {
     let mut left = Vec::new(alloc);
-    left.push(Path::root(alloc))?;
+    lines.note(push_child(Path::root(alloc), &mut left));
     for _ in 0..OBJECTS_MOST {
         let Some(path) = left.pop() else {
             break;
         };
-        tree.push_object(alloc, &path, lines)?;
-        let names = tree.names_at(alloc, &path)?;
-        push_children(alloc, &path, &names, &mut left)?;
+        tree.push_object(alloc, &path, lines);
+        lines.note(push_children(alloc, tree, &path, &mut left));
     }
-    Ok(())
 }
 
 // Puts the paths of the names in a directory on the pile, the first name on top.
-fn push_children(
+fn push_children<T: Tree>(
     alloc: Global,
+    tree: &T,
     directory: &Path,
-    names: &NameList,
     left: &mut Vec<Path>,
 ) -> Result<(), AllocError> {
+    let names = tree.names_at(alloc, directory)?;
     for name in names.as_slice().iter().rev() {
-        let mut path = copy_of(alloc, directory)?;
-        path.push(name.clone()?)?;
-        left.push(path)?;
+        push_child(child_of(alloc, directory, name)?, left)?;
     }
     Ok(())
 }
 
-fn copy_of(alloc: Global, path: &Path) -> Result<Path, AllocError> {
-    let mut copy = Path::root(alloc);
-    for name in path.names() {
-        copy.push(name.clone()?)?;
+fn push_child(path: Path, left: &mut Vec<Path>) -> Result<(), AllocError> {
+    left.push(path)?;
+    Ok(())
+}
+
+// The path of a name in a directory.
+fn child_of(alloc: Global, directory: &Path, last: &Name) -> Result<Path, AllocError> {
+    let mut path = Path::root(alloc);
+    for name in directory.names() {
+        path.push(name.clone()?)?;
     }
-    Ok(copy)
+    path.push(last.clone()?)?;
+    Ok(path)
 }
 
 /// Appends the words of an object line before its path, and a space.
-pub fn push_words(alloc: Global, stat: Stat, lines: &mut String) -> Result<(), AllocError> {
+pub fn push_words(alloc: Global, stat: Stat, lines: &mut Text) {
     let words = StatWords(stat);
-    lines.push_str(format!(in alloc; "{words} ")?.as_str())
+    lines.put(format!(in alloc; "{words} "));
 }
 
 /// Appends a path as lines have it.
-pub fn push_path(alloc: Global, path: &Path, lines: &mut String) -> Result<(), AllocError> {
+pub fn push_path(alloc: Global, path: &Path, lines: &mut Text) {
     if path.names().is_empty() {
-        lines.push_str("/")?;
+        lines.add("/");
     }
     for name in path.names() {
-        let name = Escaped(name.as_slice());
-        lines.push_str(format!(in alloc; "/{name}")?.as_str())?;
+        push_escaped(alloc, "/", name.as_slice(), lines);
     }
-    Ok(())
 }
 
 /// Appends the target of a symbolic link.
-pub fn push_target(alloc: Global, target: &[u8], lines: &mut String) -> Result<(), AllocError> {
-    let target = Escaped(target);
-    lines.push_str(format!(in alloc; " -> {target}")?.as_str())
+pub fn push_target(alloc: Global, target: &[u8], lines: &mut Text) {
+    push_escaped(alloc, " -> ", target, lines);
+}
+
+/// Appends bytes as lines have them, behind a mark.
+pub fn push_escaped(alloc: Global, mark: &str, bytes: &[u8], lines: &mut Text) {
+    let escaped = Escaped(bytes);
+    lines.add(mark);
+    lines.put(format!(in alloc; "{escaped}"));
 }

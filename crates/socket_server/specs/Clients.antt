@@ -13,10 +13,6 @@ use Rattle.mount_door.specs.GoingOn.{IsReply}
 abbrev pub MayStop : Bool → ℕ → ℕ → Type 0
 MayStop closes client step = closes ≡ true
 
--- whether a session is its client's stands under the mount's lock, so a mount may refuse any
-abbrev pub MayRefuse : ℕ → ℕ → Type 0
-MayRefuse client number = Unit {0}
-
 -- where a client stands that was just attached
 abbrev pub beginning : ℕ → Claim → Standing
 beginning client came = record {
@@ -46,7 +42,7 @@ pub record IsClient (tags : List ℕ) (closes gone : Bool) (receipts : List Clai
   pub told : List Exchange
   pub farewell : Answer
   pub left : Standing
-  pub went : Advances (MayStop closes) MayRefuse (beginning client came) (told ++ Departed farewell ∷ []) left
+  pub went : Advances (MayStop closes) (beginning client came) (told ++ Departed farewell ∷ []) left
   pub detached : gone ≡ true → IsReply farewell
   pub all : left.receipts ≡ receipts
 

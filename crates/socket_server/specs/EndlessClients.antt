@@ -9,7 +9,7 @@ use Rattle.locked_history.specs.Claims.{IsAttachOf}
 use Rattle.locked_history.specs.declared.entry.Entry.{Entry}
 use Rattle.mount_door.specs.GoingOn.{IsReply}
 use Rattle.endless_door.specs.Advancing.{Advances, Standing}
-use Rattle.socket_server.specs.Clients.{MayRefuse, MayStop}
+use Rattle.socket_server.specs.Clients.{MayStop}
 
 -- where a client stands that was just attached
 abbrev pub beginning : ℕ → List Entry → Standing
@@ -35,7 +35,7 @@ pub record IsClient (tags : List ℕ) (closes gone : Bool) (place : ℕ) (left :
   pub attached : IsSomeAnd (slice_get first place) (λ entry. IsAttachOf entry client tags)
   pub told : List Exchange
   pub farewell : Answer
-  pub went : Advances (MayStop closes) MayRefuse (beginning client first) (told ++ Departed farewell ∷ []) left
+  pub went : Advances (MayStop closes) (beginning client first) (told ++ Departed farewell ∷ []) left
   pub detached : gone ≡ true → IsReply farewell
 
 -- a client that was attached at a place of this front, and what it saw begins that

@@ -29,7 +29,8 @@ receipts_in worked = flat_map (λ receipts. receipts.items) worked.kept.items
 
 -- what a worker keeps is of as many clients as it served, each of which was detached where the worker
 -- didn't fail; where it wasn't stopped either, it took as many connections as it was to, without a
--- number 2^64 - 1, and each had a client or was refused one
+-- number 2^64 - 1, and each had a client or was refused one. A connection that is turned away, since
+-- no worker is free, is never a worker's
 pub record IsWork {K : Type 0} (keeps : Bool → ℕ → K → Type 0) (sessions : Option ℕ) (worked : Worked K) : Type 0 where
   pub clients : keeps (not worked.failed) worked.tally.served worked.kept
   pub all : worked.failed ≡ false → worked.stopped ≡ false →

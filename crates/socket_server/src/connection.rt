@@ -10,11 +10,12 @@ use std::os::unix::net::{UnixListener, UnixStream};
 use std::sync::atomic::{AtomicBool, Ordering};
 use std::time::Duration;
 
-/// A connection that was taken, its number, and whether a read or a write of it waited too long. It
-/// is made by taking it alone.
+/// A connection that was taken, its number, after how many seconds it ends that is idle, and whether
+/// a read or a write of it waited too long. It is made by taking it alone.
 #[derive(Drop)]
 pub(crate) struct Connection {
     pub(crate) number: u64,
+    pub(crate) idle: Option<u64>,
     stream: UnixStream,
     timed_out: AtomicBool,
 }
@@ -25,17 +26,25 @@ impl Connection {
         let (stream, _) = listener.accept()?;
         Ok(Connection {
             number: 0,
+            idle: None,
             stream,
             timed_out: AtomicBool::new(false),
         })
     }
 
-    /// From now on a read or a write fails that waits longer than so many seconds. It can't be no
-    /// second.
-    pub(crate) fn limit(&self, seconds: u64) -> io::Result<()> {
-        let limit = Some(Duration::from_secs(seconds));
-        self.stream.set_read_timeout(limit)?;
-        self.stream.set_write_timeout(limit)
+    /// From now on a read or a write fails that waits as long as it may be idle, if that is said.
+    pub(crate) fn limit(&self) -> io::Result<()> {
+        let Some(seconds) = self.idle else {
+            return Ok(());
+        };
+        let limit = Duration::from_secs(seconds);
+        self.stream.set_read_timeout(Some(limit))?;
+        self.stream.set_write_timeout(Some(limit))
+    }
+
+    /// From now on a read fails that waits so long. It can't be no time.
+    pub(crate) fn limit_reads(&self, limit: Duration) -> io::Result<()> {
+        self.stream.set_read_timeout(Some(limit))
     }
 
     /// Its stream.
@@ -46,6 +55,12 @@ impl Connection {
     /// Whether a read or a write waited too long.
     pub(crate) fn timed_out(&self) -> bool {
         self.timed_out.load(Ordering::SeqCst)
+    }
+
+    /// A read has no time any more: what that fails with.
+    pub(crate) fn out_of_time(&self) -> io::Error {
+        self.timed_out.store(true, Ordering::SeqCst);
+        io::Error::from(ErrorKind::WouldBlock)
     }
 
     /// Tells that no client is attached for it.

@@ -6,6 +6,7 @@ ghost use Rattle.socket_server.specs.EndlessClients.{IsClient, IsNew};
 
 use crate::connection::Connection;
 use crate::hooks::copies_of;
+use crate::requests::Requests;
 use crate::service::{Ended, Places, Service};
 use endless_door::{Departure, run_session};
 use endless_mount::{BookName, EndlessMount, Front};
@@ -15,6 +16,7 @@ use ov_devices::{CountedReader, CountedWriter};
 use ov_session::SessionOutput;
 use std::alloc::{AllocError, Global};
 use std::sync::Wait;
+use std::time::Clock;
 use watch_table::{Callback, Hook, Rule};
 
 /// A mount whose history is kept nowhere, and a front that has seen nothing of that.
@@ -33,7 +35,7 @@ pub(crate) struct Guest<N: BookName> {
 }
 
 // Runs the session of a client that was just attached, over its connection.
-fn converse<N: BookName, F: Callback + Copy, R: Rule, G: Gate, H: Wait>(
+fn converse<N: BookName, F: Callback + Copy, R: Rule, G: Gate, H: Wait + Clock>(
     rt: &H,
     alloc: Global,
     mount: &EndlessMount<N, F, R>,
@@ -47,7 +49,7 @@ fn converse<N: BookName, F: Callback + Copy, R: Rule, G: Gate, H: Wait>(
         IsClient tags closes (is_some result.hooks) client.place
         (standing result.session result.seen (is_some result.hooks)) }
 {
-    let mut input = CountedReader::of_years(connection);
+    let mut input = CountedReader::of_years(Requests::new(rt, connection));
     let mut output = SessionOutput::new(alloc, CountedWriter::new(connection));
     let Guest {
         session,
@@ -160,7 +162,7 @@ where
         client.session.client
     }
 
-    fn run<G: Gate, H: Wait>(
+    fn run<G: Gate, H: Wait + Clock>(
         &self,
         rt: &H,
         alloc: Global,

@@ -22,6 +22,7 @@ use std::marker::Brand;
 use std::os::unix::net::UnixListener;
 use std::sync::Wait;
 use std::thread::Threads;
+use std::time::Clock;
 use watch_table::{Callback, Hook, Rule};
 
 // The longest of a front and those that the workers keep, which all of them begin.
@@ -51,7 +52,7 @@ where
     N: BookName + Send + Sync,
     F: Callback + Copy + Send + Sync,
     R: Rule + Send + Sync,
-    H: Threads + Wait + Eprint + Sync,
+    H: Threads + Wait + Eprint + Clock + Sync,
     requires { IsNamed N.book N.opening blank }
     ensures legal { IfOk result (λ r. ∥ Legally N.opening (history_of r.1) r.0 ∥₁) }
     ensures served { IfOk result (λ r. ServesEndless (map (λ h. h.tag) hooks.now) options.now
@@ -82,7 +83,7 @@ where
     N: BookName + Send + Sync,
     F: Callback + Copy + Send + Sync,
     R: Rule + Send + Sync,
-    H: Threads + Wait + Eprint + Sync,
+    H: Threads + Wait + Eprint + Clock + Sync,
     K: Keeper,
     requires named { IsNamed N.book N.opening blank }
     requires taken { K.takes keeper.old (opening_of (blank_core blank)) }
@@ -92,7 +93,7 @@ where
         × ServesEndless (map (λ h. h.tag) hooks.now) options.now history end) }
     ensures stopped { IfOk result (λ end. options.now.closing ≡ None → end ≢ Served.Stopped) }
 {
-    let reports = Reports::new(rt, alloc, options.verbose)?;
+    let reports = Reports::new(rt, alloc, options.verbose)?.counting(options.counts);
     let (core, history, end) = serve_endless::<N, F, R, H>(
         rt, alloc, listener, blank, hooks, &reports, options,
     )?;
@@ -117,7 +118,7 @@ pub fn serve_endless_on<F, R, H, K>(
 where
     F: Callback + Copy + Send + Sync,
     R: Rule + Send + Sync,
-    H: Threads + Wait + Eprint + Sync,
+    H: Threads + Wait + Eprint + Clock + Sync,
     K: Keeper,
     requires { K.takes keeper.old (opening_of (blank_core blank)) }
     ensures served { IfOk result (λ end. (history : List Entry)

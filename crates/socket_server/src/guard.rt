@@ -60,6 +60,7 @@ impl<M: Places, H: Eprint + Wait> Gate for Guard<'_, '_, M, H> {
 
     fn pass(&self, _client: u64, step: u64) -> Pass {
         if step == 1 {
+            self.reports.calls();
             self.look();
         }
         if self.is_closed() {

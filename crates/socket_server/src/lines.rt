@@ -7,8 +7,10 @@ use std::alloc::{AllocError, Global};
 use std::fmt;
 use std::fmt::{Display, Formatter, Write};
 
-/// What is told of a session or of the history, or how many lines were lost. To tell it takes no
-/// memory.
+const TURNED_AWAY: &str = "overlayd: a connection is turned away: no worker is free\n";
+
+/// What is told of a session, of one who gets none, or of the history, or how many lines were lost.
+/// To tell it takes no memory.
 #[derive(Clone, Copy)]
 pub(crate) enum Line {
     Begins {
@@ -29,6 +31,7 @@ pub(crate) enum Line {
     NineTenths(usize),
     /// All places of a history are used.
     Full(usize),
+    TurnedAway,
     Lost(u64),
 }
 
@@ -70,6 +73,7 @@ impl Display for Line {
                     "overlayd: the history is full: its {places} places are used\n"
                 )
             }
+            Line::TurnedAway => f.write_str(TURNED_AWAY),
             Line::Lost(count) => write!(f, "overlayd: lines lost: {count}\n"),
         }
     }

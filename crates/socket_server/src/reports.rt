@@ -1,4 +1,5 @@
 // What a server tells on standard error, and its counts.
+use crate::counts::Counts;
 use crate::history_marks::HistoryMarks;
 use crate::lines::{Line, Waiting};
 use crate::service::Places;
@@ -23,6 +24,8 @@ pub struct Reports<'r, E: Eprint + Wait> {
     changed: Condvar,
     sessions: AtomicU64,
     calls: AtomicU64,
+    turned_away: AtomicU64,
+    counts: Option<&'r Counts>,
     history: HistoryMarks,
     failed: AtomicBool,
 }
@@ -38,9 +41,18 @@ impl<'r, E: Eprint + Wait> Reports<'r, E> {
             changed: Condvar::new(),
             sessions: AtomicU64::new(0),
             calls: AtomicU64::new(0),
+            turned_away: AtomicU64::new(0),
+            counts: None,
             history: HistoryMarks::new(),
             failed: AtomicBool::new(false),
         })
+    }
+
+    /// The same, which count for another thread too, if that is asked for.
+    pub(crate) fn counting(self, counts: Option<&'r Counts>) -> Reports<'r, E> {
+        let mut reports = self;
+        reports.counts = counts;
+        reports
     }
 
     /// The server can be connected to.
@@ -63,6 +75,9 @@ impl<'r, E: Eprint + Wait> Reports<'r, E> {
 
     /// A connection came. Sessions are numbered from 1.
     pub fn comes(&self) -> u64 {
+        if let Some(counts) = self.counts {
+            counts.comes();
+        }
         self.sessions
             .fetch_add(1, Ordering::SeqCst)
             .saturating_add(1)
@@ -71,11 +86,17 @@ impl<'r, E: Eprint + Wait> Reports<'r, E> {
     /// A session began.
     pub fn begins(&self, session: u64, client: u64) {
         self.history.comes();
+        if let Some(counts) = self.counts {
+            counts.attaches();
+        }
         self.put(Line::Begins { session, client });
     }
 
     /// A session's client was not attached.
     pub fn refuses(&self, session: u64, errno: Errno) {
+        if let Some(counts) = self.counts {
+            counts.refuses();
+        }
         self.put(Line::IsNotAttached { session, errno });
     }
 
@@ -83,6 +104,9 @@ impl<'r, E: Eprint + Wait> Reports<'r, E> {
     pub fn ends(&self, session: u64, calls: u64, ending: Ending, timed_out: bool) {
         self.calls.fetch_add(calls, Ordering::SeqCst);
         self.history.goes();
+        if let Some(counts) = self.counts {
+            counts.ends();
+        }
         self.put(Line::Ends {
             session,
             calls,
@@ -91,9 +115,28 @@ impl<'r, E: Eprint + Wait> Reports<'r, E> {
         });
     }
 
+    /// A connection was turned away, since no worker is free.
+    pub(crate) fn turns_away(&self) {
+        self.turned_away.fetch_add(1, Ordering::SeqCst);
+        if let Some(counts) = self.counts {
+            counts.turns_away();
+        }
+        self.put(Line::TurnedAway);
+    }
+
+    /// A call begins.
+    pub(crate) fn calls(&self) {
+        if let Some(counts) = self.counts {
+            counts.calls();
+        }
+    }
+
     /// Tells once each that nine tenths and all of a mount's history of so many places are used. A
     /// place that is kept for the detach of a client is used.
     pub(crate) fn looks<M: Places>(&self, mount: &M, places: usize) {
+        if let Some(counts) = self.counts {
+            counts.looks(mount, places);
+        }
         if !self.verbose {
             return;
         }
@@ -120,6 +163,7 @@ impl<'r, E: Eprint + Wait> Reports<'r, E> {
     /// All workers have ended, and the history has so many entries.
     pub fn sums_up(&self, entries: usize) {
         if self.verbose {
+            self.tell_turned_away();
             let sessions = self.sessions.load(Ordering::SeqCst);
             let calls = self.calls.load(Ordering::SeqCst);
             let _ = self.rt.eprint(format_args!(
@@ -144,6 +188,16 @@ impl<'r, E: Eprint + Wait> Reports<'r, E> {
     pub(crate) fn close(&self) {
         self.waiting.lock(self.rt).close();
         self.changed.notify_one();
+    }
+
+    // Tells how many were turned away, if any were.
+    fn tell_turned_away(&self) {
+        let count = self.turned_away.load(Ordering::SeqCst);
+        if count > 0 {
+            let _ = self.rt.eprint(format_args!(
+                "overlayd: turned away {count} connections, since no worker was free\n"
+            ));
+        }
     }
 
     // Lets a line wait to be told.

@@ -7,6 +7,7 @@ use ov_base::Errno;
 use ov_session::Ending;
 use std::alloc::{AllocError, Global};
 use std::sync::Wait;
+use std::time::Clock;
 
 /// Tells how much of a history is used.
 pub(crate) trait Places {
@@ -77,7 +78,7 @@ pub(crate) trait Service {
     fn number_of(&self, client: &Self::Client) -> u64;
 
     /// Runs the session of a client over its connection, and keeps what is left of it.
-    fn run<G: Gate, H: Wait>(
+    fn run<G: Gate, H: Wait + Clock>(
         &self,
         rt: &H,
         alloc: Global,

@@ -9,7 +9,9 @@ ghost use Rattle.locked_history.specs.Names.{IsNamed, blank_core};
 ghost use Rattle.locked_history.specs.Views.{core_past, entries_past};
 ghost use Rattle.socket_server.specs.Working.{IsHistoryOn, Serves, receipts_in};
 
+use crate::acceptor::Acceptor;
 use crate::closing::Closing;
+use crate::counts::Counts;
 use crate::keeper::Keeper;
 use crate::reports::Reports;
 use crate::served::Served;
@@ -22,6 +24,7 @@ use std::marker::Brand;
 use std::os::unix::net::UnixListener;
 use std::sync::Wait;
 use std::thread::Threads;
+use std::time::Clock;
 use watch_table::{Callback, Hook, Rule};
 
 /// How a server serves.
@@ -35,11 +38,15 @@ pub struct ServeOptions<'a> {
     pub history: usize,
     /// After how many sessions each worker ends; none where they never do.
     pub sessions: Option<u64>,
-    /// After how many seconds, at least one, a connection ends that sends nothing or takes nothing;
-    /// none where it never does.
+    /// After how many seconds, at least one, a connection ends that sends nothing or takes nothing, or
+    /// of a frame not all that follows its first byte; none where it never does.
     pub idle: Option<u64>,
+    /// Who turns away the connections for which no worker is free; none where they wait.
+    pub acceptor: Option<&'a Acceptor>,
     /// What ends it before; none where nothing does.
     pub closing: Option<&'a Closing>,
+    /// What it counts for another thread to look at, if anything.
+    pub counts: Option<&'a Counts>,
     /// Whether it tells what it does.
     pub verbose: bool,
 }
@@ -82,7 +89,7 @@ fn gathered<N: MountName>(
 /// Serves the clients of a mount, each with copies of these hooks, until all workers have ended. The
 /// receipts of all that they did are handed back, and how the server ended: `Done` only where each
 /// worker took its connections, and each of these had a client or was refused one, and `Stopped` only
-/// where something ends it.
+/// where something ends it. Who is turned away is no worker's connection, and counts for none.
 pub fn serve_mount<N, F, R, H>(
     rt: &H,
     alloc: Global,
@@ -96,7 +103,7 @@ where
     N: MountName + Send + Sync,
     F: Callback + Copy + Send + Sync,
     R: Rule + Send + Sync,
-    H: Threads + Wait + Eprint + Sync,
+    H: Threads + Wait + Eprint + Clock + Sync,
     ensures served { IfOk result (λ r. Serves (map (λ h. h.tag) hooks.now) options.now
         r.0.items r.1) }
     ensures stopped { IfOk result (λ r. options.now.closing ≡ None → r.1 ≢ Served.Stopped) }
@@ -123,7 +130,7 @@ where
     N: MountName + Send + Sync,
     F: Callback + Copy + Send + Sync,
     R: Rule + Send + Sync,
-    H: Threads + Wait + Eprint + Sync,
+    H: Threads + Wait + Eprint + Clock + Sync,
     requires { IsNamed N.cells N.name N.parts N.opening blank }
     ensures legal { IfOk result (λ r. ∥ Legally N.opening (history_of (entries_past r.0))
         (core_past r.0) ∥₁) }
@@ -156,7 +163,7 @@ where
     N: MountName + Send + Sync,
     F: Callback + Copy + Send + Sync,
     R: Rule + Send + Sync,
-    H: Threads + Wait + Eprint + Sync,
+    H: Threads + Wait + Eprint + Clock + Sync,
     K: Keeper,
     requires named { IsNamed N.cells N.name N.parts N.opening blank }
     requires taken { K.takes keeper.old (opening_of (blank_core blank)) }
@@ -167,7 +174,7 @@ where
         × All (StandsIn entries) receipts) }
     ensures stopped { IfOk result (λ end. options.now.closing ≡ None → end ≢ Served.Stopped) }
 {
-    let reports = Reports::new(rt, alloc, options.verbose)?;
+    let reports = Reports::new(rt, alloc, options.verbose)?.counting(options.counts);
     let (past, _, end) = serve_blank::<N, F, R, H>(
         rt, alloc, listener, blank, hooks, &reports, options,
     )?;
@@ -192,7 +199,7 @@ pub fn serve_on<F, R, H, K>(
 where
     F: Callback + Copy + Send + Sync,
     R: Rule + Send + Sync,
-    H: Threads + Wait + Eprint + Sync,
+    H: Threads + Wait + Eprint + Clock + Sync,
     K: Keeper,
     requires { K.takes keeper.old (opening_of (blank_core blank)) }
     ensures served { IfOk result (λ end. (entries : List Entry) × (receipts : List Claim)

@@ -5,6 +5,7 @@ ghost use Rattle.socket_server.specs.Clients.{IsClient, IsNew};
 
 use crate::connection::Connection;
 use crate::hooks::copies_of;
+use crate::requests::Requests;
 use crate::service::{Ended, Places, Service};
 use locked_history::{Gate, Mount, MountName, Receipt, Session};
 use mount_door::{Departure, run_session};
@@ -13,6 +14,7 @@ use ov_devices::{CountedReader, CountedWriter};
 use ov_session::SessionOutput;
 use std::alloc::{AllocError, Global};
 use std::sync::Wait;
+use std::time::Clock;
 use watch_table::{Callback, Hook, Rule};
 
 /// A client that was just attached, whose receipts have memory for that of its detach.
@@ -24,7 +26,7 @@ pub(crate) struct Newcomer<N: MountName> {
 }
 
 // Runs the session of a client that was just attached, over its connection.
-fn converse<N: MountName, F: Callback + Copy, R: Rule, G: Gate, H: Wait>(
+fn converse<N: MountName, F: Callback + Copy, R: Rule, G: Gate, H: Wait + Clock>(
     rt: &H,
     alloc: Global,
     mount: &Mount<N, F, R>,
@@ -37,7 +39,7 @@ fn converse<N: MountName, F: Callback + Copy, R: Rule, G: Gate, H: Wait>(
         IsNew tags client.session.client client.session.number client.receipts.items →
         IsClient tags closes (is_some result.hooks) result.receipts.items }
 {
-    let mut input = CountedReader::new(connection);
+    let mut input = CountedReader::new(Requests::new(rt, connection));
     let mut output = SessionOutput::new(alloc, CountedWriter::new(connection));
     let Newcomer { session, receipts } = client;
     run_session(
@@ -122,7 +124,7 @@ where
         client.session.client
     }
 
-    fn run<G: Gate, H: Wait>(
+    fn run<G: Gate, H: Wait + Clock>(
         &self,
         rt: &H,
         alloc: Global,

@@ -4,8 +4,9 @@ ghost use Rattle.std.specs.Prelude.{◌≡◌, ◌+◌, ◌<◌};
 use crate::connection::Connection;
 use ov_base::Errno;
 
-/// How many connections had a client, and how many were refused one. Each is counted by the
-/// connection itself, which ends with that, so that nothing is counted twice or without one.
+/// How many connections of a worker had a client, and how many were refused one. Each is counted by
+/// the connection itself, which ends with that, so that nothing is counted twice or without one. Who
+/// is turned away since no worker is free comes to none, and is in no tally.
 #[derive(Drop)]
 pub(crate) struct Tally {
     served: u64,

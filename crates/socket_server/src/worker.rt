@@ -4,6 +4,7 @@ ghost use Rattle.std.specs.Prelude.{◌≡◌, ◌+◌, ◌<◌, MatchResult, No
 ghost use Rattle.socket_server.specs.Working.{IsWork};
 
 use crate::connection::Connection;
+use crate::entrance::Entrance;
 use crate::guard::Guard;
 use crate::reports::Reports;
 use crate::service::{Ended, Places, Service};
@@ -11,10 +12,9 @@ use crate::serving::ServeOptions;
 use crate::tally::Tally;
 use ov_base::Errno;
 use std::alloc::Global;
-use std::io;
 use std::io::Eprint;
-use std::os::unix::net::UnixListener;
 use std::sync::Wait;
+use std::time::Clock;
 
 /// What a worker leaves of the connections that it took: what it keeps of its clients, how many those
 /// were and how many connections were refused a client, whether it could not go on, and whether it
@@ -25,14 +25,6 @@ pub(crate) struct Worked<K: Drop> {
     pub(crate) tally: Tally,
     pub(crate) failed: bool,
     pub(crate) stopped: bool,
-}
-
-// A connection that waits so long in a read or a write and no longer, where that is given.
-fn limited(connection: &Connection, idle: Option<u64>) -> io::Result<()> {
-    match idle {
-        Some(seconds) => connection.limit(seconds),
-        None => Ok(()),
-    }
 }
 
 // Attaches a client with copies of these hooks and runs its session over a connection. What is left
@@ -47,7 +39,7 @@ fn converse<M, H>(
 ) -> Result<bool, Errno>
 where
     M: Service + Places,
-    H: Wait + Eprint,
+    H: Wait + Eprint + Clock,
     requires { M.has_room kept.old }
     ensures { (count : ℕ) →
         M.keeps (map M.tag hooks.now) (is_some guard.now.closing) true count kept.old →
@@ -79,12 +71,11 @@ fn serve<M, H>(
     guard: &Guard<'_, '_, M, H>,
     hooks: &[M::Hook],
     connection: &Connection,
-    idle: Option<u64>,
     kept: &mut M::Kept,
 ) -> Result<bool, Errno>
 where
     M: Service + Places,
-    H: Wait + Eprint,
+    H: Wait + Eprint + Clock,
     ensures { (count : ℕ) →
         M.keeps (map M.tag hooks.now) (is_some guard.now.closing) true count kept.old →
         MatchResult result
@@ -95,7 +86,7 @@ where
     let Ok(()) = guard.mount.reserve(kept) else {
         return Err(Errno::ENOMEM);
     };
-    let Ok(()) = limited(connection, idle) else {
+    let Ok(()) = connection.limit() else {
         return Err(Errno::EINVAL);
     };
     let key = guard.enters(rt, connection.stream())?;
@@ -109,7 +100,7 @@ where
 fn take<M, H>(
     rt: &H,
     alloc: Global,
-    listener: &UnixListener,
+    entrance: &Entrance<'_>,
     guard: &Guard<'_, '_, M, H>,
     hooks: &[M::Hook],
     idle: Option<u64>,
@@ -117,7 +108,7 @@ fn take<M, H>(
 )
 where
     M: Service + Places,
-    H: Wait + Eprint,
+    H: Wait + Eprint + Clock,
     requires well { worked.old.failed ≡ false }
     requires few { worked.old.tally.served + worked.old.tally.refused < 18446744073709551615 }
     ensures clients { M.keeps (map M.tag hooks.now) (is_some guard.now.closing) (not worked.old.failed)
@@ -129,7 +120,7 @@ where
         ≡ (worked.old.tally.served + worked.old.tally.refused) + 1 }
     ensures stopped { guard.now.closing ≡ None → worked.new.stopped ≡ worked.old.stopped }
 {
-    let outcome = Connection::take(listener);
+    let outcome = entrance.next(rt);
     if guard.is_closed() {
         worked.stopped = true;
         return;
@@ -139,7 +130,8 @@ where
         return;
     };
     connection.number = guard.reports.comes();
-    match serve(rt, alloc, guard, hooks, &connection, idle, &mut worked.kept) {
+    connection.idle = idle;
+    match serve(rt, alloc, guard, hooks, &connection, &mut worked.kept) {
         Ok(detached) => {
             worked.failed = !detached;
             worked.tally.serves(connection);
@@ -158,7 +150,7 @@ where
 pub(crate) fn work<M, H>(
     rt: &H,
     alloc: Global,
-    listener: &UnixListener,
+    entrance: &Entrance<'_>,
     mount: &M,
     hooks: &[M::Hook],
     reports: &Reports<'_, H>,
@@ -166,7 +158,7 @@ pub(crate) fn work<M, H>(
 ) -> Worked<M::Kept>
 where
     M: Service + Places,
-    H: Wait + Eprint,
+    H: Wait + Eprint + Clock,
     ensures work { IsWork (M.keeps (map M.tag hooks.now) (is_some options.now.closing))
         options.now.sessions result }
     ensures stopped { options.now.closing ≡ None → result.stopped ≡ false }
@@ -185,7 +177,7 @@ where
     };
     let idle = options.idle;
     for _ in 0..options.sessions.unwrap_or(u64::MAX) {
-        take(rt, alloc, listener, &guard, hooks, idle, &mut worked);
+        take(rt, alloc, entrance, &guard, hooks, idle, &mut worked);
         if worked.failed {
             reports.fails();
         }

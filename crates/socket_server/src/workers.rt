@@ -4,6 +4,8 @@ ghost use Rattle.std.specs.List.{list_any};
 ghost use Rattle.socket_server.specs.Working.{AreWorkers, HaveWorked, closes};
 ghost use Rattle.socket_server.specs.Working as working;
 
+use crate::acceptor::Acceptor;
+use crate::entrance::Entrance;
 use crate::reports::Reports;
 use crate::served::Served;
 use crate::service::{Places, Service};
@@ -16,6 +18,7 @@ use std::os::unix::net::UnixListener;
 use std::sync::Wait;
 use std::thread;
 use std::thread::Threads;
+use std::time::Clock;
 
 // Whether one of the workers could not go on.
 fn has_failed<K: Drop>(workers: &[Worked<K>]) -> bool
@@ -48,7 +51,7 @@ fn end_of(failed: bool, stopped: bool) -> Served
 fn work_all<M, H>(
     rt: &H,
     alloc: Global,
-    listener: &UnixListener,
+    entrance: &Entrance<'_>,
     mount: &M,
     hooks: &[M::Hook],
     reports: &Reports<'_, H>,
@@ -56,7 +59,7 @@ fn work_all<M, H>(
 ) -> Result<Vec<Worked<M::Kept>>, AllocError>
 where
     M: Service + Places + Sync,
-    H: Threads + Wait + Eprint + Sync,
+    H: Threads + Wait + Eprint + Clock + Sync,
     ensures { IfOk result (λ left.
         HaveWorked (M.keeps (map M.tag hooks.now) (closes options.now)) options.now left.items) }
 {
@@ -64,7 +67,7 @@ where
         rt,
         alloc,
         options.workers,
-        &|_worker| work(rt, alloc, listener, mount, hooks, reports, options),
+        &|_worker| work(rt, alloc, entrance, mount, hooks, reports, options),
     );
     reports.close();
     left
@@ -77,7 +80,7 @@ fn work_or_tell<M, H>(
     thread: usize,
     rt: &H,
     alloc: Global,
-    listener: &UnixListener,
+    entrance: &Entrance<'_>,
     mount: &M,
     hooks: &[M::Hook],
     reports: &Reports<'_, H>,
@@ -85,12 +88,12 @@ fn work_or_tell<M, H>(
 ) -> Result<Vec<Worked<M::Kept>>, AllocError>
 where
     M: Service + Places + Sync,
-    H: Threads + Wait + Eprint + Sync,
+    H: Threads + Wait + Eprint + Clock + Sync,
     ensures { thread ≡ 1 → IfOk result (λ left.
         HaveWorked (M.keeps (map M.tag hooks.now) (closes options.now)) options.now left.items) }
 {
     if thread == 1 {
-        work_all(rt, alloc, listener, mount, hooks, reports, options)
+        work_all(rt, alloc, entrance, mount, hooks, reports, options)
     } else {
         reports.tell_all();
         Ok(Vec::new(alloc))
@@ -101,7 +104,7 @@ where
 fn work_and_tell<M, H>(
     rt: &H,
     alloc: Global,
-    listener: &UnixListener,
+    entrance: &Entrance<'_>,
     mount: &M,
     hooks: &[M::Hook],
     reports: &Reports<'_, H>,
@@ -109,7 +112,7 @@ fn work_and_tell<M, H>(
 ) -> Result<Vec<Worked<M::Kept>>, AllocError>
 where
     M: Service + Places + Sync,
-    H: Threads + Wait + Eprint + Sync,
+    H: Threads + Wait + Eprint + Clock + Sync,
     ensures { IfOk result (λ left.
         HaveWorked (M.keeps (map M.tag hooks.now) (closes options.now)) options.now left.items) }
 {
@@ -117,7 +120,7 @@ where
         rt,
         alloc,
         2,
-        &|thread| work_or_tell(thread, rt, alloc, listener, mount, hooks, reports, options),
+        &|thread| work_or_tell(thread, rt, alloc, entrance, mount, hooks, reports, options),
     )?;
     left.swap_remove(1)
 }
@@ -138,6 +141,76 @@ fn tell_of_threads<H: Threads + Wait + Eprint + Sync>(
     }
 }
 
+// The same behind who takes the connections for the workers, in a thread of its own. Where the system
+// gives none, they take them by themselves, and nobody is turned away.
+fn work_behind<M, H>(
+    rt: &H,
+    alloc: Global,
+    listener: &UnixListener,
+    acceptor: &Acceptor,
+    mount: &M,
+    hooks: &[M::Hook],
+    reports: &Reports<'_, H>,
+    options: &ServeOptions<'_>,
+) -> Result<Vec<Worked<M::Kept>>, AllocError>
+where
+    M: Service + Places + Sync,
+    H: Threads + Wait + Eprint + Clock + Sync,
+    ensures { IfOk result (λ left.
+        HaveWorked (M.keeps (map M.tag hooks.now) (closes options.now)) options.now left.items) }
+{
+    thread::scope(
+        thread::scope_env(),
+        rt,
+        |scope| -> Result<Vec<Worked<M::Kept>>, AllocError>
+            ensures { IfOk result (λ left. HaveWorked (M.keeps (map M.tag hooks.entry.now)
+                (closes options.entry.now)) options.entry.now left.items) }
+        {
+            let accepts = scope
+                .spawn(move || acceptor.accept_all(rt, listener, reports))
+                .is_ok();
+            let acceptor_if_any = if accepts { Some(acceptor) } else { None };
+            let entrance = Entrance {
+                listener,
+                acceptor: acceptor_if_any,
+            };
+            let left = work_and_tell(rt, alloc, &entrance, mount, hooks, reports, options);
+            acceptor.close(rt);
+            left
+        },
+    )
+}
+
+// Has the workers serve, behind who turns others away, if there is anybody.
+fn work_or_turn_away<M, H>(
+    rt: &H,
+    alloc: Global,
+    listener: &UnixListener,
+    mount: &M,
+    hooks: &[M::Hook],
+    reports: &Reports<'_, H>,
+    options: &ServeOptions<'_>,
+) -> Result<Vec<Worked<M::Kept>>, AllocError>
+where
+    M: Service + Places + Sync,
+    H: Threads + Wait + Eprint + Clock + Sync,
+    ensures { IfOk result (λ left.
+        HaveWorked (M.keeps (map M.tag hooks.now) (closes options.now)) options.now left.items) }
+{
+    match options.acceptor {
+        Some(acceptor) => work_behind(
+            rt, alloc, listener, acceptor, mount, hooks, reports, options,
+        ),
+        None => {
+            let entrance = Entrance {
+                listener,
+                acceptor: None,
+            };
+            work_and_tell(rt, alloc, &entrance, mount, hooks, reports, options)
+        }
+    }
+}
+
 /// Has workers serve the clients of a mount, each with copies of these hooks, until all have ended:
 /// what each leaves, and how the server ended.
 pub(crate) fn serve_all<M, H>(
@@ -151,14 +224,14 @@ pub(crate) fn serve_all<M, H>(
 ) -> Result<(Vec<Worked<M::Kept>>, Served), AllocError>
 where
     M: Service + Places + Sync,
-    H: Threads + Wait + Eprint + Sync,
+    H: Threads + Wait + Eprint + Clock + Sync,
     ensures served { IfOk result (λ r. AreWorkers
         (M.keeps (map M.tag hooks.now) (closes options.now)) options.now r.0.items r.1) }
     ensures stopped { IfOk result (λ r. options.now.closing ≡ None → r.1 ≢ Served.Stopped) }
 {
     reports.listens(options.socket, options.workers);
     tell_of_threads(rt, reports, options.workers);
-    let workers = work_and_tell(rt, alloc, listener, mount, hooks, reports, options)?;
+    let workers = work_or_turn_away(rt, alloc, listener, mount, hooks, reports, options)?;
     let failed = has_failed(workers.as_slice());
     let stopped = was_stopped(workers.as_slice());
     Ok((workers, end_of(failed, stopped)))

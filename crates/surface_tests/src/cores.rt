@@ -9,7 +9,7 @@ use ov_base::{Call, Errno, Options, Reply, Stat};
 use overlay_core::{Core, Job, Turn, Unmounted};
 use std::alloc::Global;
 use std::hash::RandomState;
-use std::test::Fail;
+use std::process::Abort;
 use watch_table::{Callback, Hook, Rule};
 
 /// More attaches, calls and detaches than a test makes.
@@ -30,31 +30,30 @@ fn mounting<F: Callback + Copy, H: Rule>(
 
 // A mount of these layers.
 pub fn mounted_on<F: Callback + Copy, H: Rule>(
+    rt: &impl Abort,
     alloc: Global,
     keys: RandomState,
     upper: Layer,
     lowers: Vec<Layer>,
     options: Options,
-) -> Result<Core<F, H>, Fail>
+) -> Core<F, H>
     requires layers { AreLayers (layer_of upper ∷ map layer_of lowers.items) }
 {
     match mounting(alloc, keys, upper, lowers, options) {
-        Ok(core) => Ok(core),
-        Err(unmounted) => {
-            drop(unmounted);
-            Err(Fail::from("no mount"))
-        }
+        Ok(core) => core,
+        Err(_) => panic!(rt; "no mount"),
     }
 }
 
 // A mount of a manifest.
 pub fn mounted<F: Callback + Copy, H: Rule>(
+    rt: &impl Abort,
     alloc: Global,
     keys: RandomState,
     manifest: &str,
-) -> Result<Core<F, H>, Fail> {
-    let (upper, lowers, options) = read(alloc, keys, manifest)?;
-    mounted_on(alloc, keys, upper, lowers, options)
+) -> Core<F, H> {
+    let (upper, lowers, options) = read(rt, alloc, keys, manifest);
+    mounted_on(rt, alloc, keys, upper, lowers, options)
 }
 
 /// Lets a mount go. What owns one calls this, since each place where a core is let go is taken apart
@@ -63,62 +62,56 @@ pub fn unmount<F: Callback + Copy, H: Rule>(_core: Core<F, H>) {}
 
 // Why these layers are no mount, and the layers, handed back.
 pub fn refused<F: Callback + Copy, H: Rule>(
+    rt: &impl Abort,
     alloc: Global,
     keys: RandomState,
     upper: Layer,
     lowers: Vec<Layer>,
     options: Options,
-) -> Result<Unmounted, Fail>
+) -> Unmounted
     requires layers { AreLayers (layer_of upper ∷ map layer_of lowers.items) }
 {
     match mounting::<F, H>(alloc, keys, upper, lowers, options) {
-        Ok(core) => {
-            unmount(core);
-            Err(Fail::from("a mount"))
-        }
-        Err(unmounted) => Ok(unmounted),
+        Ok(_) => panic!(rt; "a mount"),
+        Err(unmounted) => unmounted,
     }
 }
 
 // Attaches a client with its hooks.
 pub fn attached<F: Callback + Copy, H: Rule>(
+    rt: &impl Abort,
     core: &mut Core<F, H>,
     hooks: Vec<Hook<F, H>>,
-) -> Result<u64, Fail> {
-    if core.finished() >= DEEDS_MAX {
-        return Err(Fail::from("too many deeds"));
-    }
+) -> u64 {
+    assert!(rt; core.finished() < DEEDS_MAX);
     match core.attach(hooks) {
-        Ok(client) => Ok(client),
-        Err(_) => Err(Fail::from("no client")),
+        Ok(client) => client,
+        Err(_) => panic!(rt; "no client"),
     }
 }
 
 // Detaches a client.
-pub fn detach<F: Callback + Copy, H: Rule>(core: &mut Core<F, H>, client: u64) -> Result<(), Fail> {
-    if core.finished() >= DEEDS_MAX || !core.is_attached(client) {
-        return Err(Fail::from("not attached"));
-    }
-    let _ = core.detach(client);
-    Ok(())
+pub fn detach<F: Callback + Copy, H: Rule>(rt: &impl Abort, core: &mut Core<F, H>, client: u64) {
+    assert!(rt; core.finished() < DEEDS_MAX);
+    assert!(rt; core.is_attached(client));
+    drop(core.detach(client));
 }
 
 // The reply to a call of a client.
 pub fn reply<F: Callback + Copy, H: Rule>(
+    rt: &impl Abort,
     core: &mut Core<F, H>,
     client: u64,
     call: Call,
-) -> Result<Reply, Fail> {
-    if core.finished() >= DEEDS_MAX || !core.is_attached(client) {
-        drop(call);
-        return Err(Fail::from("not attached"));
-    }
+) -> Reply {
+    assert!(rt; core.finished() < DEEDS_MAX);
+    assert!(rt; core.is_attached(client));
     let mut job = Job::new(client, call);
     let turn = core.complete(&mut job);
     drop(job.into_call());
     match turn {
-        Turn::Done(reply) => Ok(reply),
-        Turn::More | Turn::NoMemory => Err(Fail::from("no reply")),
+        Turn::Done(reply) => reply,
+        Turn::More | Turn::NoMemory => panic!(rt; "no reply"),
     }
 }
 
@@ -150,12 +143,24 @@ pub fn answer_of(reply: &Reply) -> Answer {
 
 /// What the reply to a call of a client says. The reply is let go here, as a core is by `unmount`.
 pub fn answer_to<F: Callback + Copy, H: Rule>(
+    rt: &impl Abort,
     core: &mut Core<F, H>,
     client: u64,
     call: Call,
-) -> Result<Answer, Fail> {
-    let reply = reply(core, client, call)?;
+) -> Answer {
+    let reply = reply(rt, core, client, call);
     let answer = answer_of(&reply);
     drop(reply);
-    Ok(answer)
+    answer
+}
+
+/// A call of a client is answered so. What calls this has no end of its own behind the call.
+pub fn answers<F: Callback + Copy, H: Rule>(
+    rt: &impl Abort,
+    core: &mut Core<F, H>,
+    client: u64,
+    call: Call,
+    wanted: Answer,
+) {
+    assert!(rt; answer_to(rt, core, client, call) == wanted);
 }

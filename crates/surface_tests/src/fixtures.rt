@@ -1,5 +1,5 @@
 // Layers that manifests spell, and paths.
-ghost use Rattle.std.specs.Prelude.{◌<◌, ◌≤◌, ◌∷◌, IfOk, map};
+ghost use Rattle.std.specs.Prelude.{◌<◌, ◌≤◌, ◌∷◌, map};
 ghost use Rattle.std.specs.Vec.{vec_len};
 ghost use Rattle.plain_model.specs.Layers.{AreLayers};
 ghost use Rattle.layer_tree.specs.Tree.{layer_of};
@@ -11,53 +11,50 @@ use ov_wire::manifest_of;
 use std::alloc::Global;
 use std::hash::RandomState;
 use std::process::Abort;
-use std::test::Fail;
 
 /// An empty upper over an empty lower layer.
 pub const EMPTY: &str = "layer = [{}, {}]";
 
 // The layers and options of a manifest that has an upper.
 pub fn read(
+    rt: &impl Abort,
     alloc: Global,
     keys: RandomState,
     manifest: &str,
-) -> Result<(Layer, Vec<Layer>, Options), Fail>
-    ensures some_lower { IfOk result (λ r. 0 < vec_len r.1) }
-    ensures few_lowers { IfOk result (λ r. vec_len r.1 ≤ 16) }
-    ensures layers { IfOk result (λ r. AreLayers (layer_of r.0 ∷ map layer_of r.1.items)) }
+) -> (Layer, Vec<Layer>, Options)
+    ensures some_lower { 0 < vec_len result.1 }
+    ensures few_lowers { vec_len result.1 ≤ 16 }
+    ensures layers { AreLayers (layer_of result.0 ∷ map layer_of result.1.items) }
 {
-    let (upper, lowers, options) = manifest_of(alloc, keys, manifest.as_bytes())?;
-    match upper {
-        Some(upper) => Ok((upper, lowers, options)),
-        None => {
-            drop(lowers);
-            Err(Fail::from("no upper"))
-        }
+    match manifest_of(alloc, keys, manifest.as_bytes()) {
+        Ok((upper, lowers, options)) => match upper {
+            Some(upper) => (upper, lowers, options),
+            None => panic!(rt; "no upper"),
+        },
+        Err(_) => panic!(rt; "no layers"),
     }
 }
 
 // The layers of a manifest as a mount has them.
-pub fn mount(alloc: Global, keys: RandomState, manifest: &str) -> Result<Layers, Fail> {
-    let (upper, lowers, _) = read(alloc, keys, manifest)?;
-    layers_of(alloc, keys, upper, lowers)
+pub fn mount(rt: &impl Abort, alloc: Global, keys: RandomState, manifest: &str) -> Layers {
+    let (upper, lowers, _) = read(rt, alloc, keys, manifest);
+    layers_of(rt, alloc, keys, upper, lowers)
 }
 
 // Layers as a mount has them.
 pub fn layers_of(
+    rt: &impl Abort,
     alloc: Global,
     keys: RandomState,
     upper: Layer,
     lowers: Vec<Layer>,
-) -> Result<Layers, Fail>
+) -> Layers
     requires some_lower { 0 < vec_len lowers }
     requires few_lowers { vec_len lowers ≤ 16 }
 {
     match Layers::new(alloc, keys, upper, lowers, 1) {
-        Ok(layers) => Ok(layers),
-        Err(layers) => {
-            drop(layers);
-            Err(Fail::from("out of memory"))
-        }
+        Ok(layers) => layers,
+        Err(_) => panic!(rt; "out of memory"),
     }
 }
 

@@ -1,5 +1,6 @@
 // Files that lose their name while they are open leave their places in the upper to others.
-use crate::cores::{Answer, answer_to, attached, detach, mounted, unmount};
+use crate::checks::{holds, keys_of};
+use crate::cores::{Answer, answers, attached, detach, mounted, unmount};
 use crate::fixtures::{flags, path};
 use merged_lookup::Topmost;
 use ov_base::{Call, OpenFlags, Path};
@@ -8,7 +9,6 @@ use overlay_core::Core;
 use std::alloc::Global;
 use std::hash::RandomState;
 use std::process::Abort;
-use std::test::Fail;
 use watch_table::{Callback, Hook, Rule};
 
 const DIRECTORY: &str = "history = 1000000
@@ -22,13 +22,12 @@ fn open_nameless<F: Callback + Copy, H: Rule>(
     alloc: Global,
     core: &mut Core<F, H>,
     client: u64,
-) -> Result<(), Fail> {
-    makes(rt, alloc, core, client)?;
+) {
+    makes(rt, alloc, core, client);
     let call = Call::Unlink {
         path: path(rt, alloc, FILE),
     };
-    assert!(rt; answer_to(core, client, call)? == Answer::Done);
-    Ok(())
+    answers(rt, core, client, call, Answer::Done);
 }
 
 // Makes a file and opens it for writing.
@@ -37,10 +36,9 @@ fn makes<F: Callback + Copy, H: Rule>(
     alloc: Global,
     core: &mut Core<F, H>,
     client: u64,
-) -> Result<(), Fail> {
-    let opened = answer_to(core, client, making(path(rt, alloc, FILE)))?;
-    assert!(rt; opened == Answer::Descriptor(0));
-    Ok(())
+) {
+    let call = making(path(rt, alloc, FILE));
+    answers(rt, core, client, call, Answer::Descriptor(0));
 }
 
 // The call that does so.
@@ -62,23 +60,19 @@ fn key_given<F: Callback + Copy, H: Rule>(
     alloc: Global,
     core: &mut Core<F, H>,
     client: u64,
-) -> Result<usize, Fail> {
-    makes(rt, alloc, core, client)?;
+) -> usize {
+    makes(rt, alloc, core, client);
     match core.layers().walk_topmost(&path(rt, alloc, FILE)) {
-        Ok(Topmost::Inode(place)) if place.layer == 0 => Ok(place.key),
-        _ => Err(Fail::from("no file of the upper")),
+        Ok(Topmost::Inode(place)) if place.layer == 0 => place.key,
+        _ => panic!(rt; "no file of the upper"),
     }
 }
 
 // The upper has its root and the directory, and all files had one place.
 #[test]
-fn closed_files_leave_their_places(rt: HostRuntime) -> Result<(), Fail> {
-    frees_each(
-        &rt,
-        rt.alloc(),
-        RandomState::new(&rt)?,
-        hooks_by_slot(rt.alloc())?,
-    )
+fn closed_files_leave_their_places(rt: HostRuntime) {
+    let hooks = hooks_by_slot(rt.alloc()).expect(&rt, "memory");
+    frees_each(&rt, rt.alloc(), keys_of(&rt), hooks);
 }
 
 fn frees_each<F: Callback + Copy, H: Rule>(
@@ -86,11 +80,10 @@ fn frees_each<F: Callback + Copy, H: Rule>(
     alloc: Global,
     keys: RandomState,
     hooks: Vec<Hook<F, H>>,
-) -> Result<(), Fail> {
-    let mut core: Core<F, H> = mounted(alloc, keys, DIRECTORY)?;
-    let freed = frees_on(rt, alloc, &mut core, hooks);
+) {
+    let mut core: Core<F, H> = mounted(rt, alloc, keys, DIRECTORY);
+    frees_on(rt, alloc, &mut core, hooks);
     unmount(core);
-    freed
 }
 
 fn frees_on<F: Callback + Copy, H: Rule>(
@@ -98,44 +91,49 @@ fn frees_on<F: Callback + Copy, H: Rule>(
     alloc: Global,
     core: &mut Core<F, H>,
     hooks: Vec<Hook<F, H>>,
-) -> Result<(), Fail> {
-    let client = attached(core, hooks)?;
+) {
+    let client = attached(rt, core, hooks);
     for _ in 0..100_000u32 {
-        open_nameless(rt, alloc, core, client)?;
-        let closed = answer_to(core, client, Call::Close { descriptor: 0 })?;
-        assert!(rt; closed == Answer::Done);
+        open_nameless(rt, alloc, core, client);
+        let call = Call::Close { descriptor: 0 };
+        answers(rt, core, client, call, Answer::Done);
     }
-    assert!(rt; key_given(rt, alloc, core, client)? < 3);
-    Ok(())
+    holds(
+        rt,
+        key_given(rt, alloc, core, client) < 3,
+        "a place that was freed",
+    );
 }
 
 #[test]
-fn clients_that_detach_leave_places(rt: HostRuntime) -> Result<(), Fail> {
-    frees_with_clients::<_, ByTag, ProgramRule>(&rt, rt.alloc(), RandomState::new(&rt)?)
+fn clients_that_detach_leave_places(rt: HostRuntime) {
+    frees_with_clients::<_, ByTag, ProgramRule>(&rt, rt.alloc(), keys_of(&rt));
 }
 
 fn frees_with_clients<A: Abort, F: Callback + Copy, H: Rule>(
     rt: &A,
     alloc: Global,
     keys: RandomState,
-) -> Result<(), Fail> {
-    let mut core: Core<F, H> = mounted(alloc, keys, DIRECTORY)?;
-    let freed = frees_clients_on(rt, alloc, &mut core);
+) {
+    let mut core: Core<F, H> = mounted(rt, alloc, keys, DIRECTORY);
+    frees_clients_on(rt, alloc, &mut core);
     unmount(core);
-    freed
 }
 
 fn frees_clients_on<F: Callback + Copy, H: Rule>(
     rt: &impl Abort,
     alloc: Global,
     core: &mut Core<F, H>,
-) -> Result<(), Fail> {
+) {
     for _ in 0..1_000u32 {
-        let client = attached(core, Vec::new(alloc))?;
-        open_nameless(rt, alloc, core, client)?;
-        detach(core, client)?;
+        let client = attached(rt, core, Vec::new(alloc));
+        open_nameless(rt, alloc, core, client);
+        detach(rt, core, client);
     }
-    let client = attached(core, Vec::new(alloc))?;
-    assert!(rt; key_given(rt, alloc, core, client)? < 3);
-    Ok(())
+    let client = attached(rt, core, Vec::new(alloc));
+    holds(
+        rt,
+        key_given(rt, alloc, core, client) < 3,
+        "a place that was freed",
+    );
 }

@@ -3,7 +3,8 @@ ghost use Rattle.std.specs.Borrow.{Bor};
 ghost use Rattle.ov_base.specs.declared.notice.Event.{Event};
 ghost use Rattle.plain_model.specs.Watching.{IsEvent};
 
-use crate::cores::{Answer, DEEDS_MAX, answer_to, attached, mounted, reply, unmount};
+use crate::checks::{counts, holds, keys_of};
+use crate::cores::{Answer, DEEDS_MAX, answers, attached, mounted, reply, unmount};
 use crate::fixtures::{EMPTY, path};
 use ov_base::{Call, Errno, Event, Notice, Reply, cookie_of};
 use overlay_core::Core;
@@ -11,7 +12,6 @@ use std::alloc::Global;
 use std::cell::Cell;
 use std::hash::RandomState;
 use std::process::Abort;
-use std::test::Fail;
 use watch_table::{AnyAnswer, Asked, Callback, Hook};
 
 /// The bit that asks for names that come.
@@ -23,12 +23,12 @@ fn unread_by<F: Callback + Copy>(
     alloc: Global,
     keys: RandomState,
     callback: F,
-) -> Result<usize, Fail>
+) -> usize
     requires { (e : Bor Event) → IsEvent e.now → F.may callback e }
 {
     let mut hooks = Vec::new(alloc);
-    hooks.push(Hook::new(0, callback))?;
-    let mut core: Core<F, AnyAnswer> = mounted(alloc, keys, EMPTY)?;
+    hooks.push(Hook::new(0, callback)).expect(rt, "memory");
+    let mut core: Core<F, AnyAnswer> = mounted(rt, alloc, keys, EMPTY);
     let unread = unread_on(rt, alloc, &mut core, hooks);
     unmount(core);
     unread
@@ -39,42 +39,41 @@ fn unread_on<F: Callback + Copy>(
     alloc: Global,
     core: &mut Core<F, AnyAnswer>,
     hooks: Vec<Hook<F, AnyAnswer>>,
-) -> Result<usize, Fail> {
-    let client = attached(core, hooks)?;
+) -> usize {
+    let client = attached(rt, core, hooks);
     let root = Call::Arm {
         slot: 0,
         path: path(rt, alloc, "/"),
         mask: CREATE,
     };
-    assert!(rt; answer_to(core, client, root)? == Answer::Watch(1));
+    answers(rt, core, client, root, Answer::Watch(1));
     for name in ["/d", "/e"] {
         let making = Call::Mkdir {
             path: path(rt, alloc, name),
             mode: 0o755,
         };
-        assert!(rt; answer_to(core, client, making)? == Answer::Done);
+        answers(rt, core, client, making, Answer::Done);
     }
     let removing = Call::Rmdir {
         path: path(rt, alloc, "/d"),
     };
-    assert!(rt; answer_to(core, client, removing)? == Answer::Done);
-    match reply(core, client, Call::TakeNotices { count: 9 })? {
-        Reply::Unread(notices) => Ok(notices.as_slice().len()),
-        _ => Err(Fail::from("another reply")),
+    answers(rt, core, client, removing, Answer::Done);
+    match reply(rt, core, client, Call::TakeNotices { count: 9 }) {
+        Reply::Unread(notices) => notices.as_slice().len(),
+        _ => panic!(rt; "another reply"),
     }
 }
 
 #[test]
-fn a_callback_that_answers_none_leaves_the_queue_empty(rt: HostRuntime) -> Result<(), Fail> {
+fn a_callback_that_answers_none_leaves_the_queue_empty(rt: HostRuntime) {
     let silent = |_: &Event| -> Option<Notice> { None };
     let callback = Asked { function: silent };
-    let unread = unread_by(&rt, rt.alloc(), RandomState::new(&rt)?, callback)?;
-    assert_eq!(rt; unread, 0);
-    Ok(())
+    let unread = unread_by(&rt, rt.alloc(), keys_of(&rt), callback);
+    counts(&rt, unread, 0, "notices");
 }
 
 #[test]
-fn a_callback_is_asked_once_an_event(rt: HostRuntime) -> Result<(), Fail> {
+fn a_callback_is_asked_once_an_event(rt: HostRuntime) {
     let asked = Cell::new(0u32);
     let counting = |event: &Event| -> Option<Notice> {
         let times = asked.get().wrapping_add(1);
@@ -87,10 +86,9 @@ fn a_callback_is_asked_once_an_event(rt: HostRuntime) -> Result<(), Fail> {
         })
     };
     let callback = Asked { function: counting };
-    let unread = unread_by(&rt, rt.alloc(), RandomState::new(&rt)?, callback)?;
-    assert_eq!(rt; asked.get(), 2);
-    assert_eq!(rt; unread, 2);
-    Ok(())
+    let unread = unread_by(&rt, rt.alloc(), keys_of(&rt), callback);
+    holds(&rt, asked.get() == 2, "asked twice");
+    counts(&rt, unread, 2, "notices");
 }
 
 // Attaches a client with 17 hooks.
@@ -99,52 +97,42 @@ fn attach_too_many<F: Callback + Copy>(
     alloc: Global,
     core: &mut Core<F, AnyAnswer>,
     callback: F,
-) -> Result<(), Fail>
+)
     requires { (e : Bor Event) → IsEvent e.now → F.may callback e }
 {
-    if core.finished() >= DEEDS_MAX {
-        return Err(Fail::from("too many deeds"));
-    }
+    assert!(rt; core.finished() < DEEDS_MAX);
     let mut hooks = Vec::new(alloc);
     for tag in 0..17u32 {
-        hooks.push(Hook::new(tag, callback))?;
+        hooks.push(Hook::new(tag, callback)).expect(rt, "memory");
     }
     match core.attach(hooks) {
-        Ok(_) => Err(Fail::from("a client with 17 hooks")),
+        Ok(_) => panic!(rt; "a client with 17 hooks"),
         Err(refused) => {
-            assert!(rt; refused.errno == Errno::EINVAL);
-            assert_eq!(rt; refused.hooks.len(), 17);
-            assert_eq!(rt; core.finished(), 0);
-            Ok(())
+            holds(rt, refused.errno == Errno::EINVAL, "EINVAL");
+            counts(rt, refused.hooks.len(), 17, "hooks");
         }
     }
+    holds(rt, core.finished() == 0, "nothing was done");
 }
 
-fn refuses_hooks<F: Callback + Copy>(
-    rt: &impl Abort,
-    alloc: Global,
-    keys: RandomState,
-    callback: F,
-) -> Result<(), Fail>
+fn refuses_hooks<F: Callback + Copy>(rt: &impl Abort, alloc: Global, keys: RandomState, callback: F)
     requires { (e : Bor Event) → IsEvent e.now → F.may callback e }
 {
-    let mut core: Core<F, AnyAnswer> = mounted(alloc, keys, EMPTY)?;
-    let refused = attach_too_many(rt, alloc, &mut core, callback);
+    let mut core: Core<F, AnyAnswer> = mounted(rt, alloc, keys, EMPTY);
+    attach_too_many(rt, alloc, &mut core, callback);
     unmount(core);
-    refused
 }
 
 #[test]
-fn seventeen_hooks_are_handed_back(rt: HostRuntime) -> Result<(), Fail> {
+fn seventeen_hooks_are_handed_back(rt: HostRuntime) {
     let silent = |_: &Event| -> Option<Notice> { None };
     let callback = Asked { function: silent };
-    refuses_hooks(&rt, rt.alloc(), RandomState::new(&rt)?, callback)
+    refuses_hooks(&rt, rt.alloc(), keys_of(&rt), callback);
 }
 
 #[test]
-fn cookies_begin_again_at_1(rt: HostRuntime) -> Result<(), Fail> {
-    assert_eq!(rt; cookie_of(1), 1);
-    assert_eq!(rt; cookie_of(4294967295), 4294967295);
-    assert_eq!(rt; cookie_of(4294967296), 1);
-    Ok(())
+fn cookies_begin_again_at_1(rt: HostRuntime) {
+    holds(&rt, cookie_of(1) == 1, "the first cookie");
+    holds(&rt, cookie_of(4294967295) == 4294967295, "the last cookie");
+    holds(&rt, cookie_of(4294967296) == 1, "the first cookie again");
 }

@@ -1,4 +1,5 @@
 // Jobs of many clients whose steps come between one another's, and jobs that are begun and dropped.
+use crate::checks::{add_text, counts, holds, keys_of};
 use crate::cores::{Answer, DEEDS_MAX, answer_of, answer_to, attached, mounted, unmount};
 use crate::fixtures::{flags, path};
 use crate::schedules::drop_all;
@@ -8,7 +9,6 @@ use overlay_core::{Core, Job, Turn, drive};
 use std::alloc::{AllocError, Global};
 use std::hash::RandomState;
 use std::process::Abort;
-use std::test::Fail;
 use watch_table::{Callback, Rule};
 
 const CLIENTS: usize = 8;
@@ -26,17 +26,18 @@ const MIXED: usize = 2_000;
 const STEPS: usize = 4_000;
 
 // A manifest with files of up to 16,101 bytes, which are one to four chunks.
-fn files(alloc: Global) -> Result<String, AllocError> {
+fn files(rt: &impl Abort, alloc: Global) -> String {
     let mut manifest = String::new(alloc);
-    manifest.push_str("[[layer]]\n[[layer]]\n[[layer.entry]]\npath = '/d'\nkind = 'dir'\n")?;
+    let front = "[[layer]]\n[[layer]]\n[[layer.entry]]\npath = '/d'\nkind = 'dir'\n";
+    add_text(rt, &mut manifest, front);
     for number in 0..FILES {
         let size = number * 700 + 1;
         let entry = format!(in alloc;
             "[[layer.entry]]\npath = '/d/{number}'\nkind = 'file'\nzeros = {size}\n"
-        )?;
-        manifest.push_str(entry.as_str())?;
+        );
+        add_text(rt, &mut manifest, entry.expect(rt, "memory").as_str());
     }
-    Ok(manifest)
+    manifest
 }
 
 // Opens for writing.
@@ -113,27 +114,23 @@ fn schedule_of(alloc: Global) -> Result<Vec<usize>, AllocError> {
 }
 
 // Attaches the clients, whose numbers are 0 and up.
-fn attach_all<F: Callback + Copy, H: Rule>(
-    alloc: Global,
-    core: &mut Core<F, H>,
-) -> Result<(), Fail> {
+fn attach_all<F: Callback + Copy, H: Rule>(rt: &impl Abort, alloc: Global, core: &mut Core<F, H>) {
     for _client in 0..CLIENTS {
-        let _ = attached(core, Vec::new(alloc))?;
+        let _ = attached(rt, core, Vec::new(alloc));
     }
-    Ok(())
 }
 
 // Gives jobs their steps: the replies, each with its job's number, in the order of finishing.
 fn stepped<F: Callback + Copy, H: Rule>(
+    rt: &impl Abort,
     alloc: Global,
     core: &mut Core<F, H>,
     jobs: &mut [Job],
     schedule: &[usize],
-) -> Result<Vec<(usize, Reply)>, Fail> {
-    if core.finished() >= DEEDS_MAX || schedule.len() > STEPS {
-        return Err(Fail::from("too many deeds"));
-    }
-    Ok(drive(alloc, core, jobs, schedule)?)
+) -> Vec<(usize, Reply)> {
+    assert!(rt; core.finished() < DEEDS_MAX);
+    assert!(rt; schedule.len() <= STEPS);
+    drive(alloc, core, jobs, schedule).expect(rt, "memory")
 }
 
 // The replies to all jobs, none of which leaves a temp.
@@ -141,13 +138,13 @@ fn driven<F: Callback + Copy, H: Rule>(
     rt: &impl Abort,
     alloc: Global,
     core: &mut Core<F, H>,
-) -> Result<Vec<(usize, Reply)>, Fail> {
-    attach_all(alloc, core)?;
-    let schedule = schedule_of(alloc)?;
-    let mut jobs = jobs_of(rt, alloc)?;
-    let replies = stepped(alloc, core, jobs.as_mut_slice(), schedule.as_slice());
+) -> Vec<(usize, Reply)> {
+    attach_all(rt, alloc, core);
+    let schedule = schedule_of(alloc).expect(rt, "memory");
+    let mut jobs = jobs_of(rt, alloc).expect(rt, "memory");
+    let replies = stepped(rt, alloc, core, jobs.as_mut_slice(), schedule.as_slice());
     drop_all(core, jobs);
-    assert_eq!(rt; core.temps(), 0);
+    counts(rt, core.temps(), 0, "temps");
     replies
 }
 
@@ -157,17 +154,18 @@ fn repeated<F: Callback + Copy, H: Rule>(
     alloc: Global,
     core: &mut Core<F, H>,
     replies: &[(usize, Reply)],
-) -> Result<usize, Fail> {
-    attach_all(alloc, core)?;
+) -> usize {
+    attach_all(rt, alloc, core);
     let mut same = 0usize;
     for (number, wanted) in replies {
         let wanted = answer_of(wanted);
-        let made = answer_to(core, client_of(*number), call_of(rt, alloc, *number))?;
+        let call = call_of(rt, alloc, *number);
+        let made = answer_to(rt, core, client_of(*number), call);
         if made == wanted && made != Answer::Other {
             same = same.saturating_add(1);
         }
     }
-    Ok(same)
+    same
 }
 
 // The replies to all jobs on a mount of its own.
@@ -176,8 +174,8 @@ fn driven_apart<F: Callback + Copy, H: Rule>(
     alloc: Global,
     keys: RandomState,
     manifest: &str,
-) -> Result<Vec<(usize, Reply)>, Fail> {
-    let mut core: Core<F, H> = mounted(alloc, keys, manifest)?;
+) -> Vec<(usize, Reply)> {
+    let mut core: Core<F, H> = mounted(rt, alloc, keys, manifest);
     let replies = driven(rt, alloc, &mut core);
     unmount(core);
     replies
@@ -190,30 +188,25 @@ fn repeated_apart<F: Callback + Copy, H: Rule>(
     keys: RandomState,
     manifest: &str,
     replies: &[(usize, Reply)],
-) -> Result<usize, Fail> {
-    let mut core: Core<F, H> = mounted(alloc, keys, manifest)?;
+) -> usize {
+    let mut core: Core<F, H> = mounted(rt, alloc, keys, manifest);
     let same = repeated(rt, alloc, &mut core, replies);
     unmount(core);
     same
 }
 
 // What a schedule answers is what the same jobs are answered one after the other.
-fn interleaves<F: Callback + Copy, H: Rule>(
-    rt: &impl Abort,
-    alloc: Global,
-    keys: RandomState,
-) -> Result<(), Fail> {
-    let manifest = files(alloc)?;
-    let replies = driven_apart::<F, H>(rt, alloc, keys, manifest.as_str())?;
-    assert_eq!(rt; replies.len(), JOBS);
-    let same = repeated_apart::<F, H>(rt, alloc, keys, manifest.as_str(), replies.as_slice())?;
-    assert_eq!(rt; same, JOBS);
-    Ok(())
+fn interleaves<F: Callback + Copy, H: Rule>(rt: &impl Abort, alloc: Global, keys: RandomState) {
+    let manifest = files(rt, alloc);
+    let replies = driven_apart::<F, H>(rt, alloc, keys, manifest.as_str());
+    counts(rt, replies.len(), JOBS, "replies");
+    let same = repeated_apart::<F, H>(rt, alloc, keys, manifest.as_str(), replies.as_slice());
+    counts(rt, same, JOBS, "replies that are the same");
 }
 
 #[test]
-fn interleaved_jobs_are_calls_one_by_one(rt: HostRuntime) -> Result<(), Fail> {
-    interleaves::<ByTag, ProgramRule>(&rt, rt.alloc(), RandomState::new(&rt)?)
+fn interleaved_jobs_are_calls_one_by_one(rt: HostRuntime) {
+    interleaves::<ByTag, ProgramRule>(&rt, rt.alloc(), keys_of(&rt));
 }
 
 const FILE: &str = "layer = [{}, {entry = [{path = '/f', kind = 'file', zeros = 8193}]}]";
@@ -230,7 +223,9 @@ fn begins<F: Callback + Copy, H: Rule>(core: &mut Core<F, H>, client: u64, call:
     let turn = core.advance(&mut job);
     let kept = core.open_jobs(client) == 1 && core.temps() == 1;
     drop(core.drop_job(job));
-    kept && matches!(turn, Turn::More)
+    let has_more = matches!(&turn, Turn::More);
+    drop(turn);
+    kept && has_more
 }
 
 // How many of so many jobs were begun and dropped.
@@ -253,27 +248,30 @@ fn keeps_nothing<F: Callback + Copy, H: Rule>(
     rt: &impl Abort,
     alloc: Global,
     core: &mut Core<F, H>,
-) -> Result<(), Fail> {
-    let client = attached(core, Vec::new(alloc))?;
-    assert_eq!(rt; begun(rt, alloc, core, client), TIMES);
-    assert_eq!(rt; core.open_jobs(client), 0);
-    assert_eq!(rt; core.temps(), 0);
-    assert_eq!(rt; core.finished(), 1);
-    Ok(())
+) {
+    let client = attached(rt, core, Vec::new(alloc));
+    counts(
+        rt,
+        begun(rt, alloc, core, client),
+        TIMES,
+        "begun and dropped",
+    );
+    counts(rt, core.open_jobs(client), 0, "open jobs");
+    counts(rt, core.temps(), 0, "temps");
+    holds(rt, core.finished() == 1, "only the attach was done");
 }
 
 fn keeps_nothing_of_drops<F: Callback + Copy, H: Rule>(
     rt: &impl Abort,
     alloc: Global,
     keys: RandomState,
-) -> Result<(), Fail> {
-    let mut core: Core<F, H> = mounted(alloc, keys, FILE)?;
-    let kept = keeps_nothing(rt, alloc, &mut core);
+) {
+    let mut core: Core<F, H> = mounted(rt, alloc, keys, FILE);
+    keeps_nothing(rt, alloc, &mut core);
     unmount(core);
-    kept
 }
 
 #[test]
-fn dropped_jobs_leave_nothing(rt: HostRuntime) -> Result<(), Fail> {
-    keeps_nothing_of_drops::<ByTag, ProgramRule>(&rt, rt.alloc(), RandomState::new(&rt)?)
+fn dropped_jobs_leave_nothing(rt: HostRuntime) {
+    keeps_nothing_of_drops::<ByTag, ProgramRule>(&rt, rt.alloc(), keys_of(&rt));
 }

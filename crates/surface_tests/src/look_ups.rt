@@ -1,39 +1,43 @@
 // Chains of redirects in as many layers as there may be, and the way back from an object of the upper to its path.
+use crate::checks::{add_text, counts, holds, keys_of};
 use crate::fixtures::{layers_of, mount, path, read, seen};
 use layer_tree::{Entry, Layer, ROOT};
 use merged_lookup::Layers;
 use ov_base::{Errno, Name};
 use std::alloc::Global;
-use std::hash::RandomState;
 use std::process::Abort;
-use std::test::Fail;
 
 // 17 layers, in each a chain of eight directories in one another, each with a redirect to the last of them; and a file in that of the
 // last layer.
-fn chains(alloc: Global) -> Result<String, Fail> {
+fn chains(rt: &impl Abort, alloc: Global) -> String {
     let mut manifest = String::new(alloc);
     for _ in 0..17 {
-        manifest.push_str("[[layer]]\n")?;
+        add_text(rt, &mut manifest, "[[layer]]\n");
         let mut path = String::new(alloc);
         for _ in 0..8 {
-            path.push_str("/a")?;
-            let entry = format!(in alloc;
-                "[[layer.entry]]\npath = \"{path}\"\nkind = \"dir\"\nredirect = \"/a/a/a/a/a/a/a/a\"\n"
-            )?;
-            manifest.push_str(entry.as_str())?;
+            add_text(rt, &mut path, "/a");
+            add_text(rt, &mut manifest, "[[layer.entry]]\npath = \"");
+            add_text(rt, &mut manifest, path.as_str());
+            add_text(
+                rt,
+                &mut manifest,
+                "\"\nkind = \"dir\"\nredirect = \"/a/a/a/a/a/a/a/a\"\n",
+            );
         }
     }
-    manifest.push_str("[[layer.entry]]\npath = \"/a/a/a/a/a/a/a/a/note\"\nkind = \"file\"\n")?;
-    Ok(manifest)
+    let note = "[[layer.entry]]\npath = \"/a/a/a/a/a/a/a/a/note\"\nkind = \"file\"\n";
+    add_text(rt, &mut manifest, note);
+    manifest
 }
 
 // In each layer but the last a way of one to eight names is spelled as the chain's last directory for the next layer, so all 17 have one
 // there, and what is below that is spelled below it. A walk that began anew at each redirect would take 8 to the 16th steps.
 #[test]
-fn chains_of_redirects_answer_at_once(rt: HostRuntime) -> Result<(), Fail> {
+fn chains_of_redirects_answer_at_once(rt: HostRuntime) {
     let alloc = rt.alloc();
-    let layers = mount(alloc, RandomState::new(&rt)?, chains(alloc)?.as_str())?;
-    assert_eq!(rt; layers.count(), 17);
+    let manifest = chains(&rt, alloc);
+    let layers = mount(&rt, alloc, keys_of(&rt), manifest.as_str());
+    counts(&rt, layers.count(), 17, "layers");
     for (text, wanted) in [
         ("/a", Ok((0, 17, 0o755))),
         ("/a/a/a/a", Ok((0, 17, 0o755))),
@@ -44,10 +48,9 @@ fn chains_of_redirects_answer_at_once(rt: HostRuntime) -> Result<(), Fail> {
         ("/a/a/a/note/x", Err(Errno::ENOTDIR)),
     ] {
         let found = seen(&layers, &path(&rt, alloc, text));
-        assert!(rt; found == wanted, "{text}");
+        holds(&rt, found == wanted, text);
     }
     drop(layers);
-    Ok(())
 }
 
 // The text of `/a-` is less than that of `/a/b`, since `-` is less than `/`, and the list of its names is greater.
@@ -58,41 +61,35 @@ const TWO_NAMES: &str = "layer = [{entry = [
 ]}, {}]";
 
 #[test]
-fn an_object_is_located_at_the_least_text(rt: HostRuntime) -> Result<(), Fail> {
+fn an_object_is_located_at_the_least_text(rt: HostRuntime) {
     let alloc = rt.alloc();
-    let layers = mount(alloc, RandomState::new(&rt)?, TWO_NAMES)?;
-    let outcome = locates(&rt, alloc, &layers);
+    let layers = mount(&rt, alloc, keys_of(&rt), TWO_NAMES);
+    for (text, wanted) in [("/a/b", "/a-"), ("/a-", "/a-"), ("/a", "/a"), ("/", "/")] {
+        locates(&rt, alloc, &layers, text, wanted);
+    }
     drop(layers);
-    outcome
 }
 
-fn locates(rt: &impl Abort, alloc: Global, layers: &Layers) -> Result<(), Fail> {
-    for (text, wanted) in [("/a/b", "/a-"), ("/a-", "/a-"), ("/a", "/a"), ("/", "/")] {
-        let Some(Entry::Object(key)) = layers.upper().find(&path(rt, alloc, text)) else {
-            return Err(Fail::from("no object"));
-        };
-        let Some(located) = layers.locate(alloc, key)? else {
-            return Err(Fail::from("no path"));
-        };
-        assert!(rt;
-            located.names() == path(rt, alloc, wanted).names(),
-            "{text}"
-        );
-    }
-    Ok(())
+fn locates(rt: &impl Abort, alloc: Global, layers: &Layers, text: &str, wanted: &str) {
+    let Some(Entry::Object(key)) = layers.upper().find(&path(rt, alloc, text)) else {
+        panic!(rt; "no object");
+    };
+    let located = layers.locate(alloc, key).expect(rt, "memory");
+    let located = located.expect(rt, "a path");
+    holds(rt, located.names() == path(rt, alloc, wanted).names(), text);
 }
 
 #[test]
-fn an_object_without_a_name_has_no_path(rt: HostRuntime) -> Result<(), Fail> {
+fn an_object_without_a_name_has_no_path(rt: HostRuntime) {
     let alloc = rt.alloc();
     let manifest = "layer = [{entry = [{path = '/f', kind = 'file'}]}, {}]";
-    let keys = RandomState::new(&rt)?;
-    let (mut upper, lowers, _) = read(alloc, keys, manifest)?;
+    let keys = keys_of(&rt);
+    let (mut upper, lowers, _) = read(&rt, alloc, keys, manifest);
     let key = unnamed(&rt, alloc, &mut upper);
-    let layers = layers_of(alloc, keys, upper, lowers)?;
-    let outcome = has_no_path(&rt, alloc, &layers, key);
+    let layers = layers_of(&rt, alloc, keys, upper, lowers);
+    let located = layers.locate(alloc, key).expect(&rt, "memory");
+    holds(&rt, located.is_none(), "no path");
     drop(layers);
-    outcome
 }
 
 // The key of the file, whose name is taken away.
@@ -106,9 +103,4 @@ fn unnamed(rt: &impl Abort, alloc: Global, upper: &mut Layer) -> usize {
     };
     assert!(rt; upper.node(key).is_some());
     key
-}
-
-fn has_no_path(rt: &impl Abort, alloc: Global, layers: &Layers, key: usize) -> Result<(), Fail> {
-    assert!(rt; layers.locate(alloc, key)?.is_none());
-    Ok(())
 }

@@ -1,13 +1,14 @@
 // What no script shows of a manifest: its options, and that it may be long.
+use crate::checks::{add_text, counts, holds, keys_of};
 use crate::fixtures::{path, read};
 use layer_tree::{Entry, Layer, Node};
+use ov_base::Options;
 use std::alloc::Global;
 use std::hash::RandomState;
 use std::process::Abort;
-use std::test::Fail;
 
 #[test]
-fn options_of_manifests(rt: HostRuntime) -> Result<(), Fail> {
+fn options_of_manifests(rt: HostRuntime) {
     for (top, redirects, metacopy, history, file_limit) in [
         ("", false, false, 100_000, 1_048_576),
         (
@@ -25,42 +26,58 @@ fn options_of_manifests(rt: HostRuntime) -> Result<(), Fail> {
             1_099_511_627_776,
         ),
     ] {
-        let manifest = format!(in rt.alloc(); "{top}layer = [{{}}, {{}}]")?;
-        let (upper, lowers, options) = read(rt.alloc(), RandomState::new(&rt)?, manifest.as_str())?;
-        drop(upper);
-        assert_eq!(rt; options.redirects, redirects, "{top}");
-        assert_eq!(rt; options.metacopy, metacopy, "{top}");
-        assert_eq!(rt; options.history, history, "{top}");
-        assert_eq!(rt; options.file_limit, file_limit, "{top}");
-        assert_eq!(rt; lowers.len(), 1);
-        drop(lowers);
+        let mut manifest = String::new(rt.alloc());
+        add_text(&rt, &mut manifest, top);
+        add_text(&rt, &mut manifest, "layer = [{}, {}]");
+        let options = options_of(&rt, rt.alloc(), keys_of(&rt), manifest.as_str());
+        holds(&rt, options.redirects == redirects, top);
+        holds(&rt, options.metacopy == metacopy, top);
+        holds(&rt, options.history == history, top);
+        holds(&rt, options.file_limit == file_limit, top);
     }
-    Ok(())
 }
 
-#[test]
-fn many_entries_in_one_directory(rt: HostRuntime) -> Result<(), Fail> {
-    let alloc = rt.alloc();
-    let mut manifest = String::from_str(alloc, "[[layer]]\n[[layer]]\n")?;
+// The options of a manifest of an upper and a lower layer.
+fn options_of(rt: &impl Abort, alloc: Global, keys: RandomState, manifest: &str) -> Options {
+    let (upper, lowers, options) = read(rt, alloc, keys, manifest);
+    drop(upper);
+    counts(rt, lowers.len(), 1, "lowers");
+    drop(lowers);
+    options
+}
+
+// A manifest of 10,000 files of one directory, each with its name for bytes.
+fn many_entries(rt: &impl Abort, alloc: Global) -> String {
+    let mut manifest = String::new(alloc);
+    add_text(rt, &mut manifest, "[[layer]]\n[[layer]]\n");
     for number in 0..10_000u32 {
         let entry = format!(in alloc;
             "[[layer.entry]]\npath = \"/{number}\"\nkind = \"file\"\ntext = \"{number}\"\n"
-        )?;
-        manifest.push_str(entry.as_str())?;
+        );
+        add_text(rt, &mut manifest, entry.expect(rt, "memory").as_str());
     }
-    let (upper, lowers, _) = read(alloc, RandomState::new(&rt)?, manifest.as_str())?;
-    drop(upper);
-    assert_eq!(rt; lowers.len(), 1);
-    let outcome = has_last(&rt, alloc, &lowers[0]);
-    drop(lowers);
-    outcome
+    manifest
 }
 
-fn has_last(rt: &impl Abort, alloc: Global, layer: &Layer) -> Result<(), Fail> {
+#[test]
+fn many_entries_in_one_directory(rt: HostRuntime) {
+    let alloc = rt.alloc();
+    let manifest = many_entries(&rt, alloc);
+    let (upper, lowers, _) = read(&rt, alloc, keys_of(&rt), manifest.as_str());
+    drop(upper);
+    assert_eq!(rt; lowers.len(), 1);
+    has_last(&rt, alloc, &lowers[0]);
+    drop(lowers);
+}
+
+fn has_last(rt: &impl Abort, alloc: Global, layer: &Layer) {
     let Some(Entry::Object(key)) = layer.find(&path(rt, alloc, "/9999")) else {
-        return Err(Fail::from("no object"));
+        panic!(rt; "no object");
     };
-    assert!(rt; matches!(layer.node(key), Some(Node::Inode(_))));
-    assert!(rt; layer.read(key) == Some(b"9999".as_slice()));
-    Ok(())
+    holds(
+        rt,
+        matches!(layer.node(key), Some(Node::Inode(_))),
+        "no directory",
+    );
+    holds(rt, layer.read(key) == Some(b"9999".as_slice()), "its bytes");
 }

@@ -1,10 +1,11 @@
 // Files of a layer without bytes of their own, whose marks are made by hand: what they show, how they get bytes, and where they are no
 // mount.
-ghost use Rattle.std.specs.Prelude.{◌∷◌, IfOk, OnOk, map};
+ghost use Rattle.std.specs.Prelude.{◌∷◌, OnOk, map};
 ghost use Rattle.plain_model.specs.Layers.{AreLayers, IsLayer};
 ghost use Rattle.layer_tree.specs.Tree.{layer_of};
 
-use crate::cores::{Answer, answer_to, attached, mounted_on, refused, reply, unmount};
+use crate::checks::{holds, keys_of};
+use crate::cores::{Answer, answer_to, answers, attached, mounted_on, refused, reply, unmount};
 use crate::fixtures::{flags, path, read};
 use layer_tree::{Entry, Layer, Object, ROOT};
 use ov_base::{
@@ -12,7 +13,7 @@ use ov_base::{
 };
 use ov_server::{ByTag, ProgramRule};
 use overlay_core::{Core, MountFault, Unmounted};
-use std::alloc::{AllocError, Global};
+use std::alloc::Global;
 use std::hash::RandomState;
 use std::process::Abort;
 use std::test::Fail;
@@ -53,12 +54,12 @@ const UNMARKED: Stat = Stat {
 };
 
 // The first layer of a manifest, and its options.
-fn layer_in(alloc: Global, keys: RandomState, manifest: &str) -> Result<(Layer, Options), Fail>
-    ensures layer { IfOk result (λ r. IsLayer (layer_of r.0)) }
+fn layer_in(rt: &impl Abort, alloc: Global, keys: RandomState, manifest: &str) -> (Layer, Options)
+    ensures layer { IsLayer (layer_of result.0) }
 {
-    let (layer, lowers, options) = read(alloc, keys, manifest)?;
+    let (layer, lowers, options) = read(rt, alloc, keys, manifest);
     drop(lowers);
-    Ok((layer, options))
+    (layer, options)
 }
 
 // The attributes of a file that is made by hand.
@@ -89,41 +90,15 @@ fn put_marked(rt: &impl Abort, alloc: Global, layer: &mut Layer, mark: &str) -> 
 }
 
 // A lower layer under an upper.
-fn over(alloc: Global, upper: Layer, lower: Layer) -> Result<(Layer, Vec<Layer>), AllocError>
+fn over(rt: &impl Abort, alloc: Global, upper: Layer, lower: Layer) -> (Layer, Vec<Layer>)
     requires upper { IsLayer (layer_of upper) }
     requires lower { IsLayer (layer_of lower) }
-    ensures layers { IfOk result (λ r. AreLayers (layer_of r.0 ∷ map layer_of r.1.items)) }
+    ensures layers { AreLayers (layer_of result.0 ∷ map layer_of result.1.items) }
 {
     let mut lowers = Vec::new(alloc);
     match lowers.push(lower) {
-        Ok(()) => Ok((upper, lowers)),
-        Err(fault) => {
-            drop(upper);
-            drop(lowers);
-            Err(AllocError::from(fault))
-        }
-    }
-}
-
-// A lower layer under an upper and its options, if they could be made.
-fn under(
-    alloc: Global,
-    upper: Result<(Layer, Options), Fail>,
-    lower: Layer,
-) -> Result<(Layer, Vec<Layer>, Options), Fail>
-    requires upper { IfOk upper (λ r. IsLayer (layer_of r.0)) }
-    requires lower { IsLayer (layer_of lower) }
-    ensures layers { IfOk result (λ r. AreLayers (layer_of r.0 ∷ map layer_of r.1.items)) }
-{
-    match upper {
-        Ok((upper, options)) => {
-            let (upper, lowers) = over(alloc, upper, lower)?;
-            Ok((upper, lowers, options))
-        }
-        Err(fail) => {
-            drop(lower);
-            Err(fail)
-        }
+        Ok(()) => (upper, lowers),
+        Err(_) => panic!(rt; "memory"),
     }
 }
 
@@ -134,16 +109,13 @@ fn layer_marked(
     keys: RandomState,
     manifest: &str,
     mark: &str,
-) -> Result<(Layer, Options), Fail>
-    ensures layer { IfOk result (λ r. IsLayer (layer_of r.0)) }
+) -> (Layer, Options)
+    ensures layer { IsLayer (layer_of result.0) }
 {
-    let (mut layer, options) = layer_in(alloc, keys, manifest)?;
+    let (mut layer, options) = layer_in(rt, alloc, keys, manifest);
     match put_marked(rt, alloc, &mut layer, mark) {
-        Ok(()) => Ok((layer, options)),
-        Err(fail) => {
-            drop(layer);
-            Err(fail)
-        }
+        Ok(()) => (layer, options),
+        Err(_) => panic!(rt; "no mark"),
     }
 }
 
@@ -153,95 +125,90 @@ fn marked_by(
     alloc: Global,
     keys: RandomState,
     mark: &str,
-) -> Result<(Layer, Vec<Layer>, Options), Fail>
-    ensures layers { IfOk result (λ r. AreLayers (layer_of r.0 ∷ map layer_of r.1.items)) }
+) -> (Layer, Vec<Layer>, Options)
+    ensures layers { AreLayers (layer_of result.0 ∷ map layer_of result.1.items) }
 {
-    let (lower, _) = layer_in(alloc, keys, LOWER)?;
-    under(alloc, layer_marked(rt, alloc, keys, UPPER, mark), lower)
+    let (lower, _) = layer_in(rt, alloc, keys, LOWER);
+    let (upper, options) = layer_marked(rt, alloc, keys, UPPER, mark);
+    let (upper, lowers) = over(rt, alloc, upper, lower);
+    (upper, lowers, options)
 }
 
 // The key of the file at a path.
-fn key_at(rt: &impl Abort, alloc: Global, layer: &Layer, text: &str) -> Result<usize, Fail> {
+fn key_at(rt: &impl Abort, alloc: Global, layer: &Layer, text: &str) -> usize {
     match layer.find(&path(rt, alloc, text)) {
-        Some(Entry::Object(key)) => Ok(key),
-        _ => Err(Fail::from("no object")),
+        Some(Entry::Object(key)) => key,
+        _ => panic!(rt; "no object"),
     }
 }
 
-// Whether `/m` has this mark.
-fn is_marked(rt: &impl Abort, alloc: Global, layer: &Layer, mark: &str) -> Result<bool, Fail> {
-    match layer.mark(key_at(rt, alloc, layer, "/m")?) {
-        Some(found) => Ok(found.names() == path(rt, alloc, mark).names()),
-        None => Ok(false),
-    }
+// `/m` has this mark.
+fn assert_marked(rt: &impl Abort, alloc: Global, layer: &Layer, mark: &str) {
+    let found = layer.mark(key_at(rt, alloc, layer, "/m"));
+    let found = found.expect(rt, "a mark");
+    holds(rt, found.names() == path(rt, alloc, mark).names(), mark);
 }
 
 // A lower layer whose `/m` has a mark, under an upper.
-fn over_marked(
-    rt: &impl Abort,
-    alloc: Global,
-    keys: RandomState,
-) -> Result<(Layer, Vec<Layer>, Options), Fail>
-    ensures layers { IfOk result (λ r. AreLayers (layer_of r.0 ∷ map layer_of r.1.items)) }
+fn over_marked(rt: &impl Abort, alloc: Global, keys: RandomState) -> (Layer, Vec<Layer>, Options)
+    ensures layers { AreLayers (layer_of result.0 ∷ map layer_of result.1.items) }
 {
-    let (lower, _) = layer_marked(rt, alloc, keys, LOWER, "/f")?;
-    under(alloc, layer_in(alloc, keys, UPPER), lower)
+    let (lower, _) = layer_marked(rt, alloc, keys, LOWER, "/f");
+    let (upper, options) = layer_in(rt, alloc, keys, UPPER);
+    let (upper, lowers) = over(rt, alloc, upper, lower);
+    (upper, lowers, options)
 }
 
 #[test]
-fn a_lower_layer_with_a_mark_is_no_mount(rt: HostRuntime) -> Result<(), Fail> {
+fn a_lower_layer_with_a_mark_is_no_mount(rt: HostRuntime) {
     let alloc = rt.alloc();
-    let keys = RandomState::new(&rt)?;
-    let (upper, lowers, options) = over_marked(&rt, alloc, keys)?;
-    let back = refused::<ByTag, ProgramRule>(alloc, keys, upper, lowers, options)?;
-    let outcome = hands_back_marked(&rt, alloc, &back);
+    let keys = keys_of(&rt);
+    let (upper, lowers, options) = over_marked(&rt, alloc, keys);
+    let back = refused::<ByTag, ProgramRule>(&rt, alloc, keys, upper, lowers, options);
+    hands_back_marked(&rt, alloc, &back);
     drop(back);
-    outcome
 }
 
 // The layers are handed back, the lower one with its mark.
-fn hands_back_marked(rt: &impl Abort, alloc: Global, back: &Unmounted) -> Result<(), Fail> {
-    assert!(rt; back.fault == Some(MountFault::BadMetacopy));
-    let Some(upper) = &back.upper else {
-        return Err(Fail::from("no upper"));
-    };
-    assert!(rt; upper.find(&path(rt, alloc, "/d")).is_some());
-    assert_eq!(rt; back.lowers.len(), 1);
-    assert!(rt; is_marked(rt, alloc, &back.lowers[0], "/f")?);
-    Ok(())
+fn hands_back_marked(rt: &impl Abort, alloc: Global, back: &Unmounted) {
+    holds(rt, back.fault == Some(MountFault::BadMetacopy), "the fault");
+    let upper = back.upper.as_ref().expect(rt, "an upper");
+    has_object(rt, alloc, upper, "/d");
+    holds(rt, back.lowers.len() == 1, "one lower");
+    assert_marked(rt, alloc, &back.lowers[0], "/f");
 }
 
 // The lower layer has nothing at the first three, a directory at the next two and a symbolic link at the last; the upper has a directory at
 // the first and the file itself at the second.
 #[test]
-fn a_mark_that_leads_to_no_lower_file_is_no_mount(rt: HostRuntime) -> Result<(), Fail> {
+fn a_mark_that_leads_to_no_lower_file_is_no_mount(rt: HostRuntime) {
     for mark in ["/d", "/m", "/f/n", "/e", "/", "/s"] {
-        refuses_mark(&rt, rt.alloc(), RandomState::new(&rt)?, mark)?;
+        refuses_mark(&rt, rt.alloc(), keys_of(&rt), mark);
     }
-    Ok(())
 }
 
-fn refuses_mark(rt: &impl Abort, alloc: Global, keys: RandomState, mark: &str) -> Result<(), Fail> {
-    let (upper, lowers, options) = marked_by(rt, alloc, keys, mark)?;
-    let back = refused::<ByTag, ProgramRule>(alloc, keys, upper, lowers, options)?;
-    let outcome = hands_back(rt, alloc, &back, mark);
+fn refuses_mark(rt: &impl Abort, alloc: Global, keys: RandomState, mark: &str) {
+    let (upper, lowers, options) = marked_by(rt, alloc, keys, mark);
+    let back = refused::<ByTag, ProgramRule>(rt, alloc, keys, upper, lowers, options);
+    hands_back(rt, alloc, &back, mark);
     drop(back);
-    outcome
 }
 
 // The layers are handed back, the upper with this mark.
-fn hands_back(rt: &impl Abort, alloc: Global, back: &Unmounted, mark: &str) -> Result<(), Fail> {
-    assert!(rt; back.fault == Some(MountFault::BadMetacopy), "{mark}");
-    let Some(upper) = &back.upper else {
-        return Err(Fail::from("no upper"));
-    };
-    assert!(rt; is_marked(rt, alloc, upper, mark)?, "{mark}");
-    assert_eq!(rt; back.lowers.len(), 1);
-    assert!(rt; back.lowers[0].find(&path(rt, alloc, "/f")).is_some());
-    Ok(())
+fn hands_back(rt: &impl Abort, alloc: Global, back: &Unmounted, mark: &str) {
+    holds(rt, back.fault == Some(MountFault::BadMetacopy), mark);
+    let upper = back.upper.as_ref().expect(rt, "an upper");
+    assert_marked(rt, alloc, upper, mark);
+    holds(rt, back.lowers.len() == 1, "one lower");
+    has_object(rt, alloc, &back.lowers[0], "/f");
 }
 
-// Whether a path shows this.
+// A layer has something at a path.
+fn has_object(rt: &impl Abort, alloc: Global, layer: &Layer, text: &str) {
+    holds(rt, layer.find(&path(rt, alloc, text)).is_some(), text);
+}
+
+// A path shows this.
 fn shows<F: Callback + Copy, H: Rule>(
     rt: &impl Abort,
     alloc: Global,
@@ -249,11 +216,11 @@ fn shows<F: Callback + Copy, H: Rule>(
     client: u64,
     text: &str,
     wanted: Stat,
-) -> Result<bool, Fail> {
+) {
     let call = Call::Stat {
         path: path(rt, alloc, text),
     };
-    Ok(answer_to(core, client, call)? == Answer::Status(wanted))
+    answers(rt, core, client, call, Answer::Status(wanted));
 }
 
 // Opens a file for reading, or else for writing.
@@ -264,64 +231,56 @@ pub fn open<F: Callback + Copy, H: Rule>(
     client: u64,
     text: &str,
     writes: bool,
-) -> Result<u32, Fail> {
+) -> u32 {
     let call = Call::Open {
         path: path(rt, alloc, text),
         flags: flags(writes),
         mode: 0,
     };
-    match answer_to(core, client, call)? {
-        Answer::Descriptor(descriptor) => Ok(descriptor),
-        _ => Err(Fail::from("not opened")),
+    match answer_to(rt, core, client, call) {
+        Answer::Descriptor(descriptor) => descriptor,
+        _ => panic!(rt; "not opened"),
     }
 }
 
-// Whether a file has these bytes and no more.
-pub fn has_bytes<F: Callback + Copy, H: Rule>(
+// A file has these bytes and no more.
+pub fn assert_bytes<F: Callback + Copy, H: Rule>(
     rt: &impl Abort,
     alloc: Global,
     core: &mut Core<F, H>,
     client: u64,
     text: &str,
     wanted: &[u8],
-) -> Result<bool, Fail> {
-    let descriptor = open(rt, alloc, core, client, text, false)?;
+) {
+    let descriptor = open(rt, alloc, core, client, text, false);
     let count = 4_096;
-    let read = reply(core, client, Call::Read { descriptor, count })?;
+    let read = reply(rt, core, client, Call::Read { descriptor, count });
     let same = match &read {
         Reply::Read(bytes) => bytes.as_slice() == wanted,
         _ => false,
     };
     drop(read);
-    let closed = answer_to(core, client, Call::Close { descriptor })?;
-    Ok(same && closed == Answer::Done)
+    holds(rt, same, text);
+    let closing = Call::Close { descriptor };
+    answers(rt, core, client, closing, Answer::Done);
 }
 
 #[test]
-fn a_marked_file_shows_lower_bytes_until_it_is_filled(rt: HostRuntime) -> Result<(), Fail> {
-    shows_until_filled::<_, ByTag, ProgramRule>(&rt, rt.alloc(), RandomState::new(&rt)?)
+fn a_marked_file_shows_lower_bytes_until_it_is_filled(rt: HostRuntime) {
+    shows_until_filled::<_, ByTag, ProgramRule>(&rt, rt.alloc(), keys_of(&rt));
 }
 
 fn shows_until_filled<A: Abort, F: Callback + Copy, H: Rule>(
     rt: &A,
     alloc: Global,
     keys: RandomState,
-) -> Result<(), Fail> {
-    let (upper, lowers, options) = marked_by(rt, alloc, keys, "/f")?;
-    let mut core: Core<F, H> = mounted_on(alloc, keys, upper, lowers, options)?;
-    let shown = shows_and_fills(rt, alloc, &mut core);
+) {
+    let (upper, lowers, options) = marked_by(rt, alloc, keys, "/f");
+    let mut core: Core<F, H> = mounted_on(rt, alloc, keys, upper, lowers, options);
+    let client = attached(rt, &mut core, Vec::new(alloc));
+    shows_both(rt, alloc, &mut core, client);
+    fills(rt, alloc, &mut core, client);
     unmount(core);
-    shown
-}
-
-fn shows_and_fills<F: Callback + Copy, H: Rule>(
-    rt: &impl Abort,
-    alloc: Global,
-    core: &mut Core<F, H>,
-) -> Result<(), Fail> {
-    let client = attached(core, Vec::new(alloc))?;
-    shows_both(rt, alloc, core, client)?;
-    fills(rt, alloc, core, client)
 }
 
 // A file shows its own attributes and the bytes of the lower file, which shows its own.
@@ -330,15 +289,14 @@ fn shows_both<F: Callback + Copy, H: Rule>(
     alloc: Global,
     core: &mut Core<F, H>,
     client: u64,
-) -> Result<(), Fail> {
-    assert!(rt; shows(rt, alloc, core, client, "/m", MARKED)?);
-    assert!(rt; has_bytes(rt, alloc, core, client, "/m", BYTES)?);
-    let descriptor = open(rt, alloc, core, client, "/m", false)?;
-    let status = answer_to(core, client, Call::Fstat { descriptor })?;
-    assert!(rt; status == Answer::Status(MARKED));
-    assert!(rt; is_marked(rt, alloc, core.layers().upper(), "/f")?);
-    assert!(rt; shows(rt, alloc, core, client, "/f", UNMARKED)?);
-    Ok(())
+) {
+    shows(rt, alloc, core, client, "/m", MARKED);
+    assert_bytes(rt, alloc, core, client, "/m", BYTES);
+    let descriptor = open(rt, alloc, core, client, "/m", false);
+    let asking = Call::Fstat { descriptor };
+    answers(rt, core, client, asking, Answer::Status(MARKED));
+    assert_marked(rt, alloc, core.layers().upper(), "/f");
+    shows(rt, alloc, core, client, "/f", UNMARKED);
 }
 
 // An open for writing gives a file its bytes, and keeps its attributes; what is written isn't seen in the lower file.
@@ -347,18 +305,22 @@ fn fills<F: Callback + Copy, H: Rule>(
     alloc: Global,
     core: &mut Core<F, H>,
     client: u64,
-) -> Result<(), Fail> {
-    let descriptor = open(rt, alloc, core, client, "/m", true)?;
-    let key = key_at(rt, alloc, core.layers().upper(), "/m")?;
-    assert!(rt; core.layers().upper().own(key) == Some(BYTES));
-    assert!(rt; core.layers().upper().mark(key).is_none());
-    assert!(rt; shows(rt, alloc, core, client, "/m", MARKED)?);
-    assert!(rt; has_bytes(rt, alloc, core, client, "/m", BYTES)?);
-    let bytes = Bytes::from_slice(alloc, b"LOWER")?;
-    let written = answer_to(core, client, Call::Write { descriptor, bytes })?;
-    assert!(rt; written == Answer::Written(5));
-    assert!(rt; has_bytes(rt, alloc, core, client, "/m", b"LOWER bytes")?);
-    assert!(rt; shows(rt, alloc, core, client, "/m", MARKED)?);
-    assert!(rt; has_bytes(rt, alloc, core, client, "/f", BYTES)?);
-    Ok(())
+) {
+    let descriptor = open(rt, alloc, core, client, "/m", true);
+    assert_filled(rt, alloc, core.layers().upper());
+    shows(rt, alloc, core, client, "/m", MARKED);
+    assert_bytes(rt, alloc, core, client, "/m", BYTES);
+    let bytes = Bytes::from_slice(alloc, b"LOWER").expect(rt, "memory");
+    let writing = Call::Write { descriptor, bytes };
+    answers(rt, core, client, writing, Answer::Written(5));
+    assert_bytes(rt, alloc, core, client, "/m", b"LOWER bytes");
+    shows(rt, alloc, core, client, "/m", MARKED);
+    assert_bytes(rt, alloc, core, client, "/f", BYTES);
+}
+
+// `/m` has bytes of its own, and no mark.
+fn assert_filled(rt: &impl Abort, alloc: Global, upper: &Layer) {
+    let key = key_at(rt, alloc, upper, "/m");
+    holds(rt, upper.own(key) == Some(BYTES), "bytes of its own");
+    holds(rt, upper.mark(key).is_none(), "no mark");
 }

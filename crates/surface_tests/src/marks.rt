@@ -1,12 +1,11 @@
 // A directory of a layer gets other marks, and a path is spelled for the layer under the upper.
+use crate::checks::{holds, keys_of};
 use crate::fixtures::{mount, path, read};
 use layer_tree::{Entry, Layer, Marks, ROOT};
 use merged_lookup::{Found, Layers};
 use ov_base::{Name, Redirect};
 use std::alloc::Global;
-use std::hash::RandomState;
 use std::process::Abort;
-use std::test::Fail;
 
 // A layer with an opaque directory that has a whiteout.
 const OPAQUE: &str = "layer = [{entry = [
@@ -27,9 +26,9 @@ fn key(rt: &impl Abort, alloc: Global, layer: &Layer, text: &str) -> usize {
 }
 
 #[test]
-fn a_directory_gets_marks(rt: HostRuntime) -> Result<(), Fail> {
+fn a_directory_gets_marks(rt: HostRuntime) {
     let alloc = rt.alloc();
-    let (mut layer, lowers, _) = read(alloc, RandomState::new(&rt)?, OPAQUE)?;
+    let (mut layer, lowers, _) = read(&rt, alloc, keys_of(&rt), OPAQUE);
     drop(lowers);
     let e = key(&rt, alloc, &layer, "/e");
     assert!(rt; layer.is_directory(e));
@@ -41,18 +40,25 @@ fn a_directory_gets_marks(rt: HostRuntime) -> Result<(), Fail> {
             redirect: Some(Redirect::Single(name(&rt, alloc, b"d"))),
         },
     );
-    assert!(rt;
-        matches!(
-            layer.marks(e),
-            Some(Marks {
-                opaque: false,
-                redirect: Some(Redirect::Single(_))
-            })
-        )
+    holds(
+        &rt,
+        is_redirected(&layer, e),
+        "a redirect in place of a mark",
     );
-    assert!(rt; layer.find(&path(&rt, alloc, "/e/w")).is_some());
+    let whiteout = path(&rt, alloc, "/e/w");
+    holds(&rt, layer.find(&whiteout).is_some(), "a whiteout");
     drop(layer);
-    Ok(())
+}
+
+// Whether a directory has a redirect of one name, and isn't opaque.
+fn is_redirected(layer: &Layer, key: usize) -> bool {
+    matches!(
+        layer.marks(key),
+        Some(Marks {
+            opaque: false,
+            redirect: Some(Redirect::Single(_))
+        })
+    )
 }
 
 // In the upper an absolute redirect, below it a single one, and beside them none.
@@ -66,16 +72,15 @@ const REDIRECTS: &str = "layer = [{entry = [
 ]}]";
 
 #[test]
-fn a_path_is_spelled_for_the_layer_below(rt: HostRuntime) -> Result<(), Fail> {
+fn a_path_is_spelled_for_the_layer_below(rt: HostRuntime) {
     let alloc = rt.alloc();
-    let layers = mount(alloc, RandomState::new(&rt)?, REDIRECTS)?;
-    let outcome = spells(&rt, alloc, &layers);
+    let layers = mount(&rt, alloc, keys_of(&rt), REDIRECTS);
+    has_bases(&rt, alloc, &layers);
+    spells(&rt, alloc, &layers);
     drop(layers);
-    outcome
 }
 
-fn spells(rt: &impl Abort, alloc: Global, layers: &Layers) -> Result<(), Fail> {
-    has_bases(rt, alloc, layers)?;
+fn spells(rt: &impl Abort, alloc: Global, layers: &Layers) {
     for (text, wanted) in [
         ("/", "/"),
         ("/a", "/a"),
@@ -85,16 +90,13 @@ fn spells(rt: &impl Abort, alloc: Global, layers: &Layers) -> Result<(), Fail> {
         ("/a/b/c", "/x/y/z"),
         ("/a/b/c/b", "/x/y/z/b"),
     ] {
-        let spelled = layers.spelling_below(alloc, &path(rt, alloc, text))?;
-        assert!(rt;
-            spelled.names() == path(rt, alloc, wanted).names(),
-            "{text}"
-        );
+        let given = path(rt, alloc, text);
+        let spelled = layers.spelling_below(alloc, &given).expect(rt, "memory");
+        holds(rt, spelled.names() == path(rt, alloc, wanted).names(), text);
     }
-    Ok(())
 }
 
-fn has_bases(rt: &impl Abort, alloc: Global, layers: &Layers) -> Result<(), Fail> {
+fn has_bases(rt: &impl Abort, alloc: Global, layers: &Layers) {
     for (text, wanted) in [
         ("/", true),
         ("/a", false),
@@ -103,9 +105,8 @@ fn has_bases(rt: &impl Abort, alloc: Global, layers: &Layers) -> Result<(), Fail
     ] {
         let base = match layers.walk(&path(rt, alloc, text)) {
             Ok(Found::Directory(stack)) => stack.is_base(),
-            _ => return Err(Fail::from("no directory")),
+            _ => panic!(rt; "no directory"),
         };
-        assert!(rt; base == wanted, "{text}");
+        holds(rt, base == wanted, text);
     }
-    Ok(())
 }

@@ -1,11 +1,11 @@
 // Missing parents are placed one by one.
+use crate::checks::{counts, holds, keys_of};
 use crate::fixtures::{mount, path, seen};
 use copy_up::{Need, need_at, place_dir};
 use merged_lookup::Layers;
 use ov_base::Path;
-use std::hash::RandomState;
+use std::alloc::Global;
 use std::process::Abort;
-use std::test::Fail;
 
 const NESTED: &str = "layer = [{}, {entry = [
   {path = '/a', kind = 'dir', mode = 0o700},
@@ -27,19 +27,28 @@ fn place_next(rt: &impl Abort, layers: &mut Layers, path: &Path) -> usize {
 }
 
 #[test]
-fn places_one_parent_at_a_time(rt: HostRuntime) -> Result<(), Fail> {
+fn places_one_parent_at_a_time(rt: HostRuntime) {
     let alloc = rt.alloc();
-    let mut layers = mount(alloc, RandomState::new(&rt)?, NESTED)?;
+    let mut layers = mount(&rt, alloc, keys_of(&rt), NESTED);
     let new = path(&rt, alloc, "/a/b/new");
     for (count, first, second) in [
         (1, (0, 2, 0o700), (1, 1, 0o711)),
         (2, (0, 2, 0o700), (0, 2, 0o711)),
         (0, (0, 2, 0o700), (0, 2, 0o711)),
     ] {
-        assert_eq!(rt; place_next(&rt, &mut layers, &new), count);
-        assert!(rt; seen(&layers, &path(&rt, alloc, "/a")) == Ok(first));
-        assert!(rt; seen(&layers, &path(&rt, alloc, "/a/b")) == Ok(second));
+        counts(&rt, place_next(&rt, &mut layers, &new), count, "names");
+        is_seen(&rt, alloc, &layers, "/a", first);
+        is_seen(&rt, alloc, &layers, "/a/b", second);
     }
     drop(layers);
-    Ok(())
+}
+
+fn is_seen(
+    rt: &impl Abort,
+    alloc: Global,
+    layers: &Layers,
+    text: &str,
+    wanted: (usize, usize, u32),
+) {
+    holds(rt, seen(layers, &path(rt, alloc, text)) == Ok(wanted), text);
 }

@@ -1,40 +1,46 @@
 // Options with which layers are no mount.
+use crate::checks::{counts, holds, keys_of};
 use crate::cores::refused;
 use crate::fixtures::{EMPTY, read};
 use ov_base::Options;
 use ov_server::{ByTag, ProgramRule};
 use overlay_core::MountFault;
+use std::alloc::Global;
 use std::hash::RandomState;
-use std::test::Fail;
+use std::process::Abort;
+use watch_table::{Callback, Rule};
 
-#[test]
-fn refuses_a_history_of_one(rt: HostRuntime) -> Result<(), Fail> {
-    let alloc = rt.alloc();
-    let keys = RandomState::new(&rt)?;
-    let (upper, lowers, options) = read(alloc, keys, EMPTY)?;
+// Layers with such a history, and with metacopy or without, are refused for this fault and handed
+// back.
+fn refuses<F: Callback + Copy, H: Rule>(
+    rt: &impl Abort,
+    alloc: Global,
+    keys: RandomState,
+    (history, metacopy): (u32, bool),
+    fault: MountFault,
+) {
+    let (upper, lowers, options) = read(rt, alloc, keys, EMPTY);
     let options = Options {
-        history: 1,
+        history,
+        metacopy,
         ..options
     };
-    let unmounted = refused::<ByTag, ProgramRule>(alloc, keys, upper, lowers, options)?;
-    assert!(rt; unmounted.fault == Some(MountFault::BadHistory));
-    assert_eq!(rt; unmounted.lowers.len(), 1);
+    let unmounted = refused::<F, H>(rt, alloc, keys, upper, lowers, options);
+    holds(rt, unmounted.fault == Some(fault), "the fault");
+    counts(rt, unmounted.lowers.len(), 1, "lowers");
     drop(unmounted);
-    Ok(())
 }
 
 #[test]
-fn refuses_metacopy_without_redirects(rt: HostRuntime) -> Result<(), Fail> {
-    let alloc = rt.alloc();
-    let keys = RandomState::new(&rt)?;
-    let (upper, lowers, options) = read(alloc, keys, EMPTY)?;
-    let options = Options {
-        metacopy: true,
-        ..options
-    };
-    let unmounted = refused::<ByTag, ProgramRule>(alloc, keys, upper, lowers, options)?;
-    assert!(rt; unmounted.fault == Some(MountFault::BadMetacopy));
-    assert_eq!(rt; unmounted.lowers.len(), 1);
-    drop(unmounted);
-    Ok(())
+fn refuses_a_history_of_one(rt: HostRuntime) {
+    let keys = keys_of(&rt);
+    let options = (1, false);
+    refuses::<ByTag, ProgramRule>(&rt, rt.alloc(), keys, options, MountFault::BadHistory);
+}
+
+#[test]
+fn refuses_metacopy_without_redirects(rt: HostRuntime) {
+    let keys = keys_of(&rt);
+    let options = (100_000, true);
+    refuses::<ByTag, ProgramRule>(&rt, rt.alloc(), keys, options, MountFault::BadMetacopy);
 }

@@ -1,4 +1,5 @@
 // Jobs that are stepped by a schedule.
+use crate::checks::{counts, keys_of};
 use crate::cores::{Answer, DEEDS_MAX, answer_of, attached, mounted, unmount};
 use crate::fixtures::path;
 use ov_base::{Call, Errno};
@@ -7,7 +8,6 @@ use overlay_core::{Core, Job, drive};
 use std::alloc::Global;
 use std::hash::RandomState;
 use std::process::Abort;
-use std::test::Fail;
 use watch_table::{Callback, Hook, Rule};
 
 const DIRECTORY: &str = "layer = [{}, {entry = [{path = '/d', kind = 'dir'}]}]";
@@ -22,13 +22,9 @@ pub fn drop_all<F: Callback + Copy, H: Rule>(core: &mut Core<F, H>, jobs: Vec<Jo
 }
 
 #[test]
-fn answers_jobs_in_the_order_of_finishing(rt: HostRuntime) -> Result<(), Fail> {
-    answers_in_order(
-        &rt,
-        rt.alloc(),
-        RandomState::new(&rt)?,
-        hooks_by_slot(rt.alloc())?,
-    )
+fn answers_jobs_in_the_order_of_finishing(rt: HostRuntime) {
+    let hooks = hooks_by_slot(rt.alloc()).expect(&rt, "memory");
+    answers_in_order(&rt, rt.alloc(), keys_of(&rt), hooks);
 }
 
 fn answers_in_order<F: Callback + Copy, H: Rule>(
@@ -36,11 +32,10 @@ fn answers_in_order<F: Callback + Copy, H: Rule>(
     alloc: Global,
     keys: RandomState,
     hooks: Vec<Hook<F, H>>,
-) -> Result<(), Fail> {
-    let mut core: Core<F, H> = mounted(alloc, keys, DIRECTORY)?;
-    let answered = answers_on(rt, alloc, &mut core, hooks);
+) {
+    let mut core: Core<F, H> = mounted(rt, alloc, keys, DIRECTORY);
+    answers_on(rt, alloc, &mut core, hooks);
     unmount(core);
-    answered
 }
 
 fn answers_on<F: Callback + Copy, H: Rule>(
@@ -48,20 +43,18 @@ fn answers_on<F: Callback + Copy, H: Rule>(
     alloc: Global,
     core: &mut Core<F, H>,
     hooks: Vec<Hook<F, H>>,
-) -> Result<(), Fail> {
-    let client = attached(core, hooks)?;
-    if core.finished() >= DEEDS_MAX {
-        return Err(Fail::from("too many deeds"));
-    }
+) {
+    let client = attached(rt, core, hooks);
+    assert!(rt; core.finished() < DEEDS_MAX);
     let made = path(rt, alloc, "/d/x");
     let looked_up = path(rt, alloc, "/d/x");
     let mode = 0o700;
-    let mut jobs = Vec::with_capacity(alloc, 2)?;
+    let mut jobs = Vec::with_capacity(alloc, 2).expect(rt, "memory");
     jobs.push_reserved(Job::new(client, Call::Mkdir { path: made, mode }));
     jobs.push_reserved(Job::new(client, Call::Stat { path: looked_up }));
     let outcome = drive(alloc, core, jobs.as_mut_slice(), &[1, 7, 0, 1, 0]);
     drop_all(core, jobs);
-    let replies = outcome?;
+    let replies = outcome.expect(rt, "memory");
     let mut indexes = [9, 9];
     for (place, (index, reply)) in replies.as_slice().iter().enumerate() {
         let is_wanted = match answer_of(reply) {
@@ -72,7 +65,7 @@ fn answers_on<F: Callback + Copy, H: Rule>(
             indexes[place] = *index;
         }
     }
-    assert_eq!(rt; replies.len(), 2);
-    assert_eq!(rt; indexes, [1, 0]);
-    Ok(())
+    counts(rt, replies.len(), 2, "replies");
+    counts(rt, indexes[0], 1, "the job that finishes first");
+    counts(rt, indexes[1], 0, "the job that finishes second");
 }

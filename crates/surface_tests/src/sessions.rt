@@ -25,80 +25,69 @@ use overlay_core::Core;
 use std::alloc::Global;
 use std::hash::RandomState;
 use std::io::{Read, Write};
-use std::test::Fail;
+use std::process::Abort;
 use watch_table::{Callback, Rule};
 
-/// How a session ends on a new mount of two empty layers. Its client is attached no more.
-pub fn ending<I: Read, O: Write>(
+/// A session on a new mount of two empty layers ends so; if not, the number is told. Its client is
+/// attached no more.
+pub fn ends<I: Read, O: Write>(
+    rt: &impl Abort,
     alloc: Global,
     keys: RandomState,
-    reader: &mut I,
-    writer: &mut O,
-) -> Result<Ending, Fail> {
-    let (end, session) = served(alloc, keys, reader, writer)?;
+    (reader, writer): (&mut I, &mut O),
+    wanted: Ending,
+    number: usize,
+) {
+    let (end, session) = served(rt, alloc, keys, reader, writer);
     drop(session);
-    Ok(end)
+    assert!(rt; end == wanted, "another end: {number}");
 }
 
-/// The same, and what was asked and answered.
+/// These bytes were written; if not, the number is told.
+pub fn wrote(rt: &impl Abort, taken: &[u8], wanted: &[u8], number: usize) {
+    assert!(rt; taken == wanted, "other replies: {number}");
+}
+
+/// How such a session ends, and what was asked and answered.
 pub fn served<I: Read, O: Write>(
+    rt: &impl Abort,
     alloc: Global,
     keys: RandomState,
     reader: &mut I,
     writer: &mut O,
-) -> Result<(Ending, CoreSession), Fail> {
-    served_with::<ByTag, ProgramRule, I, O>(alloc, keys, reader, writer)
+) -> (Ending, CoreSession) {
+    served_with::<ByTag, ProgramRule, I, O>(rt, alloc, keys, reader, writer)
 }
 
 fn served_with<F: Callback + Copy, H: Rule, I: Read, O: Write>(
+    rt: &impl Abort,
     alloc: Global,
     keys: RandomState,
     reader: &mut I,
     writer: &mut O,
-) -> Result<(Ending, CoreSession), Fail> {
-    let core: Core<F, H> = mounted(alloc, keys, EMPTY)?;
-    attach_and_serve(alloc, core, reader, writer)
-}
-
-fn attach_and_serve<F: Callback + Copy, H: Rule, I: Read, O: Write>(
-    alloc: Global,
-    mut core: Core<F, H>,
-    reader: &mut I,
-    writer: &mut O,
-) -> Result<(Ending, CoreSession), Fail> {
-    match attached(&mut core, Vec::new(alloc)) {
-        Ok(client) => {
-            let (ended, core) = serve(alloc, core, client, reader, writer);
-            unmount(core);
-            ended
-        }
-        Err(fail) => {
-            unmount(core);
-            Err(fail)
-        }
-    }
+) -> (Ending, CoreSession) {
+    let mut core: Core<F, H> = mounted(rt, alloc, keys, EMPTY);
+    let client = attached(rt, &mut core, Vec::new(alloc));
+    let (end, session, core) = serve(rt, alloc, core, client, reader, writer);
+    unmount(core);
+    (end, session)
 }
 
 // How a session of a client ends, and what was asked and answered; the core goes back.
 fn serve<F: Callback + Copy, H: Rule, I: Read, O: Write>(
+    rt: &impl Abort,
     alloc: Global,
     core: Core<F, H>,
     client: u64,
     reader: &mut I,
     writer: &mut O,
-) -> (Result<(Ending, CoreSession), Fail>, Core<F, H>) {
-    if core.finished() >= DEEDS_MAX || !core.is_attached(client) {
-        return (Err(Fail::from("not attached")), core);
-    }
-    let Ok(session) = CoreSession::new(alloc) else {
-        return (Err(Fail::from("out of memory")), core);
-    };
+) -> (Ending, CoreSession, Core<F, H>) {
+    assert!(rt; core.finished() < DEEDS_MAX);
+    assert!(rt; core.is_attached(client));
+    let session = CoreSession::new(alloc).expect(rt, "memory");
     let mut input = CountedReader::new(reader);
     let mut output = SessionOutput::new(alloc, CountedWriter::new(writer));
     let (end, session, core) = run_session(alloc, core, client, session, &mut input, &mut output);
-    if core.is_attached(client) {
-        drop(session);
-        return (Err(Fail::from("still attached")), core);
-    }
-    (Ok((end, session)), core)
+    assert!(rt; !core.is_attached(client));
+    (end, session, core)
 }

@@ -1,4 +1,5 @@
 // Streams that fail, in the middle too, or are interrupted.
+use crate::checks::{holds, keys_of};
 use crate::fixtures::EMPTY;
 use ov_devices::{CountedReader, CountedWriter};
 use ov_server::{Fault, Output, hooks_by_slot, play_run, show_run};
@@ -8,36 +9,62 @@ use std::hash::RandomState;
 use std::io;
 use std::io::{Read, Write};
 use std::process::Abort;
-use std::test::Fail;
 
 const SCRIPT: &str = "attach\n0 stat /\n0 detach";
 
 const ANSWERS: &str = "client 0\n0 ok d 0755 0 0 0 1\n0 detached\n";
 
+/// How a run ended: with which status, and whether by a device that failed.
+#[derive(Clone, Copy)]
+struct End {
+    status: u8,
+    is_of_stream: bool,
+}
+
+fn end_of(outcome: Result<(), Fault>) -> End {
+    let end = End {
+        status: match &outcome {
+            Ok(()) => 0,
+            Err(fault) => fault.status(),
+        },
+        is_of_stream: matches!(&outcome, Err(Fault::Stream)),
+    };
+    drop(outcome);
+    end
+}
+
 fn play<R: Read, W: Write>(
+    rt: &impl Abort,
     alloc: Global,
     keys: RandomState,
     script: &mut R,
     writer: &mut W,
-) -> Result<(), Fault> {
-    let hooks = hooks_by_slot(alloc)?;
+) -> End {
+    let hooks = hooks_by_slot(alloc).expect(rt, "memory");
+    let Ok(table) = table_of(alloc, EMPTY.as_bytes()) else {
+        panic!(rt; "no manifest");
+    };
     let mut input = CountedReader::new(script);
     let mut output = Output::new(alloc, CountedWriter::new(writer));
-    play_run(
+    let played = play_run(
         alloc,
         keys,
-        table_of(alloc, EMPTY.as_bytes())?,
+        table,
         Vec::new(alloc),
         hooks.as_slice(),
         &mut input,
         &mut output,
-    )
+    );
+    end_of(played)
 }
 
-fn show<W: Write>(alloc: Global, keys: RandomState, writer: &mut W) -> Result<(), Fault> {
+fn show<W: Write>(rt: &impl Abort, alloc: Global, keys: RandomState, writer: &mut W) -> End {
+    let Ok(table) = table_of(alloc, EMPTY.as_bytes()) else {
+        panic!(rt; "no manifest");
+    };
     let mut output = Output::new(alloc, CountedWriter::new(writer));
-    let manifest = table_of(alloc, EMPTY.as_bytes())?;
-    show_run(alloc, keys, manifest, Vec::new(alloc), &mut output)
+    let shown = show_run(alloc, keys, table, Vec::new(alloc), &mut output);
+    end_of(shown)
 }
 
 // Gives or takes at most five bytes at a time, and after its bytes fails as it's told. It's interrupted before each time.
@@ -107,14 +134,18 @@ fn stream<'a>(
 
 // The last line has no line break.
 #[test]
-fn goes_on_where_it_is_interrupted(rt: HostRuntime) -> Result<(), Fail> {
+fn goes_on_where_it_is_interrupted(rt: HostRuntime) {
     let alloc = rt.alloc();
     let mut reader = stream(alloc, SCRIPT.as_bytes(), None, 0);
     let mut writer = stream(alloc, b"", None, 1000);
-    let outcome = play(alloc, RandomState::new(&rt)?, &mut reader, &mut writer);
-    assert!(rt; outcome.is_ok());
-    assert!(rt; writer.taken.as_slice() == ANSWERS.as_bytes());
-    Ok(())
+    let keys = keys_of(&rt);
+    let end = play(&rt, alloc, keys, &mut reader, &mut writer);
+    holds(&rt, end.status == 0, "a whole run");
+    holds(
+        &rt,
+        writer.taken.as_slice() == ANSWERS.as_bytes(),
+        "all answers",
+    );
 }
 
 fn assert_reader(
@@ -126,34 +157,34 @@ fn assert_reader(
 ) {
     let mut output = Vec::new(alloc);
     let mut reader = stream(alloc, b"attach\n0 stat /", Some(end), 0);
-    match play(alloc, keys, &mut reader, &mut output) {
-        Ok(()) => panic!(rt; "no fault"),
-        Err(fault) => assert_eq!(rt; fault.status(), status),
-    }
-    assert!(rt; output.as_slice() == b"client 0\n".as_slice());
+    let end = play(rt, alloc, keys, &mut reader, &mut output);
+    holds(rt, end.status == status, "the status");
+    holds(
+        rt,
+        output.as_slice() == b"client 0\n".as_slice(),
+        "one answer",
+    );
 }
 
 // The begun line isn't played, and running out of memory is no failing device.
 #[test]
-fn tells_failing_readers(rt: HostRuntime) -> Result<(), Fail> {
-    let keys = RandomState::new(&rt)?;
+fn tells_failing_readers(rt: HostRuntime) {
+    let keys = keys_of(&rt);
     assert_reader(&rt, rt.alloc(), keys, io::ErrorKind::Other, 1);
     assert_reader(&rt, rt.alloc(), keys, io::ErrorKind::OutOfMemory, 3);
-    Ok(())
 }
 
 #[test]
-fn tells_failing_writers(rt: HostRuntime) -> Result<(), Fail> {
+fn tells_failing_writers(rt: HostRuntime) {
     let alloc = rt.alloc();
-    let keys = RandomState::new(&rt)?;
+    let keys = keys_of(&rt);
     for takes in [0, 5, 15] {
         let mut reader = SCRIPT.as_bytes();
         let mut writer = stream(alloc, b"", None, takes);
-        let outcome = play(alloc, keys, &mut reader, &mut writer);
-        assert!(rt; matches!(&outcome, Err(Fault::Stream)), "{takes}");
+        let played = play(&rt, alloc, keys, &mut reader, &mut writer);
+        holds(&rt, played.is_of_stream, "a play that ends by its writer");
         let mut writer = stream(alloc, b"", None, takes);
-        let outcome = show(alloc, keys, &mut writer);
-        assert!(rt; matches!(&outcome, Err(Fault::Stream)), "{takes}");
+        let shown = show(&rt, alloc, keys, &mut writer);
+        holds(&rt, shown.is_of_stream, "a show that ends by its writer");
     }
-    Ok(())
 }

@@ -1,42 +1,40 @@
 // However a stream is cut, it is answered the same.
 use super::devices::{Pieces, Taker};
-use super::ending;
 use super::rows::{STAT_ROOT, replies_to, requests};
+use super::{ends, wrote};
+use crate::checks::{add, counts, keys_of};
 use ov_session::Ending;
-use std::hash::RandomState;
-use std::test::Fail;
 
 // What follows the detach isn't answered.
 #[test]
-fn two_pieces_are_answered_the_same(rt: HostRuntime) -> Result<(), Fail> {
+fn two_pieces_are_answered_the_same(rt: HostRuntime) {
     let alloc = rt.alloc();
-    let keys = RandomState::new(&rt)?;
-    let mut bytes = requests(alloc)?;
-    let replies = replies_to(alloc, bytes.len())?;
-    bytes.extend_from_slice(STAT_ROOT)?;
-    assert_eq!(rt; bytes.len(), 51);
-    assert_eq!(rt; replies.len(), 84);
+    let keys = keys_of(&rt);
+    let mut bytes = requests(&rt, alloc);
+    let replies = replies_to(&rt, alloc, bytes.len(), 0);
+    add(&rt, &mut bytes, STAT_ROOT);
+    counts(&rt, bytes.len(), 51, "bytes of requests");
+    counts(&rt, replies.len(), 84, "bytes of replies");
     for cut in 0..bytes.len() {
         let mut reader = Pieces::cut(bytes.as_slice(), cut);
         let mut writer = Taker::new(alloc);
-        let end = ending(alloc, keys, &mut reader, &mut writer)?;
-        assert_eq!(rt; end, Ending::Detached, "{cut}");
-        assert!(rt; writer.taken.as_slice() == replies.as_slice(), "{cut}");
+        let devices = (&mut reader, &mut writer);
+        ends(&rt, alloc, keys, devices, Ending::Detached, cut);
+        wrote(&rt, writer.taken.as_slice(), replies.as_slice(), cut);
     }
-    Ok(())
 }
 
 #[test]
-fn single_bytes_are_answered_the_same(rt: HostRuntime) -> Result<(), Fail> {
+fn single_bytes_are_answered_the_same(rt: HostRuntime) {
     let alloc = rt.alloc();
-    let mut bytes = requests(alloc)?;
+    let keys = keys_of(&rt);
+    let mut bytes = requests(&rt, alloc);
     let len = bytes.len();
-    bytes.extend_from_slice(STAT_ROOT)?;
+    add(&rt, &mut bytes, STAT_ROOT);
     let mut reader = Pieces::single(bytes.as_slice(), len);
     let mut writer = Taker::new(alloc);
-    let end = ending(alloc, RandomState::new(&rt)?, &mut reader, &mut writer)?;
-    assert_eq!(rt; end, Ending::Detached);
-    let replies = replies_to(alloc, len)?;
-    assert!(rt; writer.taken.as_slice() == replies.as_slice());
-    Ok(())
+    let devices = (&mut reader, &mut writer);
+    ends(&rt, alloc, keys, devices, Ending::Detached, len);
+    let replies = replies_to(&rt, alloc, len, 0);
+    wrote(&rt, writer.taken.as_slice(), replies.as_slice(), len);
 }

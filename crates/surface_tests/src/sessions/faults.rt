@@ -1,13 +1,13 @@
 // Frames at fault and streams that end, alone and behind a request, which is answered first.
 use super::devices::{Pieces, Taker};
-use super::ending;
 use super::rows::{SHOWN_ROOT, STAT_ROOT};
+use super::{ends, wrote};
+use crate::checks::{add, keys_of};
 use ov_frames::FrameFault;
 use ov_session::Ending;
 use std::alloc::Global;
 use std::hash::RandomState;
 use std::process::Abort;
-use std::test::Fail;
 
 /// The bytes of an end, and the end.
 const ENDS: [(&[u8], Ending); 6] = [
@@ -30,34 +30,30 @@ fn assert_end(
     bytes: &[u8],
     wanted: Ending,
     replies: &[u8],
-) -> Result<(), Fail> {
+) {
     for cut in 0..=bytes.len() {
         let mut reader = Pieces::cut(bytes, cut);
         let mut writer = Taker::new(alloc);
-        let end = ending(alloc, keys, &mut reader, &mut writer)?;
-        assert_eq!(rt; end, wanted, "{cut}");
-        assert!(rt; writer.taken.as_slice() == replies, "{cut}");
+        ends(rt, alloc, keys, (&mut reader, &mut writer), wanted, cut);
+        wrote(rt, writer.taken.as_slice(), replies, cut);
     }
-    Ok(())
 }
 
 #[test]
-fn ends_alone(rt: HostRuntime) -> Result<(), Fail> {
-    let keys = RandomState::new(&rt)?;
+fn ends_alone(rt: HostRuntime) {
+    let keys = keys_of(&rt);
     for (bytes, end) in ENDS {
-        assert_end(&rt, rt.alloc(), keys, bytes, end, b"")?;
+        assert_end(&rt, rt.alloc(), keys, bytes, end, b"");
     }
-    Ok(())
 }
 
 #[test]
-fn ends_behind_a_request(rt: HostRuntime) -> Result<(), Fail> {
+fn ends_behind_a_request(rt: HostRuntime) {
     let alloc = rt.alloc();
-    let keys = RandomState::new(&rt)?;
+    let keys = keys_of(&rt);
     for (last, end) in ENDS {
-        let mut bytes = Vec::from_slice(alloc, STAT_ROOT)?;
-        bytes.extend_from_slice(last)?;
-        assert_end(&rt, alloc, keys, bytes.as_slice(), end, SHOWN_ROOT)?;
+        let mut bytes = Vec::from_slice(alloc, STAT_ROOT).expect(&rt, "memory");
+        add(&rt, &mut bytes, last);
+        assert_end(&rt, alloc, keys, bytes.as_slice(), end, SHOWN_ROOT);
     }
-    Ok(())
 }

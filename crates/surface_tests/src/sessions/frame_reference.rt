@@ -1,12 +1,13 @@
 // A slow reference of the frames of requests: the bytes of a stream as one list, read by a table of
 // the ops. It stands on nothing of the engine.
-use std::alloc::{AllocError, Global};
+use std::alloc::Global;
+use std::process::Abort;
 
 /// The most bytes that a length counts.
 const LENGTH_MAX: u64 = 70_000;
 
 /// What a field is.
-#[derive(Clone, Copy, Debug, PartialEq, Eq)]
+#[derive(Clone, Copy)]
 pub enum Field {
     U8,
     U32,
@@ -60,7 +61,7 @@ pub fn fields_of(op: u8) -> Option<&'static [Field]> {
 }
 
 /// A request: its op, and the values of its fields. The texts of each op follow its numbers.
-#[derive(Debug, Drop, PartialEq, Eq)]
+#[derive(Drop, PartialEq, Eq)]
 pub struct Asked {
     pub op: u8,
     pub numbers: Vec<i128>,
@@ -68,7 +69,7 @@ pub struct Asked {
 }
 
 /// How a stream ends.
-#[derive(Clone, Copy, Debug, PartialEq, Eq)]
+#[derive(Clone, Copy, PartialEq, Eq)]
 pub enum StreamEnd {
     /// Where a frame would begin.
     Whole,
@@ -113,51 +114,53 @@ fn signed(number: u64, first_negative: u64) -> i128 {
 // Adds the value of the field at the front of the bytes. What follows it; none where the bytes are
 // too few.
 fn read_field<'b>(
+    rt: &impl Abort,
     alloc: Global,
     asked: &mut Asked,
     field: Field,
     bytes: &'b [u8],
-) -> Result<Option<&'b [u8]>, AllocError> {
+) -> Option<&'b [u8]> {
     let width = match field {
         Field::U8 => 1,
         Field::Text => 2,
         Field::U32 | Field::I32 | Field::Block => 4,
         Field::U64 | Field::I64 => 8,
     };
-    let Some((number, rest)) = number_at(width, bytes) else {
-        return Ok(None);
+    let (number, rest) = number_at(width, bytes)?;
+    let number = match field {
+        Field::U8 | Field::U32 | Field::U64 => i128::from(number),
+        Field::I32 => signed(number, 1 << 31),
+        Field::I64 => signed(number, 1 << 63),
+        Field::Text | Field::Block => return read_counted(rt, alloc, asked, number, rest),
     };
-    match field {
-        Field::U8 | Field::U32 | Field::U64 => asked.numbers.push(i128::from(number))?,
-        Field::I32 => asked.numbers.push(signed(number, 1 << 31))?,
-        Field::I64 => asked.numbers.push(signed(number, 1 << 63))?,
-        Field::Text | Field::Block => return read_counted(alloc, asked, number, rest),
-    }
-    Ok(Some(rest))
+    asked.numbers.push(number).expect(rt, "memory");
+    Some(rest)
 }
 
 // Adds so many bytes. What follows them; none where there are too few.
 fn read_counted<'b>(
+    rt: &impl Abort,
     alloc: Global,
     asked: &mut Asked,
     count: u64,
     bytes: &'b [u8],
-) -> Result<Option<&'b [u8]>, AllocError> {
+) -> Option<&'b [u8]> {
     if (bytes.len() as u64) < count {
-        return Ok(None);
+        return None;
     }
     let (text, rest) = bytes.split_at(count as usize);
-    asked.texts.push(Vec::from_slice(alloc, text)?)?;
-    Ok(Some(rest))
+    let text = Vec::from_slice(alloc, text).expect(rt, "memory");
+    asked.texts.push(text).expect(rt, "memory");
+    Some(rest)
 }
 
 // The request of the bytes that a length counts, or their fault.
-fn request_of(alloc: Global, frame: &[u8]) -> Result<Result<Asked, StreamEnd>, AllocError> {
+fn request_of(rt: &impl Abort, alloc: Global, frame: &[u8]) -> Result<Asked, StreamEnd> {
     let [op, fields @ ..] = frame else {
-        return Ok(Err(StreamEnd::BadLength));
+        return Err(StreamEnd::BadLength);
     };
     let Some(kinds) = fields_of(*op) else {
-        return Ok(Err(StreamEnd::BadOp));
+        return Err(StreamEnd::BadOp);
     };
     let mut asked = Asked {
         op: *op,
@@ -166,15 +169,15 @@ fn request_of(alloc: Global, frame: &[u8]) -> Result<Result<Asked, StreamEnd>, A
     };
     let mut rest = fields;
     for field in kinds {
-        match read_field(alloc, &mut asked, *field, rest)? {
+        match read_field(rt, alloc, &mut asked, *field, rest) {
             Some(behind) => rest = behind,
-            None => return Ok(Err(StreamEnd::BadFields)),
+            None => return Err(StreamEnd::BadFields),
         }
     }
     if rest.is_empty() {
-        Ok(Ok(asked))
+        Ok(asked)
     } else {
-        Ok(Err(StreamEnd::BadFields))
+        Err(StreamEnd::BadFields)
     }
 }
 
@@ -193,25 +196,34 @@ fn first_frame(bytes: &[u8]) -> Result<(&[u8], &[u8]), StreamEnd> {
 }
 
 /// Reads all bytes of a stream. There are fewer frames than bytes.
-pub fn read_stream(alloc: Global, bytes: &[u8]) -> Result<Stream, AllocError> {
+pub fn read_stream(rt: &impl Abort, alloc: Global, bytes: &[u8]) -> Stream {
     let mut asked = Vec::new(alloc);
     let mut rest = bytes;
     for _ in 0..bytes.len() {
         if rest.is_empty() {
             break;
         }
-        let (frame, behind) = match first_frame(rest) {
-            Ok(split) => split,
-            Err(end) => return Ok(Stream { asked, end }),
-        };
-        match request_of(alloc, frame)? {
-            Ok(request) => asked.push(request)?,
-            Err(end) => return Ok(Stream { asked, end }),
+        match next_request(rt, alloc, rest) {
+            Ok((request, behind)) => {
+                asked.push(request).expect(rt, "memory");
+                rest = behind;
+            }
+            Err(end) => return Stream { asked, end },
         }
-        rest = behind;
     }
-    Ok(Stream {
+    Stream {
         asked,
         end: StreamEnd::Whole,
-    })
+    }
+}
+
+// The request of the first frame, and what follows it.
+fn next_request<'b>(
+    rt: &impl Abort,
+    alloc: Global,
+    bytes: &'b [u8],
+) -> Result<(Asked, &'b [u8]), StreamEnd> {
+    let (frame, behind) = first_frame(bytes)?;
+    let request = request_of(rt, alloc, frame)?;
+    Ok((request, behind))
 }

@@ -4,9 +4,10 @@ use super::dice::Dice;
 use super::frame_reference::{Asked, StreamEnd, read_stream};
 use super::generated::stream_of;
 use super::told::asked_by;
+use crate::checks::holds;
 use ov_frames::{Decoder, End, FrameFault, Request};
-use std::alloc::{AllocError, Global};
-use std::test::Fail;
+use std::alloc::Global;
+use std::process::Abort;
 
 /// How many streams are read, and how many of them end in each way at least.
 const STREAMS: u64 = 2_000;
@@ -44,41 +45,37 @@ fn fault_of(end: StreamEnd) -> Option<StreamEnd> {
     }
 }
 
-fn push_asked(
-    alloc: Global,
-    requests: &[Request],
-    asked: &mut Vec<Asked>,
-) -> Result<(), AllocError> {
+fn push_asked(rt: &impl Abort, alloc: Global, requests: &[Request], all: &mut Vec<Asked>) {
     for request in requests {
-        asked.push(asked_by(alloc, request)?)?;
+        all.push(asked_by(rt, alloc, request)).expect(rt, "memory");
     }
-    Ok(())
 }
 
 // What the decoder reads of these bytes in pieces, how it tells their end, and the fault that it
 // answers behind them.
 fn decoded(
+    rt: &impl Abort,
     alloc: Global,
     dice: &mut Dice,
     bytes: &[u8],
     most: usize,
-) -> Result<(Vec<Asked>, StreamEnd, Option<StreamEnd>), AllocError> {
+) -> (Vec<Asked>, StreamEnd, Option<StreamEnd>) {
     let mut decoder = Decoder::new(alloc);
-    let mut asked = Vec::new(alloc);
+    let mut all = Vec::new(alloc);
     let mut rest = bytes;
     for _ in 0..bytes.len() {
         let count = rest.len().min(dice.place(most).saturating_add(1));
         let (piece, behind) = rest.split_at(count);
-        if let Ok(requests) = decoder.feed(alloc, piece)? {
-            push_asked(alloc, requests.as_slice(), &mut asked)?;
+        if let Ok(requests) = decoder.feed(alloc, piece).expect(rt, "memory") {
+            push_asked(rt, alloc, requests.as_slice(), &mut all);
         }
         rest = behind;
     }
-    let fault = match decoder.feed(alloc, b"")? {
+    let fault = match decoder.feed(alloc, b"").expect(rt, "memory") {
         Ok(_) => None,
         Err(fault) => Some(told(End::Frame(fault))),
     };
-    Ok((asked, told(decoder.end()), fault))
+    (all, told(decoder.end()), fault)
 }
 
 // How many of the ends are this one.
@@ -87,23 +84,35 @@ fn count_of(ends: &[StreamEnd], end: StreamEnd) -> usize {
 }
 
 #[test]
-fn random_streams_are_read_as_by_the_reference(rt: HostRuntime) -> Result<(), Fail> {
+fn random_streams_are_read_as_by_the_reference(rt: HostRuntime) {
     let alloc = rt.alloc();
     let mut ends = Vec::new(alloc);
     for seed in 0..STREAMS {
-        let mut dice = Dice::new(seed);
-        let bytes = stream_of(alloc, &mut dice)?;
-        let wanted = read_stream(alloc, bytes.as_slice())?;
-        let most = PIECES[(seed % 5) as usize];
-        let (asked, end, fault) = decoded(alloc, &mut dice, bytes.as_slice(), most)?;
-        assert_eq!(rt; end, wanted.end, "stream {seed}");
-        assert_eq!(rt; fault, fault_of(wanted.end), "stream {seed}");
-        assert_eq!(rt; asked.as_slice(), wanted.asked.as_slice(), "stream {seed}");
-        ends.push(end)?;
+        ends.push(reads(&rt, alloc, seed)).expect(&rt, "memory");
     }
     for end in ENDS {
         let count = count_of(ends.as_slice(), end);
-        assert!(rt; count >= EACH_END, "{count} streams end so: {end:?}");
+        holds(&rt, count >= EACH_END, "streams that end in each way");
     }
-    Ok(())
+}
+
+// The stream of a seed is read so; its end.
+fn reads(rt: &impl Abort, alloc: Global, seed: u64) -> StreamEnd {
+    let mut dice = Dice::new(seed);
+    let bytes = stream_of(rt, alloc, &mut dice);
+    let wanted = read_stream(rt, alloc, bytes.as_slice());
+    let most = PIECES[(seed % 5) as usize];
+    let (all, end, fault) = decoded(rt, alloc, &mut dice, bytes.as_slice(), most);
+    assert!(rt; end == wanted.end, "stream {seed}");
+    holds(
+        rt,
+        fault == fault_of(wanted.end),
+        "the fault behind the end",
+    );
+    holds(
+        rt,
+        all.as_slice() == wanted.asked.as_slice(),
+        "what is asked",
+    );
+    end
 }

@@ -1,6 +1,8 @@
 // The worked examples of frames: requests of the first client of a mount of two empty layers, and
 // their replies.
-use std::alloc::{AllocError, Global};
+use crate::checks::add;
+use std::alloc::Global;
+use std::process::Abort;
 
 /// `stat /`, `mkdir 755 /a`, `stat /x`, `stat x` and `detach`, each with its reply.
 pub const ROWS: [(&[u8], &[u8]); 5] = [
@@ -31,57 +33,46 @@ pub const SHOWN_ROOT: &[u8] =
     b"\x00\x00\x00\x22\x00\x00\x00\x00\x00\x00\x00\x00\x01\x01\x00\x00\x01\xed\x00\x00\x00\x00\x00\x00\x00\x00\x00\x00\x00\x00\x00\x00\x00\x00\x00\x00\x00\x01";
 
 /// All requests.
-pub fn requests(alloc: Global) -> Result<Vec<u8>, AllocError> {
+pub fn requests(rt: &impl Abort, alloc: Global) -> Vec<u8> {
     let mut bytes = Vec::new(alloc);
     for (request, _) in ROWS {
-        bytes.extend_from_slice(request)?;
+        add(rt, &mut bytes, request);
     }
-    Ok(bytes)
+    bytes
 }
 
-/// The replies to the requests that are whole in the first bytes.
-pub fn replies_to(alloc: Global, len: usize) -> Result<Vec<u8>, AllocError> {
+/// The replies to the requests that are whole in the first bytes, where the history has so many
+/// entries more before them.
+pub fn replies_to(rt: &impl Abort, alloc: Global, len: usize, entries: u8) -> Vec<u8> {
     let mut bytes = Vec::new(alloc);
     let mut left = len;
     for (request, reply) in ROWS {
         if left < request.len() {
-            return Ok(bytes);
+            return bytes;
         }
         left -= request.len();
-        bytes.extend_from_slice(reply)?;
+        push_later(rt, &mut bytes, reply, entries);
     }
-    Ok(bytes)
-}
-
-/// The same where the history has so many entries more before them.
-pub fn later_replies_to(alloc: Global, len: usize, entries: u8) -> Result<Vec<u8>, AllocError> {
-    let mut bytes = Vec::new(alloc);
-    let mut left = len;
-    for (request, reply) in ROWS {
-        if left < request.len() {
-            return Ok(bytes);
-        }
-        left -= request.len();
-        bytes.extend_from_slice(later(alloc, reply, entries)?.as_slice())?;
-    }
-    Ok(bytes)
+    bytes
 }
 
 // A reply so many places later: the last byte of the place is its thirteenth. A refused request has
 // neither.
-fn later(alloc: Global, reply: &[u8], entries: u8) -> Result<Vec<u8>, AllocError> {
-    let mut bytes = Vec::from_slice(alloc, reply)?;
-    if let Some(place) = bytes.get_mut(12) {
-        *place = place.wrapping_add(entries);
+fn push_later(rt: &impl Abort, bytes: &mut Vec<u8>, reply: &[u8], entries: u8) {
+    let start = bytes.len();
+    add(rt, bytes, reply);
+    if reply.len() > 12 {
+        if let Some(place) = bytes.get_mut(start.saturating_add(12)) {
+            *place = place.wrapping_add(entries);
+        }
     }
-    Ok(bytes)
 }
 
 /// The replies to the first so many requests.
-pub fn first_replies(alloc: Global, count: usize) -> Result<Vec<u8>, AllocError> {
+pub fn first_replies(rt: &impl Abort, alloc: Global, count: usize) -> Vec<u8> {
     let mut bytes = Vec::new(alloc);
     for (_, reply) in &ROWS[..count.min(ROWS.len())] {
-        bytes.extend_from_slice(reply)?;
+        add(rt, &mut bytes, reply);
     }
-    Ok(bytes)
+    bytes
 }

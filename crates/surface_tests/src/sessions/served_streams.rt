@@ -5,12 +5,13 @@ use super::frame_reference::{Asked, Stream, StreamEnd, read_stream};
 use super::generated::stream_of;
 use super::served;
 use super::told_calls::asked_of;
+use crate::checks::{holds, keys_of};
 use ov_base::Path;
 use ov_frames::FrameFault;
 use ov_session::{Ending, Exchange};
-use std::alloc::{AllocError, Global};
+use std::alloc::Global;
 use std::hash::RandomState;
-use std::test::Fail;
+use std::process::Abort;
 
 /// How many streams are served.
 const STREAMS: u64 = 2_000;
@@ -33,38 +34,38 @@ fn paths_of(asked: &Asked) -> &[Vec<u8>] {
 }
 
 // Whether a call is made for a request: no path text is refused.
-fn is_called(alloc: Global, asked: &Asked) -> Result<bool, AllocError> {
+fn is_called(rt: &impl Abort, alloc: Global, asked: &Asked) -> bool {
+    let mut is_called = true;
     for text in paths_of(asked) {
-        if Path::parse(alloc, text.as_slice())?.is_err() {
-            return Ok(false);
-        }
+        let parsed = Path::parse(alloc, text.as_slice()).expect(rt, "memory");
+        is_called = is_called && parsed.is_ok();
     }
-    Ok(true)
+    is_called
 }
 
 // The requests before a detach that are calls.
-fn calls_of(alloc: Global, all: Vec<Asked>) -> Result<Vec<Asked>, AllocError> {
+fn calls_of(rt: &impl Abort, alloc: Global, all: Vec<Asked>) -> Vec<Asked> {
     let mut calls = Vec::new(alloc);
     for asked in all {
         if asked.op == DETACH {
-            return Ok(calls);
+            return calls;
         }
-        if is_called(alloc, &asked)? {
-            calls.push(asked)?;
+        if is_called(rt, alloc, &asked) {
+            calls.push(asked).expect(rt, "memory");
         }
     }
-    Ok(calls)
+    calls
 }
 
 // The calls that were answered.
-fn answered(alloc: Global, exchanges: &[Exchange]) -> Result<Vec<Asked>, AllocError> {
+fn answered(rt: &impl Abort, alloc: Global, exchanges: &[Exchange]) -> Vec<Asked> {
     let mut calls = Vec::new(alloc);
     for exchange in exchanges {
         if let Exchange::Called(call, _) = exchange {
-            calls.push(asked_of(alloc, call)?)?;
+            calls.push(asked_of(rt, alloc, call)).expect(rt, "memory");
         }
     }
-    Ok(calls)
+    calls
 }
 
 // How a session ends whose client asks this.
@@ -83,31 +84,35 @@ fn ending_of(stream: &Stream) -> Ending {
 
 // How a session ends that gets these bytes in such pieces, and the calls that were answered.
 fn session_of(
+    rt: &impl Abort,
     alloc: Global,
     keys: RandomState,
     bytes: &[u8],
     most: usize,
-) -> Result<(Ending, Vec<Asked>), Fail> {
+) -> (Ending, Vec<Asked>) {
     let mut reader = Pieces::most(bytes, most);
     let mut writer = Taker::new(alloc);
-    let (end, session) = served(alloc, keys, &mut reader, &mut writer)?;
-    let seen = answered(alloc, session.exchanges());
+    let (end, session) = served(rt, alloc, keys, &mut reader, &mut writer);
+    let seen = answered(rt, alloc, session.exchanges());
     drop(session);
-    Ok((end, seen?))
+    (end, seen)
 }
 
 #[test]
-fn random_streams_are_served_as_the_reference_reads_them(rt: HostRuntime) -> Result<(), Fail> {
+fn random_streams_are_served_as_the_reference_reads_them(rt: HostRuntime) {
     let alloc = rt.alloc();
-    let keys = RandomState::new(&rt)?;
+    let keys = keys_of(&rt);
     for seed in 0..STREAMS {
-        let bytes = stream_of(alloc, &mut Dice::new(seed))?;
-        let wanted = read_stream(alloc, bytes.as_slice())?;
-        let most = PIECES[(seed % 4) as usize];
-        let (end, seen) = session_of(alloc, keys, bytes.as_slice(), most)?;
-        assert_eq!(rt; end, ending_of(&wanted), "stream {seed}");
-        let calls = calls_of(alloc, wanted.asked)?;
-        assert_eq!(rt; seen.as_slice(), calls.as_slice(), "stream {seed}");
+        serves(&rt, alloc, keys, seed);
     }
-    Ok(())
+}
+
+fn serves(rt: &impl Abort, alloc: Global, keys: RandomState, seed: u64) {
+    let bytes = stream_of(rt, alloc, &mut Dice::new(seed));
+    let wanted = read_stream(rt, alloc, bytes.as_slice());
+    let most = PIECES[(seed % 4) as usize];
+    let (end, seen) = session_of(rt, alloc, keys, bytes.as_slice(), most);
+    assert!(rt; end == ending_of(&wanted), "stream {seed}");
+    let calls = calls_of(rt, alloc, wanted.asked);
+    holds(rt, seen.as_slice() == calls.as_slice(), "the calls");
 }

@@ -1,97 +1,133 @@
-// What requests and calls ask, as the reference of frames says it.
+// What requests ask, as the reference of frames says it.
 use super::frame_reference::Asked;
-use ov_base::Bytes;
+use crate::checks::add;
+use ov_base::{Bytes, Path};
 use ov_frames::Request;
-use std::alloc::{AllocError, Global};
+use std::alloc::Global;
+use std::process::Abort;
 
-/// An op with its numbers and texts.
-pub fn asked(
-    alloc: Global,
-    op: u8,
-    numbers: &[i128],
-    texts: &[&Bytes],
-) -> Result<Asked, AllocError> {
-    let mut copies = Vec::new(alloc);
-    for text in texts {
-        copies.push(Vec::from_slice(alloc, text.as_slice())?)?;
+impl Asked {
+    /// Nothing is asked.
+    pub fn nothing(alloc: Global) -> Asked {
+        Asked {
+            op: 0,
+            numbers: Vec::new(alloc),
+            texts: Vec::new(alloc),
+        }
     }
-    Ok(Asked {
-        op,
-        numbers: Vec::from_slice(alloc, numbers)?,
-        texts: copies,
-    })
+
+    /// An op is asked with these numbers and texts.
+    pub fn take(
+        &mut self,
+        rt: &impl Abort,
+        alloc: Global,
+        op: u8,
+        numbers: &[i128],
+        texts: &[&Bytes],
+    ) {
+        self.op = op;
+        for number in numbers {
+            self.numbers.push(*number).expect(rt, "memory");
+        }
+        for text in texts {
+            self.take_text(rt, alloc, text.as_slice());
+        }
+    }
+
+    fn take_text(&mut self, rt: &impl Abort, alloc: Global, text: &[u8]) {
+        let text = Vec::from_slice(alloc, text).expect(rt, "memory");
+        self.texts.push(text).expect(rt, "memory");
+    }
+
+    /// A path is asked with, too: the text that spells it.
+    pub fn take_path(&mut self, rt: &impl Abort, alloc: Global, path: &Path) {
+        let mut text = Vec::new(alloc);
+        for name in path.names() {
+            add(rt, &mut text, b"/");
+            add(rt, &mut text, name.as_slice());
+        }
+        if text.is_empty() {
+            add(rt, &mut text, b"/");
+        }
+        self.texts.push(text).expect(rt, "memory");
+    }
 }
 
 /// What a request asks.
-pub fn asked_by(alloc: Global, request: &Request) -> Result<Asked, AllocError> {
+pub fn asked_by(rt: &impl Abort, alloc: Global, request: &Request) -> Asked {
+    let mut asked = Asked::nothing(alloc);
+    ask_texts(rt, alloc, request, &mut asked);
+    ask_with_text(rt, alloc, request, &mut asked);
+    ask_numbers(rt, alloc, request, &mut asked);
+    asked
+}
+
+// What a request of texts alone asks.
+fn ask_texts(rt: &impl Abort, alloc: Global, request: &Request, asked: &mut Asked) {
     match request {
-        Request::Stat { path } => asked(alloc, 1, &[], &[path]),
-        Request::Readlink { path } => asked(alloc, 2, &[], &[path]),
-        Request::SetAttribute { path, name, value } => asked(alloc, 5, &[], &[path, name, value]),
-        Request::GetAttribute { path, name } => asked(alloc, 6, &[], &[path, name]),
-        Request::DeleteAttribute { path, name } => asked(alloc, 7, &[], &[path, name]),
-        Request::ListAttributes { path } => asked(alloc, 8, &[], &[path]),
-        Request::Symlink { target, path } => asked(alloc, 10, &[], &[target, path]),
-        Request::Unlink { path } => asked(alloc, 12, &[], &[path]),
-        Request::Rmdir { path } => asked(alloc, 13, &[], &[path]),
-        Request::Hardlink { old, new } => asked(alloc, 14, &[], &[old, new]),
-        Request::Rename { old, new } => asked(alloc, 15, &[], &[old, new]),
-        Request::Detach => asked(alloc, 26, &[], &[]),
-        _ => asked_with_text(alloc, request),
+        Request::Stat { path } => asked.take(rt, alloc, 1, &[], &[path]),
+        Request::Readlink { path } => asked.take(rt, alloc, 2, &[], &[path]),
+        Request::SetAttribute { path, name, value } => {
+            asked.take(rt, alloc, 5, &[], &[path, name, value]);
+        }
+        Request::GetAttribute { path, name } => asked.take(rt, alloc, 6, &[], &[path, name]),
+        Request::DeleteAttribute { path, name } => asked.take(rt, alloc, 7, &[], &[path, name]),
+        Request::ListAttributes { path } => asked.take(rt, alloc, 8, &[], &[path]),
+        Request::Symlink { target, path } => asked.take(rt, alloc, 10, &[], &[target, path]),
+        Request::Unlink { path } => asked.take(rt, alloc, 12, &[], &[path]),
+        Request::Rmdir { path } => asked.take(rt, alloc, 13, &[], &[path]),
+        Request::Hardlink { old, new } => asked.take(rt, alloc, 14, &[], &[old, new]),
+        Request::Rename { old, new } => asked.take(rt, alloc, 15, &[], &[old, new]),
+        Request::Detach => asked.take(rt, alloc, 26, &[], &[]),
+        _ => {}
     }
 }
 
 // What a request of numbers and a text asks.
-fn asked_with_text(alloc: Global, request: &Request) -> Result<Asked, AllocError> {
+fn ask_with_text(rt: &impl Abort, alloc: Global, request: &Request, asked: &mut Asked) {
     match request {
-        Request::Chmod { mode, path } => asked(alloc, 3, &[i128::from(*mode)], &[path]),
+        Request::Chmod { mode, path } => asked.take(rt, alloc, 3, &[*mode as i128], &[path]),
         Request::Chown { uid, gid, path } => {
-            let numbers = [i128::from(*uid), i128::from(*gid)];
-            asked(alloc, 4, &numbers, &[path])
+            asked.take(rt, alloc, 4, &[*uid as i128, *gid as i128], &[path]);
         }
-        Request::Mkdir { mode, path } => asked(alloc, 9, &[i128::from(*mode)], &[path]),
+        Request::Mkdir { mode, path } => asked.take(rt, alloc, 9, &[*mode as i128], &[path]),
         Request::Open { flags, mode, path } => {
-            let numbers = [i128::from(*flags), i128::from(*mode)];
-            asked(alloc, 11, &numbers, &[path])
+            asked.take(rt, alloc, 11, &[*flags as i128, *mode as i128], &[path]);
         }
         Request::Write { descriptor, bytes } => {
-            asked(alloc, 17, &[i128::from(*descriptor)], &[bytes])
+            asked.take(rt, alloc, 17, &[*descriptor as i128], &[bytes]);
         }
         Request::Arm { slot, mask, path } => {
-            let numbers = [i128::from(*slot), i128::from(*mask)];
-            asked(alloc, 23, &numbers, &[path])
+            asked.take(rt, alloc, 23, &[*slot as i128, *mask as i128], &[path]);
         }
-        _ => asked_with_numbers(alloc, request),
+        _ => {}
     }
 }
 
-// What a request of numbers asks.
-fn asked_with_numbers(alloc: Global, request: &Request) -> Result<Asked, AllocError> {
+// What a request of numbers alone asks.
+fn ask_numbers(rt: &impl Abort, alloc: Global, request: &Request, asked: &mut Asked) {
     match request {
         Request::Read { descriptor, count } => {
-            let numbers = [i128::from(*descriptor), i128::from(*count)];
-            asked(alloc, 16, &numbers, &[])
+            asked.take(rt, alloc, 16, &[*descriptor as i128, *count as i128], &[]);
         }
         Request::Seek {
             descriptor,
             offset,
             whence,
         } => {
-            let (offset, whence) = (i128::from(*offset), i128::from(*whence));
-            asked(alloc, 18, &[i128::from(*descriptor), offset, whence], &[])
+            let numbers = [*descriptor as i128, *offset as i128, *whence as i128];
+            asked.take(rt, alloc, 18, &numbers, &[]);
         }
         Request::Truncate { descriptor, size } => {
-            let numbers = [i128::from(*descriptor), i128::from(*size)];
-            asked(alloc, 19, &numbers, &[])
+            asked.take(rt, alloc, 19, &[*descriptor as i128, *size as i128], &[]);
         }
-        Request::Fstat { descriptor } => asked(alloc, 20, &[i128::from(*descriptor)], &[]),
+        Request::Fstat { descriptor } => asked.take(rt, alloc, 20, &[*descriptor as i128], &[]),
         Request::ListNames { descriptor, count } => {
-            let numbers = [i128::from(*descriptor), i128::from(*count)];
-            asked(alloc, 21, &numbers, &[])
+            asked.take(rt, alloc, 21, &[*descriptor as i128, *count as i128], &[]);
         }
-        Request::Close { descriptor } => asked(alloc, 22, &[i128::from(*descriptor)], &[]),
-        Request::Disarm { watch } => asked(alloc, 24, &[i128::from(*watch)], &[]),
-        Request::TakeNotices { count } => asked(alloc, 25, &[i128::from(*count)], &[]),
-        _ => asked(alloc, 0, &[], &[]),
+        Request::Close { descriptor } => asked.take(rt, alloc, 22, &[*descriptor as i128], &[]),
+        Request::Disarm { watch } => asked.take(rt, alloc, 24, &[*watch as i128], &[]),
+        Request::TakeNotices { count } => asked.take(rt, alloc, 25, &[*count as i128], &[]),
+        _ => {}
     }
 }

@@ -1,21 +1,8 @@
 // What calls ask, as the reference of frames says it.
 use super::frame_reference::Asked;
-use super::told::asked;
-use ov_base::{Bytes, Call, OpenFlags, Path};
-use std::alloc::{AllocError, Global};
-
-// The text that spells a path.
-fn text_of(alloc: Global, path: &Path) -> Result<Bytes, AllocError> {
-    let mut text = Vec::new(alloc);
-    for name in path.names() {
-        text.push(b'/')?;
-        text.extend_from_slice(name.as_slice())?;
-    }
-    if text.is_empty() {
-        text.push(b'/')?;
-    }
-    Ok(Bytes::from_vec(text))
-}
+use ov_base::{Call, OpenFlags, Path};
+use std::alloc::Global;
+use std::process::Abort;
 
 // The byte of the flags of an open.
 fn byte_of(flags: OpenFlags) -> i128 {
@@ -43,87 +30,114 @@ fn byte_of(flags: OpenFlags) -> i128 {
 }
 
 /// What a call asks.
-pub fn asked_of(alloc: Global, call: &Call) -> Result<Asked, AllocError> {
-    match call {
-        Call::Stat { path } => of_path(alloc, 1, &[], path),
-        Call::Readlink { path } => of_path(alloc, 2, &[], path),
-        Call::Chmod { path, mode } => of_path(alloc, 3, &[i128::from(*mode)], path),
-        Call::Chown { path, uid, gid } => {
-            of_path(alloc, 4, &[i128::from(*uid), i128::from(*gid)], path)
-        }
-        Call::ListAttributes { path } => of_path(alloc, 8, &[], path),
-        Call::Mkdir { path, mode } => of_path(alloc, 9, &[i128::from(*mode)], path),
-        Call::Open { path, flags, mode } => {
-            of_path(alloc, 11, &[byte_of(*flags), i128::from(*mode)], path)
-        }
-        Call::Unlink { path } => of_path(alloc, 12, &[], path),
-        Call::Rmdir { path } => of_path(alloc, 13, &[], path),
-        Call::Arm { slot, path, mask } => {
-            of_path(alloc, 23, &[i128::from(*slot), i128::from(*mask)], path)
-        }
-        _ => of_texts(alloc, call),
-    }
+pub fn asked_of(rt: &impl Abort, alloc: Global, call: &Call) -> Asked {
+    let mut asked = Asked::nothing(alloc);
+    ask_paths(rt, alloc, call, &mut asked);
+    ask_with_path(rt, alloc, call, &mut asked);
+    ask_numbers(rt, alloc, call, &mut asked);
+    asked
 }
 
-// Numbers and a path.
-fn of_path(alloc: Global, op: u8, numbers: &[i128], path: &Path) -> Result<Asked, AllocError> {
-    asked(alloc, op, numbers, &[&text_of(alloc, path)?])
+// An op of a path, then these numbers: the path stands before all other texts.
+fn ask_path(
+    rt: &impl Abort,
+    alloc: Global,
+    asked: &mut Asked,
+    (op, path): (u8, &Path),
+    numbers: &[i128],
+) {
+    asked.take(rt, alloc, op, numbers, &[]);
+    asked.take_path(rt, alloc, path);
 }
 
-// What a call of two texts or three asks.
-fn of_texts(alloc: Global, call: &Call) -> Result<Asked, AllocError> {
+// What a call of paths and texts asks.
+fn ask_paths(rt: &impl Abort, alloc: Global, call: &Call, asked: &mut Asked) {
     match call {
+        Call::Stat { path } => ask_path(rt, alloc, asked, (1, path), &[]),
+        Call::Readlink { path } => ask_path(rt, alloc, asked, (2, path), &[]),
+        Call::ListAttributes { path } => ask_path(rt, alloc, asked, (8, path), &[]),
+        Call::Unlink { path } => ask_path(rt, alloc, asked, (12, path), &[]),
+        Call::Rmdir { path } => ask_path(rt, alloc, asked, (13, path), &[]),
         Call::SetAttribute { path, name, value } => {
-            asked(alloc, 5, &[], &[&text_of(alloc, path)?, name, value])
+            asked.take_path(rt, alloc, path);
+            asked.take(rt, alloc, 5, &[], &[name, value]);
         }
         Call::GetAttribute { path, name } => {
-            asked(alloc, 6, &[], &[&text_of(alloc, path)?, name])
+            asked.take_path(rt, alloc, path);
+            asked.take(rt, alloc, 6, &[], &[name]);
         }
         Call::DeleteAttribute { path, name } => {
-            asked(alloc, 7, &[], &[&text_of(alloc, path)?, name])
+            asked.take_path(rt, alloc, path);
+            asked.take(rt, alloc, 7, &[], &[name]);
         }
         Call::Symlink { target, path } => {
-            asked(alloc, 10, &[], &[target, &text_of(alloc, path)?])
+            asked.take(rt, alloc, 10, &[], &[target]);
+            asked.take_path(rt, alloc, path);
         }
-        Call::Hardlink { old, new } => of_paths(alloc, 14, old, new),
-        Call::Rename { old, new } => of_paths(alloc, 15, old, new),
-        _ => of_numbers(alloc, call),
+        Call::Hardlink { old, new } => {
+            ask_path(rt, alloc, asked, (14, old), &[]);
+            asked.take_path(rt, alloc, new);
+        }
+        Call::Rename { old, new } => {
+            ask_path(rt, alloc, asked, (15, old), &[]);
+            asked.take_path(rt, alloc, new);
+        }
+        _ => {}
     }
 }
 
-fn of_paths(alloc: Global, op: u8, old: &Path, new: &Path) -> Result<Asked, AllocError> {
-    let (old, new) = (text_of(alloc, old)?, text_of(alloc, new)?);
-    asked(alloc, op, &[], &[&old, &new])
+// What a call of numbers and a path or bytes asks.
+fn ask_with_path(rt: &impl Abort, alloc: Global, call: &Call, asked: &mut Asked) {
+    match call {
+        Call::Chmod { mode, path } => ask_path(rt, alloc, asked, (3, path), &[*mode as i128]),
+        Call::Chown { uid, gid, path } => {
+            ask_path(rt, alloc, asked, (4, path), &[*uid as i128, *gid as i128]);
+        }
+        Call::Mkdir { mode, path } => ask_path(rt, alloc, asked, (9, path), &[*mode as i128]),
+        Call::Open { flags, mode, path } => {
+            let numbers = [byte_of(*flags), *mode as i128];
+            ask_path(rt, alloc, asked, (11, path), &numbers);
+        }
+        Call::Write { descriptor, bytes } => {
+            asked.take(rt, alloc, 17, &[*descriptor as i128], &[bytes]);
+        }
+        Call::Arm { slot, mask, path } => {
+            ask_path(
+                rt,
+                alloc,
+                asked,
+                (23, path),
+                &[*slot as i128, *mask as i128],
+            );
+        }
+        _ => {}
+    }
 }
 
-// What a call without a path asks.
-fn of_numbers(alloc: Global, call: &Call) -> Result<Asked, AllocError> {
+// What a call of numbers asks.
+fn ask_numbers(rt: &impl Abort, alloc: Global, call: &Call, asked: &mut Asked) {
     match call {
-        Call::Read { descriptor, count } => of_two(alloc, 16, *descriptor, *count),
-        Call::Write { descriptor, bytes } => {
-            asked(alloc, 17, &[i128::from(*descriptor)], &[bytes])
+        Call::Read { descriptor, count } => {
+            asked.take(rt, alloc, 16, &[*descriptor as i128, *count as i128], &[]);
         }
         Call::Seek {
             descriptor,
             offset,
             whence,
         } => {
-            let (offset, whence) = (i128::from(*offset), i128::from(*whence));
-            asked(alloc, 18, &[i128::from(*descriptor), offset, whence], &[])
+            let numbers = [*descriptor as i128, *offset as i128, *whence as i128];
+            asked.take(rt, alloc, 18, &numbers, &[]);
         }
         Call::Truncate { descriptor, size } => {
-            let numbers = [i128::from(*descriptor), i128::from(*size)];
-            asked(alloc, 19, &numbers, &[])
+            asked.take(rt, alloc, 19, &[*descriptor as i128, *size as i128], &[]);
         }
-        Call::Fstat { descriptor } => asked(alloc, 20, &[i128::from(*descriptor)], &[]),
-        Call::ListNames { descriptor, count } => of_two(alloc, 21, *descriptor, *count),
-        Call::Close { descriptor } => asked(alloc, 22, &[i128::from(*descriptor)], &[]),
-        Call::Disarm { watch } => asked(alloc, 24, &[i128::from(*watch)], &[]),
-        Call::TakeNotices { count } => asked(alloc, 25, &[i128::from(*count)], &[]),
-        _ => asked(alloc, 0, &[], &[]),
+        Call::Fstat { descriptor } => asked.take(rt, alloc, 20, &[*descriptor as i128], &[]),
+        Call::ListNames { descriptor, count } => {
+            asked.take(rt, alloc, 21, &[*descriptor as i128, *count as i128], &[]);
+        }
+        Call::Close { descriptor } => asked.take(rt, alloc, 22, &[*descriptor as i128], &[]),
+        Call::Disarm { watch } => asked.take(rt, alloc, 24, &[*watch as i128], &[]),
+        Call::TakeNotices { count } => asked.take(rt, alloc, 25, &[*count as i128], &[]),
+        _ => {}
     }
-}
-
-fn of_two(alloc: Global, op: u8, first: u32, second: u32) -> Result<Asked, AllocError> {
-    asked(alloc, op, &[i128::from(first), i128::from(second)], &[])
 }

@@ -1,7 +1,6 @@
 use Rattle.std.proofs.Common.{◌∙◌, false, List, [], ◌∷◌, ◌++◌, ap, is_some}
 use Rattle.ov_session.specs.declared.exchange.Exchange.{Exchange}
 use Rattle.ov_session.specs.declared.exchange.Exchange.TheVariants.{Departed}
-use Rattle.mount_door.specs.GoingOn.{AnyRefusal}
 use Rattle.mount_door.specs.Exchanges.{told_in}
 use Rattle.mount_door.proofs.Stepping.{left_last}
 use Rattle.endless_door.specs.Advancing.{Advances, standing, ways}
@@ -14,8 +13,8 @@ returns-clause-session g c =
     let after = c.session_run-ending.new.door in
     let told = (s.heard.told ++ s.heard.stopped) ++ Departed s.farewell ∷ [] in
     let ends = standing after.session after.seen (is_some after.hooks) in
-    let of = ways (g.G.Gate.may_stop c.args.gate.now) AnyRefusal in
-    let went : Advances (g.G.Gate.may_stop c.args.gate.now) AnyRefusal
+    let of = ways (g.G.Gate.may_stop c.args.gate.now) in
+    let went : Advances (g.G.Gate.may_stop c.args.gate.now)
     (standing c.args.session c.args.seen false) told ends =
     rw (by.client.0, by.client.1, by.attached, by.gate) at s.went.1 in (
       told_in (λ answer. answer) c.session_run-ending.new.session,

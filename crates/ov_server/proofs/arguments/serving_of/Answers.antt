@@ -19,6 +19,9 @@ returns-clause-asks c =
           c.get_flag-no_history.ensures.none;
       idle_told = told_if found (codes "idle") c.try_get_one-2.result c.in_ok-idle.idle
           c.in_ok-idle.ensures.value c.try_get_one-2.ensures.none c.try_get_one-2.ensures.value;
+      refuses = flag found (codes "refuse") c.get_flag-refuse.result
+          c.get_flag-refuse.ensures.value c.get_flag-refuse.ensures.other
+          c.get_flag-refuse.ensures.none;
       unlinks = flag found (codes "unlink") c.get_flag-unlink.result
           c.get_flag-unlink.ensures.value c.get_flag-unlink.ensures.other
           c.get_flag-unlink.ensures.none;
@@ -26,6 +29,7 @@ returns-clause-asks c =
           c.get_flag-until_eof.ensures.value c.get_flag-until_eof.ensures.other
           c.get_flag-until_eof.ensures.none;
       saves = sym (first_value-rows found (codes "save")) ∙ sym c.get_str-save.ensures;
+      status_named = sym (first_value-rows found (codes "status")) ∙ sym c.get_str-status.ensures;
       tells = flag found (codes "verbose") c.get_flag-verbose.result
           c.get_flag-verbose.ensures.value c.get_flag-verbose.ensures.other
           c.get_flag-verbose.ensures.none;

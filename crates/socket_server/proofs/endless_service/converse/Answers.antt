@@ -3,7 +3,7 @@ use Rattle.ov_session.specs.declared.exchange.Exchange.TheVariants.{Departed}
 use Rattle.mount_door.specs.Advancing.{MayHold}
 use Rattle.mount_door.proofs.Stepping.{goes_with_more}
 use Rattle.endless_door.specs.Advancing.{IsEntered, Standing, standing}
-use Rattle.socket_server.specs.Clients.{MayRefuse, MayStop}
+use Rattle.socket_server.specs.Clients.{MayStop}
 use Rattle.socket_server.specs.EndlessClients.{beginning}
 use Rattle.socket_server.proofs.endless_service.converse.Goals as goal
 
@@ -21,9 +21,8 @@ returns g c tags closes may new =
       told = before;
       farewell = s.farewell;
       went = goes_with_more IsEntered (λ (s : Standing). s.number) (λ (s : Standing). s.detached)
-          (λ (s : Standing). MayHold stop s.client) (λ (s : Standing). MayRefuse s.client s.number)
-          (λ (s : Standing). MayHold (MayStop closes) s.client) (λ (s : Standing). MayRefuse s.client s.number)
-          (λ s h. (h.0, h.1, may s.client h.0 h.2)) (λ s h. h)
+          (λ (s : Standing). MayHold stop s.client) (λ (s : Standing). MayHold (MayStop closes) s.client)
+          (λ s h. (h.0, h.1, may s.client h.0 h.2))
           (beginning c.args.client.session.client c.args.client.seen) left
           (before ++ Departed s.farewell ∷ []) went;
       detached = c.run_session.ensures.session.2.0;

@@ -2,7 +2,7 @@ use Rattle.std.proofs.Common.{[], ◌∷◌, ◌++◌, is_some, refl}
 use Rattle.ov_session.specs.declared.exchange.Exchange.TheVariants.{Departed}
 use Rattle.mount_door.specs.Advancing.{IsClaimed, MayHold, Standing, standing}
 use Rattle.mount_door.proofs.Stepping.{goes_with_more}
-use Rattle.socket_server.specs.Clients.{MayRefuse, MayStop, beginning}
+use Rattle.socket_server.specs.Clients.{MayStop, beginning}
 use Rattle.socket_server.proofs.shared_service.converse.Goals as goal
 
 pub returns : goal.returns
@@ -21,9 +21,8 @@ returns g c tags closes may new =
       farewell = s.farewell;
       left = left;
       went = goes_with_more IsClaimed (λ (s : Standing). s.number) (λ (s : Standing). s.detached)
-          (λ (s : Standing). MayHold stop s.client) (λ (s : Standing). MayRefuse s.client s.number)
-          (λ (s : Standing). MayHold (MayStop closes) s.client) (λ (s : Standing). MayRefuse s.client s.number)
-          (λ s h. (h.0, h.1, may s.client h.0 h.2)) (λ s h. h)
+          (λ (s : Standing). MayHold stop s.client) (λ (s : Standing). MayHold (MayStop closes) s.client)
+          (λ s h. (h.0, h.1, may s.client h.0 h.2))
           (beginning c.args.client.session.client new.came) left (before ++ Departed s.farewell ∷ []) went;
       detached = c.run_session.ensures.session.2.0;
       all = refl;

@@ -1,5 +1,4 @@
 use Rattle.std.proofs.Common.{ap, is_some}
-use Rattle.mount_door.specs.GoingOn.{AnyRefusal}
 use Rattle.mount_door.proofs.Stepping.{stayed}
 use Rattle.endless_door.specs.Advancing.{standing, ways}
 use Rattle.endless_door.proofs.Seen.{departed}
@@ -8,7 +7,7 @@ use Rattle.endless_door.proofs.door.EndlessDoor.leave.Goals as goal
 pub returns-in-Ok-clause-goes : goal.returns-in-Ok-clause-goes
 returns-in-Ok-clause-goes g c =
     let was = c.args.self.now in
-    departed (g.G.Gate.may_stop was.gate.now) AnyRefusal
+    departed (g.G.Gate.may_stop was.gate.now)
     was.session was.seen c.detach.new.seen (is_some was.hooks) c.in-Ok.place
     c.in-Ok.ensures.detach c.detach.ensures.seen
 
@@ -17,7 +16,7 @@ returns-in-Err-clause-goes g c =
     let was = c.args.self.now in
     let gone = is_some was.hooks in
     rw (c.errno_of.ensures, c.in-Err.ensures.refused)
-    (stayed (ways (g.G.Gate.may_stop was.gate.now) AnyRefusal)
+    (stayed (ways (g.G.Gate.may_stop was.gate.now))
     (standing was.session was.seen gone) (standing was.session c.detach.new.seen gone)
-    tt (ap (λ seen. standing was.session seen gone) c.in-Err.ensures.unseen)
+    (ap (λ seen. standing was.session seen gone) c.in-Err.ensures.unseen)
     (ap is_some c.requires))

@@ -1,6 +1,5 @@
 use Rattle.std.proofs.Common.{◌≡◌, is_some, refl}
 use Rattle.ov_frames.specs.declared.answer.Answer.TheVariants.{NotTaken, Replied}
-use Rattle.mount_door.specs.GoingOn.{AnyRefusal}
 use Rattle.mount_door.proofs.Stepping.{went_held, went_refused}
 use Rattle.endless_door.specs.Advancing.{standing, ways}
 use Rattle.endless_door.proofs.Seen.{went_called}
@@ -15,7 +14,7 @@ returns-in-Ok-clause-told g c =
       rw c.of-asked.ensures at c.tell.ensures,
       (
         refl,
-        went_called (g.G.Gate.may_stop was.gate.now) AnyRefusal
+        went_called (g.G.Gate.may_stop was.gate.now)
             was.session c.call.new.session was.seen c.call.new.seen gone gone c.in-Ok.place c.args.call
             c.in-Ok.reply e.stands c.call.ensures.seen e.session.0 e.session.1,
       ),
@@ -30,7 +29,7 @@ returns-in-Err-Stopped-clause-told g c =
       rw c.of-asked.ensures at c.hold_back.ensures,
       (
         refl,
-        went_held (ways (g.G.Gate.may_stop was.gate.now) AnyRefusal)
+        went_held (ways (g.G.Gate.may_stop was.gate.now))
             (standing was.session was.seen gone) (standing c.call.new.session c.call.new.seen gone)
             c.args.call (e.stopped (cc)) same,
       ),
@@ -46,7 +45,7 @@ returns-in-Err-clause-told g c =
       rw c.of-asked.ensures at c.tell-in-Err.ensures,
       (
         refl,
-        rw c.errno_of.ensures (went_refused (ways (g.G.Gate.may_stop was.gate.now) AnyRefusal)
+        rw c.errno_of.ensures (went_refused (ways (g.G.Gate.may_stop was.gate.now))
             (standing was.session was.seen gone)
             (standing c.call.new.session c.call.new.seen gone) c.args.call c.in-Err.why same),
       ),

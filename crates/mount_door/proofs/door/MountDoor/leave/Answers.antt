@@ -1,5 +1,4 @@
 use Rattle.std.proofs.Common.{ap, is_some, refl}
-use Rattle.mount_door.specs.GoingOn.{AnyRefusal}
 use Rattle.mount_door.specs.Advancing.{standing, ways}
 use Rattle.mount_door.proofs.Claimed.{departed}
 use Rattle.mount_door.proofs.Stepping.{stayed}
@@ -9,7 +8,7 @@ pub returns-in-Ok-clause-goes : goal.returns-in-Ok-clause-goes
 returns-in-Ok-clause-goes g c =
     let was = c.args.self.now in
     rw (c.push_reserved.ensures.items, c.place-place.ensures)
-    (departed (g.G.Gate.may_stop was.gate.now) AnyRefusal
+    (departed (g.G.Gate.may_stop was.gate.now)
     was.session was.receipts.items (is_some was.hooks) c.in-Ok.receipt
     c.in-Ok.ensures.detach c.in-Ok.ensures.counted)
 
@@ -18,5 +17,5 @@ returns-in-Err-clause-goes g c =
     let was = c.args.self.now in
     let stands = standing was.session was.receipts.items (is_some was.hooks) in
     rw (c.errno_of.ensures, c.in-Err.ensures.refused)
-    (stayed (ways (g.G.Gate.may_stop was.gate.now) AnyRefusal) stands stands
-    tt refl (ap is_some c.requires.attached))
+    (stayed (ways (g.G.Gate.may_stop was.gate.now)) stands stands
+    refl (ap is_some c.requires.attached))

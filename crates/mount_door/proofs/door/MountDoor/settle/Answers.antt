@@ -1,6 +1,5 @@
 use Rattle.std.proofs.Common.{is_some}
 use Rattle.ov_frames.specs.Lending.{answer_of}
-use Rattle.mount_door.specs.GoingOn.{AnyRefusal}
 use Rattle.mount_door.proofs.Claimed.{went_called}
 use Rattle.mount_door.proofs.door.MountDoor.settle.Goals as goal
 
@@ -11,7 +10,7 @@ returns-clause-told g c =
       answer,
       c.tell.ensures,
       rw (c.push_reserved.ensures.items, c.answer_in-answer.ensures.same)
-          (went_called (g.G.Gate.may_stop was.gate.now) AnyRefusal
+          (went_called (g.G.Gate.may_stop was.gate.now)
           was.session c.args.next c.requires.client c.requires.number
           was.receipts.items (is_some was.hooks) (is_some was.hooks) c.args.call.value answer c.args.receipt
           c.answer_in-answer.ensures.answer),

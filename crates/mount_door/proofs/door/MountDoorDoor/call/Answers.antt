@@ -2,7 +2,6 @@ use Rattle.std.proofs.Common.{◌≡◌, ◌∙◌, ap, is_some, refl}
 use Rattle.ov_base.specs.declared.errno.Errno.TheVariants.{ENOMEM}
 use Rattle.ov_frames.specs.declared.answer.Answer.TheVariants.{NotTaken}
 use Rattle.locked_history.specs.declared.session.Refused.TheVariants.{Memory}
-use Rattle.mount_door.specs.GoingOn.{AnyRefusal}
 use Rattle.mount_door.specs.Advancing.{standing, ways}
 use Rattle.mount_door.proofs.Claimed.{claimed_on}
 use Rattle.mount_door.proofs.Stepping.{went_held, went_refused}
@@ -16,7 +15,7 @@ returns-then-is_err-clause-told g c =
       rw c.of-asked.ensures at c.tell.ensures,
       (
         refl,
-        went_refused (ways (g.G.Gate.may_stop was.gate.now) AnyRefusal)
+        went_refused (ways (g.G.Gate.may_stop was.gate.now))
             (standing was.session was.receipts.items gone)
             (standing was.session c.reserve.new.self.items gone) c.args.call Memory
             (ap (λ items. standing was.session items gone) c.reserve.ensures.items),
@@ -32,7 +31,7 @@ returns-in-Ok-clause-told g c =
       rw c.of-asked.ensures at told.1,
       (
         c.settle.ensures.gate,
-        claimed_on (g.G.Gate.may_stop was.gate.now) AnyRefusal was.session
+        claimed_on (g.G.Gate.may_stop was.gate.now) was.session
             (is_some was.hooks) _ _ c.reserve.ensures.items _ _ c.of-asked.ensures told.0
             (standing now.session now.receipts.items (is_some now.hooks)) told.2,
       ),
@@ -48,7 +47,7 @@ returns-in-Err-Stopped-clause-told g c =
       rw c.of-asked.ensures at c.hold_back.ensures,
       (
         refl,
-        went_held (ways (g.G.Gate.may_stop was.gate.now) AnyRefusal)
+        went_held (ways (g.G.Gate.may_stop was.gate.now))
             (standing was.session was.receipts.items gone)
             (standing was.session c.reserve.new.self.items gone) c.args.call
             (c.in-Err-Stopped.ensures.stopped (cc))
@@ -64,7 +63,7 @@ returns-in-Err-clause-told g c =
       rw c.of-asked.ensures at c.tell-in-Err.ensures,
       (
         refl,
-        rw c.errno_of.ensures (went_refused (ways (g.G.Gate.may_stop was.gate.now) AnyRefusal)
+        rw c.errno_of.ensures (went_refused (ways (g.G.Gate.may_stop was.gate.now))
             (standing was.session was.receipts.items gone)
             (standing was.session c.reserve.new.self.items gone) c.args.call c.in-Err.why
             (ap (λ items. standing was.session items gone) c.reserve.ensures.items)),

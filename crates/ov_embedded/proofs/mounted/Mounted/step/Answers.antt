@@ -9,7 +9,7 @@ returns-then-not-may_step c =
     steps_gone c.args.number c.args.self.now gone.new.self c.in-Some.job.now
     (sym c.in-Some.ensures.value)
     (λ may. false≢true (sym c.if-not-may_step.true ∙ c.may_step.ensures.1 may))
-    gone.ensures.core gone.ensures.work gone.ensures.gone gone.ensures.others
+    gone.ensures.core gone.ensures.work gone.ensures.gone gone.ensures.others gone.ensures.reply
 
 pub returns-in-Done : goal.returns-in-Done
 returns-in-Done c =

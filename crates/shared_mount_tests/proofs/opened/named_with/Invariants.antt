@@ -1,6 +1,6 @@
 use Rattle.overlay_core.specs.LegalHistories.{opening_of}
 use Rattle.locked_history.specs.Names.{blank_cells, blank_core, blank_ledger, blank_parts}
-use Rattle.shared_mount_tests.proofs.opened.named.Given as goal
+use Rattle.shared_mount_tests.proofs.opened.named_with.Given as goal
 
 -- the mount that was just made
 abbrev pub ghosts-tries-N-Ledger : goal.ghosts-tries-N-Ledger
