@@ -1,5 +1,5 @@
 // The socket on which connections are waited for.
-use crate::failure::Failure;
+use manifest_files::Failure;
 use ov_server::{Fault, Serving};
 use socket_server::Acceptor;
 use std::alloc::Global;

@@ -3,29 +3,19 @@
 
 ghost use Rattle.std.specs.Prelude.{◌≡◌, ◌≢◌, IfOk, IsSome, None, OnOk};
 
-mod bad_line;
-mod bad_manifest;
-mod described;
 mod ending;
-mod explaining;
-mod failure;
-mod lines;
 mod listening;
 mod mounting;
-mod reading;
 mod replacing;
 mod saving;
 mod status;
 
-use crate::bad_line::why_bad;
-use crate::described::{Described, STANDARD_INPUT, read_manifest};
 use crate::ending::{Task, closing_in, do_task, ending_of};
-use crate::explaining::tell;
-use crate::failure::Failure;
 use crate::listening::{acceptor_of, hold_standard, listen};
 use crate::mounting::{Mounting, mounting_of};
 use crate::saving::Saver;
 use crate::status::Status;
+use manifest_files::{Described, Failure, STANDARD_INPUT, read_manifest, tell, why_bad};
 use ov_devices::{CountedReader, CountedWriter};
 use ov_server::{
     ByTag, Fault, Invocation, Output, Playing, ProgramRule, Serving, Source, command_line,

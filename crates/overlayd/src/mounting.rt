@@ -5,7 +5,7 @@ ghost use Rattle.ov_server.specs.Mounts.{IsMountOf};
 ghost use Rattle.overlay_core.specs.Views.{core_options};
 ghost use Rattle.overlayd.specs.Mounting.{core_in, is_endless};
 
-use crate::described::Described;
+use manifest_files::Described;
 use ov_server::{Fault, Serving, core_of};
 use overlay_core::Core;
 use std::alloc::Global;

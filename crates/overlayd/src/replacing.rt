@@ -1,5 +1,5 @@
 // Files that take the place of others when they are whole.
-use crate::failure::Failure;
+use manifest_files::Failure;
 use ov_server::Fault;
 use std::fs::{File, Files};
 use std::io::ErrorKind;

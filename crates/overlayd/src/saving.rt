@@ -1,6 +1,6 @@
 // The file to which the upper of a served mount is written at the end.
-use crate::failure::Failure;
 use crate::replacing::{Part, What, part_of, put_in_place};
+use manifest_files::Failure;
 use merged_lookup::Layers;
 use ov_devices::CountedWriter;
 use ov_script::Escaped;

@@ -1,35 +1,13 @@
-// The blobs of every manifest that is played here, whatever names it gives them.
-use crate::list::List;
+// The blobs of every manifest that is played here, for the engine.
 use ov_base::Bytes;
+use script_reference::{BLOBS, List};
 use std::alloc::{AllocError, Global};
 
-/// Their bytes, as the files of these names have them beside the rows, for who reads these.
-const BLOBS: [&[u8]; 2] = [b"0123456789", b""];
-
-/// The blobs, for the engine.
+/// The blobs, whatever names a manifest gives them.
 pub fn all_blobs(alloc: Global) -> Result<Vec<Bytes>, AllocError> {
     let mut blobs = List::new(alloc);
     for bytes in BLOBS {
         blobs.put(Bytes::from_slice(alloc, bytes));
     }
     blobs.end()
-}
-
-/// The bytes of one from a place on, so many or else all, for the slow reference.
-pub fn part_of_blob(number: u32, start: u32, size: Option<u32>) -> Option<&'static [u8]> {
-    let bytes: &'static [u8] = match number {
-        0 => BLOBS[0],
-        1 => BLOBS[1],
-        _ => return None,
-    };
-    let start = start as usize;
-    let most = bytes.len().saturating_sub(start);
-    let count = match size {
-        Some(size) => size as usize,
-        None => most,
-    };
-    if start > bytes.len() || count > most {
-        return None;
-    }
-    Some(&bytes[start..start + count])
 }

@@ -2,13 +2,13 @@
 // call, with its place in a history that is there for contracts alone.
 ghost use Rattle.endless_mount.specs.Names.{IsNamed};
 
-use crate::answers::reply_line;
 use crate::shared_clients::copies_of;
 use crate::shared_mount::SharedMount;
 use crate::told::Told;
 use endless_mount::{Blank, BookName, EndlessMount, Front};
 use locked_history::{Open, Refused, Session};
 use ov_base::{Call, Errno};
+use script_reference::reply_line;
 use std::alloc::Global;
 use std::sync::Wait;
 use watch_table::{Callback, Hook, Rule};

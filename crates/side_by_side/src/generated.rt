@@ -1,13 +1,11 @@
 // Scripts made by a seeded generator, on the engine, on the slow reference and on a mount that threads
 // share and that keeps no history.
-use crate::dice::Dice;
 use crate::engine::{look_ups_difference, look_ups_difference_in_turn, run_of};
-use crate::manifests::{Manifest, Manifests};
-use crate::playing::reference_difference;
-use crate::random_calls::{push_call, push_open_of};
-use crate::random_watches::{push_arm_of, push_watch_call};
 use crate::shared::endless_difference;
-use crate::text::Text;
+use script_reference::{
+    Dice, Manifest, Manifests, Text, push_arm_of, push_call, push_open_of, push_watch_call,
+    reference_difference,
+};
 use std::alloc::{AllocError, Global};
 use std::hash::RandomState;
 use std::ops::Range;

@@ -1,9 +1,8 @@
 // Scripts on files that are about as long as they may be, made by a seeded generator, on the engine and on the slow reference.
-use crate::dice::Dice;
 use crate::generated::script_difference_in_turn;
-use crate::manifests::Manifests;
-use crate::random_limits::{FILES, LIMITS, Limit, push_call_at_limit, push_open_at_limit};
-use crate::text::Text;
+use script_reference::{
+    Dice, LIMIT_FILES, LIMITS, Limit, Manifests, Text, push_call_at_limit, push_open_at_limit,
+};
 use std::alloc::{AllocError, Global};
 use std::hash::RandomState;
 use std::ops::Range;
@@ -143,7 +142,7 @@ fn push_calls(
 // A further client reads the first and the last bytes of each file.
 fn push_readings(script: &mut Text) {
     script.add("attach\n");
-    for path in FILES {
+    for path in LIMIT_FILES {
         script.add("3 open r ");
         script.add(path);
         script.add("\n3 fstat 0\n3 read 0 20\n3 seek 0 -9 end\n3 read 0 20\n3 close 0\n");

@@ -1,13 +1,9 @@
 // Scripts of calls in steps made by a seeded generator, on the engine and on the slow reference.
-use crate::dice::Dice;
-use crate::expanded::push_line;
 use crate::generated::{push_first, script_difference_in_turn};
-use crate::manifests::{Manifest, Manifests};
-use crate::random_steps::{FILES, PLACES, push_turn};
 use crate::stepper::Stepper;
-use crate::text::Text;
 use ov_server::{core_of, hooks_by_slot};
 use ov_wire::table_of;
+use script_reference::{Dice, Manifest, Manifests, PLACES, STEP_FILES, Text, push_line, push_turn};
 use std::alloc::{AllocError, Global};
 use std::hash::RandomState;
 use std::rt::Files;
@@ -203,7 +199,7 @@ fn push_end(client: &str, is_calling: bool, lines: &mut Text) {
 // of each file.
 fn push_readings(lines: &mut Text) {
     lines.add("attach\n");
-    for path in FILES {
+    for path in STEP_FILES {
         push_reading(path, lines);
     }
     for path in PLACES {

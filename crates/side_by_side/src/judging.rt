@@ -1,9 +1,8 @@
 // A row on the engine, on the slow reference and on mounts that threads share.
 use crate::engine::{look_ups_difference, run_of};
-use crate::pending::has_steps;
-use crate::playing::reference_difference;
 use crate::rows::Row;
 use crate::shared::{Keeps, endless_difference, told_by};
+use script_reference::{has_steps, reference_difference};
 use std::alloc::{AllocError, Global};
 use std::hash::RandomState;
 use std::io;

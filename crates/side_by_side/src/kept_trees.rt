@@ -1,11 +1,10 @@
 // The trees that a mount keeps: each layer, and the merge of all.
-use crate::text::Text;
-use crate::tree_lines::{Tree, push_escaped, push_path, push_target, push_words};
 use dir_listing::names;
 use layer_tree::{Entry, Layer, Marks, Node};
 use merged_lookup::{Found, Layers, Place};
 use mount_calls::status_of;
 use ov_base::{Content, NameList, Path, Redirect, Stat};
+use script_reference::{Text, Tree, push_escaped, push_path, push_target, push_words};
 use std::alloc::{AllocError, Global};
 
 /// The layer of a number, among those of a mount.
@@ -37,22 +36,28 @@ impl Tree for KeptLayer<'_> {
     }
 }
 
-impl Tree for Layers {
+/// The merge of the layers of a mount.
+#[derive(Clone, Copy)]
+pub struct KeptMerge<'a> {
+    pub layers: &'a Layers,
+}
+
+impl Tree for KeptMerge<'_> {
     fn push_object(&self, alloc: Global, path: &Path, lines: &mut Text) {
-        let Ok(shown) = self.walk_topmost(path) else {
+        let Ok(shown) = self.layers.walk_topmost(path) else {
             return;
         };
         let place = shown.place();
-        if let Some(node) = self.node(place) {
-            push_node(alloc, node, size_at(self, place), path, lines);
+        if let Some(node) = self.layers.node(place) {
+            push_node(alloc, node, size_at(self.layers, place), path, lines);
             lines.add("\n");
         }
     }
 
     fn names_at(&self, alloc: Global, path: &Path) -> Result<NameList, AllocError> {
-        match self.walk(path) {
+        match self.layers.walk(path) {
             Ok(Found::Directory(stack)) => {
-                let found = names(alloc, self, &stack);
+                let found = names(alloc, self.layers, &stack);
                 drop(stack);
                 Ok(NameList::from_vec(found?))
             }

@@ -3,33 +3,14 @@
 //! generator on the engine and on the slow reference, and some on a mount that threads share.
 #![tactic(auto)]
 
-mod answers;
 mod blobs;
-mod contents;
-mod dice;
 mod endless_play;
 mod engine;
-mod entries;
-mod expanded;
 mod generated;
 mod generated_limits;
 mod generated_steps;
-mod history;
 mod judging;
 mod kept_trees;
-mod layer_lines;
-mod list;
-mod manifests;
-mod merged;
-mod mount;
-mod opening;
-mod pending;
-mod plain_layer;
-mod playing;
-mod random_calls;
-mod random_limits;
-mod random_steps;
-mod random_watches;
 mod recorded_play;
 mod rows;
 mod shared;
@@ -37,11 +18,7 @@ mod shared_clients;
 mod shared_mount;
 mod sights;
 mod stepper;
-mod text;
 mod told;
-mod told_entries;
-mod told_layers;
-mod tree_lines;
 
 use crate::generated::play_generated;
 use crate::generated_limits::play_generated_limits;

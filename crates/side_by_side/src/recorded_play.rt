@@ -2,12 +2,12 @@
 // receipts, which all stand in its past when it has ended.
 ghost use Rattle.locked_history.specs.Names.{IsNamed};
 
-use crate::answers::reply_line;
 use crate::shared_clients::copies_of;
 use crate::shared_mount::SharedMount;
 use crate::told::Told;
 use locked_history::{Blank, Deed, Mount, MountName, Open, Receipt, Refused, Session};
 use ov_base::{Call, Errno};
+use script_reference::reply_line;
 use std::alloc::Global;
 use std::sync::Wait;
 use watch_table::{Callback, Hook, Rule};

@@ -1,5 +1,5 @@
 // Rows of a data file: a manifest, a script, and the lines that both have to answer.
-use crate::expanded::push_line;
+use script_reference::push_line;
 use std::alloc::{AllocError, Global};
 
 /// A row. Without a script it is a `show` of the manifest.

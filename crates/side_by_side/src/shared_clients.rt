@@ -1,9 +1,9 @@
 // The clients of a mount that threads share, as the lines of a script name them.
-use crate::answers::{attached_line, detached_line, not_attached_line, not_taken_line};
 use crate::shared_mount::SharedMount;
 use locked_history::{Refused, Session};
 use ov_base::{Call, Errno};
 use ov_script::{CallText, Command, command_of};
+use script_reference::{attached_line, detached_line, not_attached_line, not_taken_line};
 use std::alloc::{AllocError, Global};
 use std::sync::Wait;
 use watch_table::{Callback, Hook, Rule};

@@ -1,9 +1,8 @@
 // What a script asks of a mount beside calls, and where its text ends.
-use crate::kept_trees::KeptLayer;
-use crate::text::Text;
-use crate::tree_lines::push_tree;
+use crate::kept_trees::{KeptLayer, KeptMerge};
 use ov_script::{Command, command_of};
 use overlay_core::Core;
+use script_reference::{Text, push_tree};
 use std::alloc::Global;
 use watch_table::{Callback, Rule};
 
@@ -34,7 +33,7 @@ impl Sight {
         let layers = core.layers();
         match self {
             Sight::Layer(0) if !core.has_upper() => return false,
-            Sight::Tree => push_tree(alloc, layers, lines),
+            Sight::Tree => push_tree(alloc, &KeptMerge { layers }, lines),
             Sight::Layer(index) => match layers.layer(index) {
                 Some(layer) => {
                     let kept = KeptLayer {

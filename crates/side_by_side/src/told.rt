@@ -4,8 +4,8 @@
 use crate::shared_clients::{Answer, Clients, is_silent};
 use crate::shared_mount::SharedMount;
 use crate::sights::sight_of;
-use crate::text::Text;
 use overlay_core::Core;
+use script_reference::Text;
 use std::alloc::{AllocError, Global};
 use std::sync::Wait;
 use watch_table::{Callback, Rule};

@@ -9,7 +9,7 @@ use std::random::RandomSource;
 use std::{fmt, io};
 
 /// Tells a fault. One of a saved upper is told with the name of its file.
-pub(crate) fn tell<R: Files + RandomSource + Eprint + AllocGlobal>(
+pub fn tell<R: Files + RandomSource + Eprint + AllocGlobal>(
     rt: &R,
     source: &Source<'_>,
     explain: bool,

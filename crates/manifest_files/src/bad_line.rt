@@ -53,7 +53,7 @@ const TEXT: &str =
     "a text, in which \\x and two digits stand for a backslash and for each byte outside 0x21 to 0x7e, and \\- for none";
 
 /// Why a line is no command, or can't be played where it stands.
-pub(crate) fn why_bad(alloc: Global, line: &[u8]) -> Result<String, AllocError> {
+pub fn why_bad(alloc: Global, line: &[u8]) -> Result<String, AllocError> {
     match str::from_utf8(line) {
         Ok(text) => why_bad_text(alloc, text),
         Err(_) => format!(in alloc;

@@ -14,20 +14,22 @@ use std::path::Path;
 use toml::{Table, Value};
 
 /// The name by which a manifest is read from standard input.
-pub(crate) const STANDARD_INPUT: &str = "-";
+pub const STANDARD_INPUT: &str = "-";
 
 /// A manifest's table, and the bytes of its blobs.
 #[derive(Drop)]
-pub(crate) struct Described {
-    pub(crate) table: Table,
-    pub(crate) blobs: Vec<Bytes>,
+pub struct Described {
+    /// What its file says.
+    pub table: Table,
+    /// The bytes of its blobs, in its order.
+    pub blobs: Vec<Bytes>,
     /// How many layers a saved upper put above those of the manifest; none where it has no saved one.
-    pub(crate) above: Option<usize>,
+    pub above: Option<usize>,
 }
 
 /// What a manifest describes, which has with its blobs at most so many bytes as are told. No blob is
 /// read of one whose whole is at fault. A saved upper takes the place of its own.
-pub(crate) fn read_manifest<R: Files + Input + AllocGlobal>(
+pub fn read_manifest<R: Files + Input + AllocGlobal>(
     rt: &R,
     source: &Source<'_>,
 ) -> Result<Described, Failure> {

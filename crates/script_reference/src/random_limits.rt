@@ -50,7 +50,7 @@ pub const LIMITS: [Limit; 5] = [
 ];
 
 /// Where the mounts begin with files.
-pub const FILES: [&str; 8] = [
+pub const LIMIT_FILES: [&str; 8] = [
     "/a/a", "/b", "/a/b/a", "/a/b/b", "/a/b/c", "/a/b/c", "/c", "/c",
 ];
 
@@ -80,7 +80,7 @@ pub fn push_open_at_limit(dice: &mut Dice, client: &str, script: &mut Text) {
     script.add(client);
     script.word("open");
     push_one_of(dice, &FLAGS, script);
-    push_one_of(dice, &FILES, script);
+    push_one_of(dice, &LIMIT_FILES, script);
     script.add("\n");
 }
 

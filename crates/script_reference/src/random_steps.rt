@@ -5,7 +5,7 @@ use crate::random_watches::push_watch_call;
 use crate::text::Text;
 
 /// Where the mount begins with files.
-pub const FILES: [&str; 15] = [
+pub const STEP_FILES: [&str; 15] = [
     "/a/a/a", "/a/a/b", "/a/a/c", "/a/b/a", "/a/b/b", "/a/b/c", "/a/c", "/b", "/c/a/a", "/c/a/b",
     "/c/a/c", "/c/b/a", "/c/b/b", "/c/b/c", "/c/c",
 ];
@@ -83,15 +83,15 @@ fn push_on_file(dice: &mut Dice, line: &mut Text) {
         0..=7 => {
             line.add(" open");
             push_one_of(dice, &FLAGS, line);
-            push_one_of(dice, &FILES, line);
+            push_one_of(dice, &STEP_FILES, line);
         }
         8 => {
             line.add(dice.pick(&[" chmod 600", " chown 7 8"]));
-            push_one_of(dice, &FILES, line);
+            push_one_of(dice, &STEP_FILES, line);
         }
         9 => {
             line.add(" setattr");
-            push_one_of(dice, &FILES, line);
+            push_one_of(dice, &STEP_FILES, line);
             line.add(" user.a 2");
         }
         10 => {
@@ -104,7 +104,7 @@ fn push_on_file(dice: &mut Dice, line: &mut Text) {
         }
         _ => {
             line.add(dice.pick(&[" rename", " link"]));
-            push_one_of(dice, &FILES, line);
+            push_one_of(dice, &STEP_FILES, line);
             push_one_of(dice, &PLACES, line);
         }
     }

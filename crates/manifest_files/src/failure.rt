@@ -6,14 +6,16 @@ use std::fmt::Display;
 
 /// Why a run ended, and a text for a person of what was at fault, where there is more to say.
 #[derive(Drop)]
-pub(crate) struct Failure {
-    pub(crate) fault: Fault,
-    pub(crate) why: Option<String>,
+pub struct Failure {
+    /// The fault, which has the line and the exit status.
+    pub fault: Fault,
+    /// What was at fault, in words.
+    pub why: Option<String>,
 }
 
 impl Failure {
     /// A fault, and why; where memory runs out for the text, without it.
-    pub(crate) fn because<T: Display + Drop>(alloc: Global, fault: Fault, why: T) -> Failure {
+    pub fn because<T: Display + Drop>(alloc: Global, fault: Fault, why: T) -> Failure {
         Failure {
             fault,
             why: why.to_string(alloc).ok(),
@@ -22,7 +24,7 @@ impl Failure {
 
     /// A fault of a mount. Where a saved upper stands above so many layers more than a manifest has, an
     /// entry's is told of the file that has it, with the number of its layer there.
-    pub(crate) fn of_mount(fault: Fault, above: Option<usize>) -> Failure {
+    pub fn of_mount(fault: Fault, above: Option<usize>) -> Failure {
         let Some(above) = above else {
             return Failure::from(fault);
         };
