@@ -79,13 +79,13 @@ class _Comparison:
             return True
         if (below.uid, below.gid, below.links) != (entry.uid, entry.gid, entry.links):
             return True
+        if entry.mtime is not None and below.mtime != entry.mtime:
+            return True
         if entry.kind == SYMLINK:
             return below.target != entry.target
         if (below.mode, below.device) != (entry.mode, entry.device):
             return True
         if dict(below.attrs) != dict(entry.attrs):
-            return True
-        if entry.mtime is not None and below.mtime != entry.mtime:
             return True
         return entry.kind == FILE and (below.size != entry.size or not self._has_same(below, entry))
 
@@ -100,9 +100,13 @@ class _Comparison:
         """What is shown at a path. A time that stands there word for word as below, where all else
         was changed, is that of a client that keeps no times, and so isn't known."""
         entry, below = self._shown[path], self._below.get(path)
-        if below is None or entry.told is None or entry.told != below.told or entry.kind != FILE:
+        if below is None or entry.told is None or entry.told != below.told:
             return entry
-        if below.size == entry.size and self._has_same(below, entry):
+        if entry.kind not in (FILE, SYMLINK) or below.kind == entry.kind == SYMLINK \
+                and below.target == entry.target:
+            return entry
+        if below.kind == entry.kind == FILE and below.size == entry.size \
+                and self._has_same(below, entry):
             return entry
         return entry._replace(mtime=None)
 

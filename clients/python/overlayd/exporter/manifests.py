@@ -1,27 +1,24 @@
 """The layers that manifests describe, as trees."""
 
-import json
 from collections import Counter
 from typing import (Any, BinaryIO, Counter as Counts, Dict, Hashable, Iterable, Iterator, List,
                     Optional, Tuple)
 
 from ..importer import objects
 from ..importer.limits import FILE_LIMIT
+from ..importer.lines import BYTES, ENTRY, Lines, OtherForm
 from ..importer.merging import TreeLayer, flatten
+from ..importer.meta import read_links
 from ..importer.objects import Part
 from ..importer.telling import shown
-from .described import described
+from .described import LinkTimes
+from .judging import judge, refusal
 from .stretches import Blobs
 from .trees import DIRECTORY, FILE, SYMLINK, Entry, Tree
 from .unsayable import Unsayable
 
-_BYTES = ("text", "hex", "zeros")
 _DEFAULTS = {"dir": 0o755, "file": 0o644}
 _LINKED = (objects.File, objects.Symlink)
-
-
-class OtherForm(Exception):
-    """The manifest isn't one of lines."""
 
 
 class Manifest:
@@ -36,7 +33,7 @@ class Manifest:
         self.path = path
         self.links: Counts[int] = Counter()
         try:
-            self._source: _Source = _Lines(path)
+            self._source: _Source = _OfLines(path)
             self.layers = self._read(self._source)
         except OtherForm as fault:
             self._source = _Whole(path, str(fault))
@@ -66,16 +63,21 @@ class Manifest:
         """Puts what an entry describes into its layer."""
         names = _names(entry["path"])
         if not names:
+            if entry["kind"] != "dir":
+                raise refusal(self.path, "/ is a directory")
             _describe(root, entry)
             return
         parent = objects.at(root, names[:-1])
         node = objects.at(root, _names(entry["to"])) if entry["kind"] == "link" else _node(entry)
-        if node is None or not isinstance(parent, objects.Directory):
-            raise Unsayable(f"a manifest that overlayd doesn't take: {shown(entry['path'])}")
+        if node is None or not isinstance(parent, objects.Directory) \
+                or entry["kind"] == "link" and not isinstance(node, _LINKED):
+            raise refusal(self.path, shown(entry["path"]))
         if isinstance(node, _LINKED):
             self.links[id(node)] += 1
         if isinstance(node, objects.File) and entry["kind"] != "link":
             node.place = source, node.place
+        if isinstance(node, objects.Symlink):
+            node.mtime = parent.links.get(names[-1], node.mtime)
         parent.children[names[-1]] = node
 
 
@@ -89,6 +91,7 @@ class LayeredTree(Tree):
         self._root = flatten([TreeLayer(layer) for layer in layers])
 
     def entries(self) -> Iterator[Entry]:
+        times = LinkTimes()
         for path, node in objects.walk(self._root):
             assert isinstance(node, objects.Inode)
             attrs = tuple((name, value.encode()) for name, value in node.attrs)
@@ -100,7 +103,7 @@ class LayeredTree(Tree):
                 entry = entry._replace(kind=FILE, size=node.size)
             elif isinstance(node, objects.Symlink):
                 entry = entry._replace(kind=SYMLINK, target=node.target)
-            yield described(entry)
+            yield times.described(entry, node.mtime)
 
     def read(self, entry: Entry) -> bytes:
         return b"".join(self.pieces(entry))
@@ -141,6 +144,8 @@ def _describe(node: objects.Inode, entry: Dict[str, Any]) -> None:
     node.mode = entry.get("mode", _DEFAULTS.get(entry["kind"], 0o777))
     node.uid, node.gid = entry.get("uid", 0), entry.get("gid", 0)
     node.attrs = tuple((name, value) for name, value in entry.get("attrs", ()))
+    if isinstance(node, objects.Directory):
+        node.links = read_links(node.attrs)
 
 
 def _node(entry: Dict[str, Any]) -> Optional[objects.Object]:
@@ -182,12 +187,13 @@ class _Source:
         raise NotImplementedError
 
 
-class _Lines(_Source):
+class _OfLines(_Source):
     """A manifest of lines: headers of tables, and `key = value`."""
 
     def __init__(self, path: str) -> None:
         self.path = path
         self._stream: BinaryIO = open(path, "rb")
+        self._lines = Lines(self._stream)
         self._blobs = Blobs(path, [])
 
     def __del__(self) -> None:
@@ -196,46 +202,41 @@ class _Lines(_Source):
 
     def entries(self) -> Iterator[Optional[Dict[str, Any]]]:
         entry: Optional[Dict[str, Any]] = None
-        place = 0
-        for line in self._stream:
-            begin, place = place, place + len(line)
-            words = line.strip()
-            if words in (b"[[layer]]", b"[[layer.entry]]"):
+        for key, value in self._lines.all():
+            if not key:
                 if entry is not None:
                     yield self._checked(entry)
-                entry = None
-                if words == b"[[layer]]":
-                    yield None
-                else:
-                    entry = {"bytes": (0, None)}
-            elif words and not words.startswith(b"#"):
-                key, value = _key_and_value(words)
+                entry = {"bytes": (0, None)} if value == ENTRY else None
                 if entry is None:
-                    self._option(key, value)
-                elif key in _BYTES:
-                    entry["bytes"] = _size(key, value), (begin, len(line))
-                else:
-                    entry[key] = _value(value)
+                    yield None
+            elif entry is None:
+                self._option(key, value)
+            elif key in BYTES:
+                entry["bytes"] = value.size, value
+            else:
+                entry[key] = value
         if entry is not None:
             yield self._checked(entry)
 
     def _checked(self, entry: Dict[str, Any]) -> Dict[str, Any]:
         """An entry with all its lines."""
-        if not isinstance(entry.get("path"), str) or not isinstance(entry.get("kind"), str):
-            raise OtherForm("an entry without path or kind")
+        data = entry.pop("bytes")
+        judge(self.path, entry)
         part = self._blobs.part(entry)
         if part is not None:
-            entry["bytes"] = part.size, part
-        return entry
+            data = part.size, part
+        if type(data[0]) is not int or data[0] < 0:
+            raise refusal(self.path, f"{shown(entry['path'])}: its bytes")
+        return {**entry, "bytes": data}
 
-    def _option(self, key: str, value: bytes) -> None:
+    def _option(self, key: str, value: Any) -> None:
         """A line before the first entry of a layer."""
-        if key == "upper" and value in (b"true", b"false"):
-            self.has_upper = value == b"true"
-        elif key == "blobs":
-            self._blobs = Blobs(self.path, _value(value))
-        elif key == "file_limit":
-            self.file_limit = _value(value)
+        if key == "upper" and isinstance(value, bool):
+            self.has_upper = value
+        elif key == "blobs" and _are_texts(value):
+            self._blobs = Blobs(self.path, value)
+        elif key == "file_limit" and isinstance(value, int):
+            self.file_limit = value
         elif key not in ("redirect_dir", "metacopy", "history"):
             raise OtherForm(f"the key {key} before the first entry")
 
@@ -243,46 +244,10 @@ class _Lines(_Source):
         if isinstance(place, Part):
             yield from self._blobs.pieces(place)
         elif place is not None:
-            begin, length = place
-            self._stream.seek(begin)
-            key, value = _key_and_value(self._stream.read(length).strip())
-            yield from _bytes_of(key, _value(value))
-
-
-def _key_and_value(words: bytes) -> Tuple[str, bytes]:
-    key, equals, value = words.partition(b"=")
-    name = key.strip()
-    if not equals or not name.replace(b"_", b"").isalpha():
-        raise OtherForm("a line that is no `key = value`")
-    return name.decode("ascii"), value.strip()
-
-
-def _value(value: bytes) -> Any:
-    """The value of a line; texts of TOML on one line are written as JSON has them, mostly."""
-    try:
-        if value[:1] in (b'"', b"["):
-            return json.loads(value.decode("utf-8"))
-        if value in (b"true", b"false"):
-            return value == b"true"
-        return int(value.decode("ascii"), 0)
-    except ValueError:
-        raise OtherForm("a value of another form") from None
-
-
-def _size(key: str, value: bytes) -> int:
-    if key == "hex":
-        if value[:1] != b'"' or value[-1:] != b'"':
-            raise OtherForm("a value of another form")
-        return (len(value) - 2) // 2
-    found = _value(value)
-    return found if key == "zeros" else len(found.encode("utf-8"))
-
-
-def _bytes_of(key: str, value: Any) -> Iterator[bytes]:
-    if key == "zeros":
-        yield from objects.zeros(value)
-    else:
-        yield bytes.fromhex(value) if key == "hex" else value.encode("utf-8")
+            try:
+                yield from self._lines.pieces(place)
+            except OtherForm as fault:
+                raise refusal(self.path, str(fault)) from None
 
 
 class _Whole(_Source):
@@ -298,23 +263,34 @@ class _Whole(_Source):
         with open(path, "rb") as stream:
             try:
                 self._manifest = tomllib.load(stream)
-            except tomllib.TOMLDecodeError as fault:
+            except (ValueError, RecursionError) as fault:
                 raise Unsayable(f"{path}: no TOML: {fault}") from None
         self.has_upper = self._manifest.get("upper") is not False
         self.file_limit = self._manifest.get("file_limit", FILE_LIMIT)
-        self._blobs = Blobs(path, self._manifest.get("blobs", []))
+        names = self._manifest.get("blobs", [])
+        if not isinstance(self.file_limit, int) or not _are_texts(names):
+            raise refusal(path, "file_limit or blobs")
+        self._blobs = Blobs(path, names)
 
     def entries(self) -> Iterator[Optional[Dict[str, Any]]]:
-        for layer in self._manifest.get("layer", []):
+        for layer in self._listed(self._manifest, "layer"):
             yield None
-            for entry in layer.get("entry", []):
+            for entry in self._listed(layer, "entry"):
+                judge(self.path, entry)
                 part = self._blobs.part(entry)
-                key = next((key for key in _BYTES if key in entry), None)
+                key = next((key for key in BYTES if key in entry), None)
                 if part is not None:
                     yield {**entry, "bytes": (part.size, part)}
                 else:
                     value = entry[key] if key else ""
                     yield {**entry, "bytes": (_count(key, value), (key or "text", value))}
+
+    def _listed(self, table: Any, key: str) -> List[Any]:
+        """What stands at a key of a table, which is an array."""
+        found = table.get(key, []) if isinstance(table, dict) else None
+        if not isinstance(found, list):
+            raise refusal(self.path, f"{key}: an array of tables")
+        return found
 
     def pieces(self, place: Any) -> Iterator[bytes]:
         if isinstance(place, Part):
@@ -323,8 +299,19 @@ class _Whole(_Source):
             yield from _bytes_of(*place)
 
 
+def _are_texts(found: Any) -> bool:
+    return isinstance(found, list) and all(isinstance(one, str) for one in found)
+
+
 def _count(key: Optional[str], value: Any) -> int:
     """How many bytes a value says."""
     if key == "zeros":
         return int(value)
     return len(value) // 2 if key == "hex" else len(value.encode("utf-8"))
+
+
+def _bytes_of(key: str, value: Any) -> Iterator[bytes]:
+    if key == "zeros":
+        yield from objects.zeros(value)
+    else:
+        yield bytes.fromhex(value) if key == "hex" else value.encode("utf-8")

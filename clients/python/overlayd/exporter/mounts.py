@@ -11,7 +11,7 @@ from ..importer.limits import FILE_LIMIT_MOST, NAME_BYTES, PATH_BYTES
 from ..importer.objects import PIECE
 from ..importer.telling import shown
 from ..pipeline import Pending
-from .described import described
+from .described import LinkTimes
 from .same_files import SameFiles
 from .trees import DIRECTORY, FILE, SYMLINK, Entry, Tree, raw_of
 from .unsayable import Unsayable
@@ -36,6 +36,7 @@ class MountTree(Tree):
         self._client = client
         self._most = most
         self._count = 0
+        self._times = LinkTimes()
 
     def entries(self) -> Iterator[Entry]:
         for entry in self._described([("/", self._client.stat("/"))]):
@@ -120,18 +121,19 @@ class MountTree(Tree):
             mode, links = stat.S_IMODE(status.st_mode), status.st_nlink
             plain = Entry(path, DIRECTORY, mode, status.st_uid, status.st_gid)
             if path in targets and not _is_gone(targets[path]):
-                yield plain._replace(kind=SYMLINK, target=targets[path].result(), links=links)
+                yield self._times.described(plain._replace(
+                    kind=SYMLINK, target=targets[path].result(), links=links))
             elif path in values:
                 attrs = tuple((name, value.result()) for name, value in values[path]
                               if not _is_gone(value))
                 if stat.S_ISDIR(status.st_mode):
-                    yield described(plain._replace(attrs=attrs))
+                    yield self._times.described(plain._replace(attrs=attrs))
                 elif not 0 <= status.st_size <= self._most:
                     raise Unsayable(f"{shown(path)}: a file of {status.st_size:,} bytes, where the "
                                     f"manifest has {self._most:,} at most")
                 else:
-                    yield described(plain._replace(kind=FILE, attrs=attrs, links=links,
-                                                   size=status.st_size))
+                    yield self._times.described(plain._replace(
+                        kind=FILE, attrs=attrs, links=links, size=status.st_size))
 
 
 def _judge(directory: str, name: str) -> None:

@@ -118,6 +118,8 @@ class _Writing:
         elif entry.kind == SYMLINK:
             os.symlink(raw_of(entry.target), name, dir_fd=above)
             os.chown(name, entry.uid, entry.gid, dir_fd=above, follow_symlinks=False)
+            if entry.mtime is not None:
+                os.utime(name, ns=(entry.mtime, entry.mtime), dir_fd=above, follow_symlinks=False)
         elif entry.kind == FILE:
             descriptor = os.open(name, _NEW, 0o600, dir_fd=above)
             with open(descriptor, "wb") as stream:

@@ -44,8 +44,9 @@ else mode 0755 and owner 0:0. A hard link to a file of a lower layer makes a cop
 file whose bytes are in a lower layer (metacopy) is written with its own attributes and these bytes.
 
 times: the time of the last change of each file and directory is kept in its user attribute
-user.overlayd.meta, from which the bridge to FUSE (--times) and overlayd-export take it. --no-times
-leaves them out. Symbolic links have no attributes, and so no times.
+user.overlayd.meta, from which the bridge to FUSE (--times) and overlayd-export take it, and that of
+each symbolic link in the attributes user.overlayd.links.0 and so on of its directory, from which
+overlayd-export takes it. --no-times leaves them out.
 
 left out, each in one line on standard error (--quiet: not), with a sum at the end:
   fifos, sockets and devices (--devices keeps them, by the same attribute); attributes other than
@@ -241,8 +242,7 @@ def run(words: argparse.Namespace, report: Report) -> None:
             store.drop()
         output.drop()
         raise
-    report.sum_up(writer.layers, writer.objects, writer.bytes,
-                  "times of symbolic links" if keep.times else "times")
+    report.sum_up(writer.layers, writer.objects, writer.bytes, "" if keep.times else "times")
 
 
 def main(arguments: Optional[List[str]] = None) -> int:

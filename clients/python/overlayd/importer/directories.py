@@ -90,6 +90,7 @@ class DirectoryLayer(Content, Layer):
         root = Directory(status.st_mode & limits.MODE_BITS, status.st_uid, status.st_gid,
                          found.attrs)
         self._give_time(root, status, found)
+        self._give_links(root, _listed(self._root.descriptor), self._root.descriptor)
         return root
 
     def largest(self) -> int:
@@ -183,7 +184,7 @@ class DirectoryLayer(Content, Layer):
         """Each name below the root, a directory before what is in it, names by their bytes; but
         those of plain files, which `plain` writes."""
         ways = Ways(self._root)
-        stack = [_Open(b"", "/", _listed(ways.here), root)]
+        stack = [_Open(b"", "/", iter(_listed(ways.here)), root)]
         merge = self._below.under(root)
         try:
             while stack:
@@ -222,9 +223,10 @@ class DirectoryLayer(Content, Layer):
             node = self._object(name, path, raw, descriptor, ways, merge)
             if isinstance(node, Directory):
                 ways.down(descriptor)
-                descriptor, kept = -1, ways.here
+                descriptor, entries = -1, _listed(ways.here)
+                self._give_links(node, entries, ways.here)
                 yield Step(path, name, here.node, node)
-                stack.append(_Open(raw + b"/", path + "/", _listed(kept), node))
+                stack.append(_Open(raw + b"/", path + "/", iter(entries), node))
             elif node is not None:
                 yield Step(path, name, here.node, node, descriptor)
         finally:
@@ -322,6 +324,16 @@ class DirectoryLayer(Content, Layer):
         if self._keep.times and not found.has_meta:
             node.mtime = status.st_mtime_ns
 
+    def _give_links(self, node: Directory, entries: Iterable["os.DirEntry[str]"],
+                    descriptor: int) -> None:
+        """Gives a directory, which is open, the times of the symbolic links in it."""
+        if not self._keep.times:
+            return
+        for entry in entries:
+            if entry.is_symlink() and limits.name_fault(os.fsencode(entry.name)) is None:
+                status = os.stat(entry.name, dir_fd=descriptor, follow_symlinks=False)
+                node.links[entry.name] = status.st_mtime_ns
+
     def _too_large(self, path: str, size: int) -> None:
         self._report.leave_out(self.name, path, OVER_LIMIT,
                                limits.size_fault(size, self.most))
@@ -348,7 +360,9 @@ class DirectoryLayer(Content, Layer):
             return None
         for attribute, _ in self._marks(_by_name(ways.here, name), path, is_link=True).attrs:
             self._teller(path)(ATTRIBUTE, f"attribute {shown(attribute)} of a symbolic link")
-        return self._maybe_shared(Symlink(status.st_uid, status.st_gid, target.decode()), status)
+        link = Symlink(status.st_uid, status.st_gid, target.decode())
+        link.mtime = status.st_mtime_ns if self._keep.times else None
+        return self._maybe_shared(link, status)
 
     def _marks(self, where: Union[int, bytes], path: str, is_link: bool = False) -> marks.Marks:
         pairs = _attributes(where)
@@ -381,10 +395,10 @@ class DirectoryLayer(Content, Layer):
         return data
 
 
-def _listed(descriptor: int) -> Iterator["os.DirEntry[str]"]:
+def _listed(descriptor: int) -> List["os.DirEntry[str]"]:
     """The names of a directory by their bytes."""
     with os.scandir(descriptor) as entries:
-        return iter(sorted(entries, key=_NAME_OF))
+        return sorted(entries, key=_NAME_OF)
 
 
 def _by_name(directory: int, name: str) -> bytes:

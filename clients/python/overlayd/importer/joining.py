@@ -1,17 +1,17 @@
 """Going on: a saved upper over the lower layers of the manifest of a mount, as one manifest."""
 
 import os
+from itertools import chain
 from typing import Any, BinaryIO, Dict, Iterator, List, Optional, Tuple
 
 from . import limits
+from .lines import Lines, OtherForm
 from .output import Output
 from .references import References
 from .telling import Refused, shown
 from .toml import Found, NotToml, Table, read
 from .writing import quoted
 
-_LAYER = b"[[layer]]"
-_LONG_TEXTS = (b'"""', b"'''")
 _PIECE = 1 << 20
 _HEAD_BYTES = 1 << 24
 
@@ -34,8 +34,7 @@ def _join(upper: "_Layers", whole: "_Layers", saved: str, base: str, output: str
     out = Output(output, waits=False)
     try:
         out.stream.write(_head(whole.options, base, output))
-        for piece in (*upper.written(0, 1), *whole.written(1, None)):
-            out.stream.write(piece)
+        out.stream.writelines(chain(upper.written(0, 1), whole.written(1, None)))
         out.keep()
     except BaseException:
         out.drop()
@@ -91,20 +90,15 @@ class _Layers:
 
     def _looked_through(self) -> Tuple[List[Tuple[int, int]], bytes]:
         """Where the layers are, and what is before them; no places where the file has another
-        form, in which a line can be a part of a text."""
-        begins: List[int] = []
-        head, at = b"", 0
-        for line in self._stream:
-            if any(mark in line for mark in _LONG_TEXTS):
-                return [], b""
-            if line.strip() == _LAYER:
-                begins.append(at)
-            elif not begins:
-                head += line
-                if len(head) > _HEAD_BYTES:
-                    return [], b""
-            at += len(line)
-        return [*zip(begins, [*begins[1:], at])], head
+        form."""
+        try:
+            begins = list(Lines(self._stream).layers())
+        except OtherForm:
+            return [], b""
+        if len(begins) < 2 or begins[0] > _HEAD_BYTES:
+            return [], b""
+        self._stream.seek(0)
+        return [*zip(begins, begins[1:])], self._stream.read(begins[0])
 
     def written(self, first: int, end: Optional[int]) -> Iterator[bytes]:
         """The lines of the layers from one on."""

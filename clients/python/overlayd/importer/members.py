@@ -24,6 +24,7 @@ _STRETCHES_MOST = 1 << 17
 _SIZE_MOST = 1 << 62
 _EMPTY = bytes(BLOCK)
 _BLANKS = b" " * 8
+_BLANKS_SUM = 8 * 0x20
 _CHARSETS = ("BINARY", "ISO-IR 10646 2000 UTF-8")
 Headers = Dict[str, str]
 Stretches = Optional[List[Tuple[int, int]]]
@@ -86,7 +87,7 @@ def _number(field: bytes) -> int:
     return _octal(digits)
 
 
-# Modes and owners are the same again and again.
+# Modes, owners and times are the same again and again.
 _repeated_number = lru_cache(maxsize=4096)(_number)
 
 
@@ -109,12 +110,15 @@ def _whole(digits: bytes) -> int:
 
 
 def _check_sum(block: bytes) -> None:
-    """Whether the sum of a header is right, by bytes with or without a sign. The lower half of an
-    Adler-32 is one more than the sum of up to 256 bytes."""
-    told = _number(block[148:156])
-    rest = block[:148] + _BLANKS + block[156:]
-    if (adler32(rest[:256]) & 0xFFFF) + (adler32(rest[256:]) & 0xFFFF) - 2 == told:
+    """Whether the sum of a header, in which the place of the sum counts as blanks, is right, by
+    bytes with or without a sign. The lower half of an Adler-32 is one more than the sum of up to
+    256 bytes."""
+    field = block[148:156]
+    told = _number(field)
+    if (adler32(block[:256]) & 0xFFFF) + (adler32(block[256:]) & 0xFFFF) - 1 \
+            - (adler32(field) & 0xFFFF) + _BLANKS_SUM == told:
         return
+    rest = block[:148] + _BLANKS + block[156:]
     if sum(byte - 256 if byte > 127 else byte for byte in rest) != told:
         raise Broken("a header whose sum is wrong")
 
@@ -191,7 +195,7 @@ class _Reader:
         member.mode = _repeated_number(block[100:108])
         member.uid = _repeated_number(block[108:116])
         member.gid = _repeated_number(block[116:124])
-        member.mtime = _number(block[136:148]) * SECOND
+        member.mtime = _repeated_number(block[136:148]) * SECOND
         if kind_of in (LINK, SYMLINK):
             member.linkname = text_of(block[157:257])
         elif kind_of in (CHARACTER, BLOCK_DEVICE):

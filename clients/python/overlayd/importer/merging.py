@@ -2,7 +2,7 @@
 
 from typing import List, Optional, Sequence, Tuple, cast
 
-from .objects import Directory, File, Names, Object, Whiteout, walk
+from .objects import Directory, File, Names, Object, Whiteout, link_times, walk
 
 Found = Tuple[int, Object]
 Place = Tuple[int, Directory]
@@ -142,6 +142,20 @@ class Merge:
         found = self.child(under, names[-1])
         return found[0][1] if found else None
 
+    def give_links(self, root: Directory) -> None:
+        """Gives the directories of the first layer, which has this root, the times of the symbolic
+        links that they show of the layers below."""
+        todo = [(root, self.roots())]
+        while todo:
+            node, places = todo.pop()
+            for _, below in reversed(places[1:]):
+                node.links = {**node.links, **link_times(below)}
+            for name, child in node.children.items():
+                if isinstance(child, Directory) and len(places) > 1:
+                    found = cast(List[Place], self.child(places, name))
+                    if len(found) > 1:
+                        todo.append((child, found))
+
     def bytes_of(self, names: Names, redirect: Optional[str]) -> Optional[File]:
         """The file of the layers below the first one that has the bytes of the first one's file at
         these names: it is looked for there, or where the file's redirect says."""
@@ -178,4 +192,5 @@ def _bare(directory: Directory) -> Directory:
     """The directory without what is in it, and without marks."""
     bare = Directory(directory.mode, directory.uid, directory.gid, directory.attrs)
     bare.mtime = directory.mtime
+    bare.links = directory.links
     return bare

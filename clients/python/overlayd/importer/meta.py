@@ -4,16 +4,19 @@ The names and forms are told in clients/python/ATTRIBUTES.md.
 """
 
 import re
-from typing import NamedTuple, Optional, Tuple
+from typing import Dict, Iterable, List, NamedTuple, Optional, Tuple
 
 PRIVATE = "user.overlayd."
 META = PRIVATE + "meta"
 XATTR = PRIVATE + "xattr."
+LINKS = PRIVATE + "links."
 XATTR_BYTES = 512
+LINKS_MOST = 48
 SECOND = 1_000_000_000
 KINDS = {"p": "a fifo", "s": "a socket", "c": "a character device", "b": "a block device"}
 DEVICES = "cb"
 _META = re.compile(r"1 ([-pscb]) (\d{1,20}) " + " ".join([r"(-?\d{1,19})\.(\d{9})"] * 3))
+_TIME = re.compile(r"(-?\d{1,19})\.(\d{9})")
 _HEX = re.compile(rb"(?:[0-9a-f]{2})*")
 _TIME_MOST = 1 << 63
 _DEVICE_MOST = 1 << 64
@@ -41,10 +44,46 @@ def meta_text(meta: Meta) -> str:
     return f"1 {meta.kind} {meta.device} {' '.join(times)}"
 
 
+def _time_text(nanoseconds: int) -> str:
+    return f"{nanoseconds // SECOND}.{nanoseconds % SECOND:09d}"
+
+
 def changed_at(mtime: int) -> str:
     """The value for what has no kind of its own and one time, in nanoseconds."""
-    time = f"{mtime // SECOND}.{mtime % SECOND:09d}"
+    time = _time_text(mtime)
     return f"1 - 0 {time} {time} {time}"
+
+
+def links_texts(times: Dict[str, int], most: int, room: int) -> Tuple[List[str], int]:
+    """The values of a directory's attributes with the times of the symbolic links in it, by their
+    names, each of at most `most` bytes and `room` in all; and for how many links there is none."""
+    values: List[str] = []
+    here, size, before, left = "", 0, None, 0
+    for time, name in sorted((time, name) for name, time in times.items()):
+        head, count = _time_text(time), len(name.encode()) + 1
+        if here and size + count + (0 if time == before else len(head) + 2) > most:
+            values.append(here)
+            here, size, before = "", 0, None
+        if len(values) >= room:
+            left += 1
+            continue
+        if time != before:
+            here += ("//" if here else "") + head
+        here, before = f"{here}/{name}", time
+        size = len(here.encode())
+    return values + [here] * bool(here), left
+
+
+def read_links(pairs: Iterable[Tuple[str, str]]) -> Dict[str, int]:
+    """The times of symbolic links that the attributes of their directory say."""
+    found: Dict[str, int] = {}
+    for key, value in pairs:
+        for part in value.split("//") if key.startswith(LINKS) else ():
+            time, *names = part.split("/")
+            told = _TIME.fullmatch(time)
+            if told is not None and time.isascii() and is_time(int(told[1]) * SECOND):
+                found.update(dict.fromkeys(names, int(told[1]) * SECOND + int(told[2])))
+    return found
 
 
 def read_meta(text: str) -> Optional[Meta]:

@@ -42,9 +42,10 @@ class Directory(Inode):
 
     `implied` says that its source didn't describe it: what is in it did. `fresh` says that it
     stands beside a whiteout of its own name, and so has nothing in common with what is below.
+    `links` has times of symbolic links that it shows and that aren't among its children.
     """
 
-    __slots__ = ("children", "opaque", "redirect", "implied", "fresh")
+    __slots__ = ("children", "opaque", "redirect", "implied", "fresh", "links")
 
     def __init__(self, mode: int, uid: int, gid: int, attrs: Attributes = ()) -> None:
         super().__init__(mode, uid, gid, attrs)
@@ -53,6 +54,7 @@ class Directory(Inode):
         self.redirect: Optional[str] = None
         self.implied = False
         self.fresh = False
+        self.links: Dict[str, int] = {}
 
 
 class Part(NamedTuple):
@@ -133,7 +135,16 @@ class Symlink(Inode):
 
     def copied_up(self) -> "Symlink":
         """A symbolic link of another layer that leads to the same place."""
-        return Symlink(self.uid, self.gid, self.target)
+        copy = Symlink(self.uid, self.gid, self.target)
+        copy.mtime = self.mtime
+        return copy
+
+
+def link_times(directory: Directory) -> Dict[str, int]:
+    """The times of the symbolic links in a directory, by their names, where they are kept."""
+    own = {name: child.mtime for name, child in directory.children.items()
+           if isinstance(child, Symlink) and child.mtime is not None}
+    return {**directory.links, **own}
 
 
 def at(root: Directory, names: Names) -> Optional[Object]:

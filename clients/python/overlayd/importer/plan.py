@@ -12,7 +12,7 @@ from .directories import DirectoryLayer
 from .images import Choice, archive_in, layers_of
 from .keeping import Keep
 from .merging import Merge, TreeLayer, flatten
-from .objects import Directory
+from .objects import Directory, link_times
 from .references import References
 from .tars import TarLayer
 from .telling import Refused, Report, shown
@@ -131,6 +131,7 @@ def _empty_over(below: List[Writable]) -> Directory:
     root = below[0].root()
     empty = Directory(root.mode, root.uid, root.gid, root.attrs)
     empty.mtime = root.mtime
+    empty.links = link_times(root)
     return empty
 
 

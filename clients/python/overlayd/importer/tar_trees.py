@@ -77,6 +77,8 @@ class _Reading:
         self._resolve(merge)
         self._read_through(merge)
         self._give_attributes(merge)
+        if self._keep.times:
+            merge.give_links(self._root)
         return self._root
 
     def _take(self, member: Member) -> None:
@@ -255,7 +257,9 @@ class _Reading:
         for name, _ in self._marks(member).attrs:
             self._leave_out(member, ATTRIBUTE, f"attribute {shown(name)} of a symbolic link")
         uid, gid = self._owner(member)
-        return Symlink(uid, gid, member.linkname)
+        link = Symlink(uid, gid, member.linkname)
+        link.mtime = member.mtime if self._keep.times else None
+        return link
 
     def _link(self, member: Member, names: Names) -> Optional[Object]:
         target = self._names(member, member.linkname, "a hard link, and of what it leads to ")

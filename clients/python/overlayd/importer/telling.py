@@ -90,11 +90,12 @@ class Report:
         self._drawn = len(text[:100])
 
     def sum_up(self, layers: int, objects: int, size: int, lost: str = "times") -> None:
-        """The last line: what was written and what was left out; `lost`, what is never told."""
+        """The last line: what was written and what was left out; `lost`, what isn't told before."""
         self._tell_rest()
         count = sum(self.left_out.values())
         parts = ", ".join(f"{n} {group}" for group, n in sorted(self.left_out.items()))
-        left = f"{count} left out ({parts})" if count else f"nothing left out but {lost}"
+        nothing = f"nothing left out{lost and ' but '}{lost}"
+        left = f"{count} left out ({parts})" if count else nothing
         self._say(f"{layers} layers, {objects:,} objects, {size:,} bytes; {left}")
 
     def end(self, line: str) -> int:

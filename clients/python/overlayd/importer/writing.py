@@ -6,10 +6,10 @@ from binascii import hexlify
 from functools import lru_cache
 from typing import BinaryIO, Dict, Iterator, List, Optional, Sequence, Tuple
 
-from .limits import ATTRIBUTES_MOST, MODE_BITS, text_of
-from .meta import META, SECOND, Meta, changed_at, meta_text
-from .objects import (ZEROS, Content, Data, Directory, File, Inode, Long, Object,
-                      Part, Symlink, Whiteout, walk)
+from .limits import ATTRIBUTES_MOST, MODE_BITS, VALUE_BYTES, text_of
+from .meta import LINKS, LINKS_MOST, META, SECOND, Meta, changed_at, links_texts, meta_text
+from .objects import (ZEROS, Attributes, Content, Data, Directory, File, Inode, Long, Object,
+                      Part, Symlink, Whiteout, link_times, walk)
 from .stores import Store
 from .telling import ATTRIBUTE, Refused, Report, shown
 
@@ -191,8 +191,8 @@ class ManifestWriter:
 
     def root(self, node: Directory) -> None:
         """Says what the root of the layer is like, where it isn't as a root is by default."""
-        plain = (node.mode, node.uid, node.gid, node.attrs, node.mtime)
-        if plain != (0o755, 0, 0, (), None):
+        plain = (node.mode, node.uid, node.gid, node.attrs, node.mtime, link_times(node))
+        if plain != (0o755, 0, 0, (), None, {}):
             self._entry("/", "dir", _inode_lines(node, _DIRECTORY_MODE))
 
     def directory(self, path: str, node: Directory) -> None:
@@ -275,15 +275,27 @@ def _inode_lines(node: Inode, mode: int) -> List[str]:
     """The lines of an entry for what isn't as it is by default, `mode`."""
     lines = [f"mode = 0o{node.mode:o}"] if node.mode != mode else []
     lines += _owner_lines(node)
-    if node.attrs or node.mtime is not None or isinstance(node, File) and node.special:
-        lines.append(f"attrs = [{', '.join(_pairs(node))}]")
+    pairs = _pairs(node)
+    if pairs:
+        lines.append(f"attrs = [{', '.join(pairs)}]")
     return lines
+
+
+def link_attributes(node: Inode) -> Tuple[Attributes, int]:
+    """The attributes with the times of the symbolic links in a directory; and of how many there is
+    no room for them beside those of the directory."""
+    times = link_times(node) if isinstance(node, Directory) else {}
+    if not times or any(name.startswith(LINKS) for name, _ in node.attrs):
+        return (), 0
+    room = min(LINKS_MOST, ATTRIBUTES_MOST - 1 - len(node.attrs))
+    values, left = links_texts(times, VALUE_BYTES, room)
+    return tuple((f"{LINKS}{number}", value) for number, value in enumerate(values)), left
 
 
 def _pairs(node: Inode) -> List[str]:
     """The user attributes of an object, with the one that has its kind and times, if it fits."""
     special = node.special if isinstance(node, File) else None
-    attrs = node.attrs
+    attrs = node.attrs + link_attributes(node)[0]
     if special is not None:
         attrs = tuple(pair for pair in attrs if pair[0] != META)
     found = [f"[{quoted(name)}, {quoted(value)}]" for name, value in attrs]
@@ -329,6 +341,10 @@ class LayerWriter:
         if isinstance(node, Inode) and len(node.attrs) >= ATTRIBUTES_MOST:
             self._untimed(path, node)
         if isinstance(node, Directory):
+            left = link_attributes(node)[1]
+            if left:
+                self._report.leave_out(self._what, path, ATTRIBUTE,
+                                       f"the times of {left} symbolic links in it")
             if path == "/":
                 self._writer.root(node)
             else:
