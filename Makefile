@@ -6,6 +6,8 @@ EXAMPLE := examples/change-layer
 SOCKET := out/overlay.socket
 PREFIX := /usr/local
 PROGRAM := $(or $(OVERLAYD),out/overlayd)
+BRIDGE_UNITS := overlayd-fuse@.service overlayd-mount@.service
+UNITS := overlayd.service $(if $(wildcard out/overlayd-fuse),$(BRIDGE_UNITS))
 
 help:
 	@echo "make show          print the merged tree of $(EXAMPLE).toml, by an unproved build that is"
@@ -80,16 +82,16 @@ install:
 	    examples/change-layer.*; do \
 	  install -D -m 644 $$file "$(DESTDIR)$(PREFIX)/share/doc/overlayd/$${file##*/}" || exit 1; \
 	done
-	for unit in examples/*.service; do \
-	  install -D -m 644 $$unit "$(DESTDIR)$(PREFIX)/lib/systemd/system/$${unit##*/}" && \
+	for unit in $(UNITS); do \
+	  install -D -m 644 examples/$$unit "$(DESTDIR)$(PREFIX)/lib/systemd/system/$$unit" && \
 	  sed -i 's|/usr/local/bin|$(PREFIX)/bin|g' \
-	    "$(DESTDIR)$(PREFIX)/lib/systemd/system/$${unit##*/}" || exit 1; \
+	    "$(DESTDIR)$(PREFIX)/lib/systemd/system/$$unit" || exit 1; \
 	done
 	install -D -m 644 examples/overlayd.sysusers "$(DESTDIR)$(PREFIX)/lib/sysusers.d/overlayd.conf"
 	for file in $$(cd clients/python && find overlayd -name '*.py' -o -name py.typed); do \
 	  install -D -m 644 clients/python/$$file "$(DESTDIR)$(PREFIX)/lib/overlayd/$$file" || exit 1; \
 	done
-	for tool in importer exporter supervisor; do \
+	for tool in importer exporter supervisor status; do \
 	  to="$(DESTDIR)$(PREFIX)/bin/overlayd-$$(echo $$tool | sed 's/er$$//; s/supervisor/serve/')"; \
 	  printf '#!/bin/sh\nPYTHONPATH="%s$${PYTHONPATH:+:$$PYTHONPATH}" exec python3 -m %s "$$@"\n' \
 	    "$(PREFIX)/lib/overlayd" "overlayd.$$tool" > "$$to" && chmod 755 "$$to" || exit 1; \
@@ -104,7 +106,6 @@ install:
 	    done;; \
 	  esac; \
 	fi
-
 	if test -f out/liboverlayd.a; then \
 	  install -D -m 644 clients/c/include/overlayd.h "$(DESTDIR)$(PREFIX)/include/overlayd.h" && \
 	  install -D -m 644 out/liboverlayd.a "$(DESTDIR)$(PREFIX)/lib/liboverlayd.a" && \

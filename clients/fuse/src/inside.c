@@ -142,12 +142,14 @@ static bool mount(struct bridge *bridge, const struct manifest *manifest)
     if (status == OVL_OK)
         return true;
     length = length < sizeof fault ? length : sizeof fault;
-    if (status == OVL_FAULT || status == OVL_UPPER_FAULT)
-        tell(bridge, "%s: %.*s",
-             status == OVL_FAULT ? bridge->options.source : bridge->options.upper, (int)length,
-             (const char *)fault);
+    const char *source = bridge->options.source;
+    if (status == OVL_FAULT)
+        tell(bridge, "%s: %.*s; overlayd-import --check tells all that is wrong with it", source,
+             (int)length, (const char *)fault);
+    else if (status == OVL_UPPER_FAULT)
+        tell(bridge, "%s: %.*s", bridge->options.upper, (int)length, (const char *)fault);
     else
-        tell(bridge, "%s: out of memory", bridge->options.source);
+        tell(bridge, "%s: out of memory", source);
     return false;
 }
 

@@ -180,7 +180,7 @@ class Saving(EngineCase):
     def test_faults_are_told_in_a_line(self):
         (self.folder / "bad.toml").write_text("layer = 5")
         for words, told in ((("none",), "none: No such file or directory"),
-                            (("bad.toml",), "bad.toml: manifest: key"),
+                            (("bad.toml",), "bad.toml: manifest: key; overlayd-import --check "),
                             (("m.toml", "--upper", "bad.toml"), "bad.toml: "),
                             (("m.toml", "--upper", "none"), "none: No such file or directory"),
                             (("m.toml", "--manifest-limit", "9"), "m.toml: File too large")):

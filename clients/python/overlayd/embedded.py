@@ -9,18 +9,15 @@
 
 from __future__ import annotations
 
-import contextlib
 import ctypes
-import errno
 import os
-import stat
 import struct
-import tempfile
 import threading
-from typing import Any, BinaryIO, Iterator, Optional, Sequence, Tuple, Union
+from typing import Any, Optional, Sequence, Tuple, Union
 
 from .client import Client
 from .errors import refusal
+from .new_file import NewFile
 
 __all__ = ["Mount", "mount"]
 
@@ -134,9 +131,11 @@ class Mount:
         """
         with self._saving:
             length, left_out = self._save()
-            with _replacing(os.path.abspath(os.fspath(path))) as stream:
+            with NewFile(path) as new:
                 for at in range(0, length, _PIECE):
-                    stream.write(self._saved(at))
+                    new.stream.write(self._saved(at))
+                new.sync()
+                new.keep()
         return left_out
 
     def _save(self) -> Tuple[int, int]:
@@ -177,36 +176,6 @@ class Mount:
         with self._lock:
             status = self._library.ovl_detach(self._handle, client, place)
         return struct.pack(">IBQ", 9, 0, place.value) if status == _OK else None
-
-
-@contextlib.contextmanager
-def _replacing(path: str) -> Iterator[BinaryIO]:
-    """A new file in the place of another one, which it takes when all is written."""
-    folder, name = os.path.split(path)
-    _check_place(path)
-    descriptor, part = tempfile.mkstemp(prefix=f".{name}.", suffix=".part", dir=folder)
-    try:
-        with os.fdopen(descriptor, "wb") as stream:
-            yield stream
-            stream.flush()
-            os.fsync(stream.fileno())
-        _check_place(path)
-        os.replace(part, path)
-    except BaseException:
-        os.unlink(part)
-        raise
-    held = os.open(folder, os.O_RDONLY | os.O_DIRECTORY)
-    try:
-        os.fsync(held)
-    finally:
-        os.close(held)
-
-
-def _check_place(path: str) -> None:
-    """Nothing but a regular file is replaced."""
-    with contextlib.suppress(FileNotFoundError):
-        if not stat.S_ISREG(os.lstat(path).st_mode):
-            raise FileExistsError(errno.EEXIST, "is there and no regular file", path)
 
 
 class _Link:

@@ -4,7 +4,6 @@ from __future__ import annotations
 
 import collections
 import errno
-import os
 import stat
 import threading
 import time

@@ -1,7 +1,9 @@
 """The program itself, for tests that need it: where it is, and a server of it."""
 
+import errno
 import os
 import pathlib
+import stat
 import subprocess
 import tempfile
 import time
@@ -42,6 +44,23 @@ def played(manifest, script):
                               stdout=subprocess.PIPE, stderr=subprocess.PIPE, text=True,
                               timeout=WAIT)
     return done.stdout.splitlines(), done.returncode
+
+
+def check_first_client(case, client):
+    """What the first client of two empty layers is answered, and the places of its calls."""
+    found = client.stat("/")
+    case.assertEqual((found.st_mode, found.st_nlink), (stat.S_IFDIR | 0o755, 1))
+    case.assertEqual(client.last_place, 1)
+    client.mkdir("/a", 0o755)
+    case.assertEqual(client.last_place, 2)
+    with case.assertRaises(FileNotFoundError) as refused:
+        client.stat("/x")
+    case.assertEqual(refused.exception.place, 3)
+    with case.assertRaises(OSError) as refused:
+        client.stat("x")
+    case.assertEqual((refused.exception.errno, refused.exception.place), (errno.EINVAL, None))
+    client.detach()
+    case.assertEqual(client.last_place, 4)
 
 
 class Server:

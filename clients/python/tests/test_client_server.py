@@ -37,20 +37,7 @@ class OneSession(unittest.TestCase):
     def test_places_refusals_and_the_programs_end(self):
         with Server(EMPTY, workers=1, sessions=1) as server:
             with server.client() as c:
-                found = c.stat("/")
-                self.assertEqual((found.st_mode, found.st_nlink), (stat.S_IFDIR | 0o755, 1))
-                self.assertEqual(c.last_place, 1)
-                c.mkdir("/a", 0o755)
-                self.assertEqual(c.last_place, 2)
-                with self.assertRaises(FileNotFoundError) as refused:
-                    c.stat("/x")
-                self.assertEqual(refused.exception.place, 3)
-                with self.assertRaises(OSError) as refused:
-                    c.stat("x")
-                self.assertEqual((refused.exception.errno, refused.exception.place),
-                                 (errno.EINVAL, None))
-                c.detach()
-                self.assertEqual(c.last_place, 4)
+                real_server.check_first_client(self, c)
             self.assertEqual(server.status(), 0)
 
     def test_a_full_history(self):

@@ -38,18 +38,7 @@ class Sessions(unittest.TestCase):
     def test_places_and_refusals(self):
         with mounted(TWO_EMPTY) as mount:
             client = mount.attach()
-            client.stat("/")
-            self.assertEqual(client.last_place, 1)
-            client.mkdir("/a", 0o755)
-            with self.assertRaises(FileNotFoundError) as refused:
-                client.stat("/x")
-            self.assertEqual(refused.exception.place, 3)
-            with self.assertRaises(OSError) as refused:
-                client.stat("x")
-            self.assertEqual((refused.exception.errno, refused.exception.place),
-                             (errno.EINVAL, None))
-            client.detach()
-            self.assertEqual(client.last_place, 4)
+            real_server.check_first_client(self, client)
             with self.assertRaises(ConnectionError):
                 client.stat("/")
 

@@ -32,7 +32,7 @@ class Wheels(unittest.TestCase):
         self.assertEqual(done.returncode, 0, done.stdout)
         environment = {**os.environ, "PYTHONPATH": str(self.folder / "there")}
         self.assertEqual(sorted(os.listdir(self.folder / "there/bin")),
-                         ["overlayd-export", "overlayd-import", "overlayd-serve"])
+                         ["overlayd-export", "overlayd-import", "overlayd-serve", "overlayd-status"])
         told = subprocess.run([self.folder / "there/bin/overlayd-serve", "--version"],
                               stdout=subprocess.PIPE, text=True, check=True, env=environment)
         self.assertRegex(told.stdout, r"^overlayd-serve [\d.]+\n$")

@@ -90,11 +90,10 @@ class Case(unittest.TestCase):
         return self.told.recv(1_000).decode().splitlines()[0]
 
     def hear_no_more(self):
-        """Passes over what systemd was told."""
+        """Systemd was told nothing more."""
         self.told.setblocking(False)
-        with contextlib.suppress(BlockingIOError):
-            while True:
-                self.told.recv(1_000)
+        with self.assertRaises(BlockingIOError):
+            self.told.recv(1_000)
         self.told.settimeout(WAIT)
 
     def wait_for(self, condition):
@@ -157,6 +156,16 @@ class Commands(Case):
         usual.remove("--no-history")
         for options in (["--history", "5"], ["--history=5"]):
             self.assertEqual(self.command(options=options), [*usual, *options])
+
+    def test_words_that_are_there_already(self):
+        given = ["--unlink", "--no-history", "--status", "serve", "--idle", "5"]
+        self.assertEqual(self.command(options=given)[5:], given[2:])
+
+    def test_one_file_for_the_upper_and_the_status(self):
+        (self.folder / "other").symlink_to(self.saved)
+        for options in (["--status", str(self.saved)], [f"--status={self.folder}/other"]):
+            with self.assertRaisesRegex(Refused, "saved: --save and --status name one file"):
+                self.command(options=options)
 
     def test_faults_are_explained_where_the_program_can(self):
         self.assertEqual(self.command(told="--explain")[3], "--explain")

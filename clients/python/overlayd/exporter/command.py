@@ -6,8 +6,8 @@ import os
 import sys
 from typing import List, Optional
 
-from .. import __version__
 from ..client import Client
+from ..command_line import parser_of
 from ..importer.output import Output, unwound_by_sigterm
 from ..importer.telling import shown
 from .comparing import Change, changes
@@ -65,10 +65,7 @@ exit status: 0 done; 1 refused or failed, with one line on standard error; 2 wro
 
 def parser() -> argparse.ArgumentParser:
     """The command line."""
-    words = argparse.ArgumentParser(
-        prog=PROGRAM, description=_ABOUT, epilog=_MORE,
-        formatter_class=argparse.RawDescriptionHelpFormatter)
-    words.add_argument("--version", action="version", version=f"{PROGRAM} {__version__}")
+    words = parser_of(PROGRAM, _ABOUT, _MORE)
     words.add_argument("manifest", metavar="MANIFEST", nargs="?",
                        help="the manifest that is served, or was")
     words.add_argument("socket", metavar="SOCKET", nargs="?", help="the socket of the server")

@@ -7,6 +7,7 @@ import stat
 import tempfile
 from typing import Iterable, Iterator, List, Optional, Set, Tuple, Union
 
+from ..importer.descriptors import DIRECTORY_FLAGS, opened_below
 from ..importer.telling import shown
 from .comparing import Change
 from .trees import (BLOCK, CHARACTER, DIRECTORY, FIFO, FILE, SOCKET, SYMLINK, Entry, Tree,
@@ -14,7 +15,6 @@ from .trees import (BLOCK, CHARACTER, DIRECTORY, FIFO, FILE, SOCKET, SYMLINK, En
 from .unsayable import Unsayable, check_attributes, check_device, check_owner
 
 _UPPER = b"upper"
-_DIRECTORY = os.O_RDONLY | os.O_DIRECTORY | os.O_NOFOLLOW | os.O_CLOEXEC
 _NEW = os.O_WRONLY | os.O_CREAT | os.O_EXCL | os.O_NOFOLLOW | os.O_CLOEXEC
 _SPECIAL = {FIFO: stat.S_IFIFO, SOCKET: stat.S_IFSOCK, CHARACTER: stat.S_IFCHR,
             BLOCK: stat.S_IFBLK}
@@ -43,7 +43,7 @@ def write_upper(found: Iterable[Change], mounted: Tree, path: str, user: bool = 
 @contextlib.contextmanager
 def _opened(path: Union[str, bytes], above: Optional[int] = None) -> Iterator[int]:
     """A descriptor of a directory that was made here, and is no link."""
-    descriptor = os.open(path, _DIRECTORY, dir_fd=above)
+    descriptor = os.open(path, DIRECTORY_FLAGS, dir_fd=above)
     try:
         yield descriptor
     finally:
@@ -98,13 +98,7 @@ class _Writing:
             raise Unsayable(f"{shown(raw[len(_UPPER):])}: what is above it is no directory")
         if self._way[0] == above:
             return self._way[1]
-        found = os.dup(self._folder)
-        for name in above.split(b"/") if above else ():
-            before = found
-            try:
-                found = os.open(name, _DIRECTORY, dir_fd=before)
-            finally:
-                os.close(before)
+        found = opened_below(self._folder, above)
         os.close(self._way[1])
         self._way = above, found
         return found

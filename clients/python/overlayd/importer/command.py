@@ -5,7 +5,7 @@ import os
 import sys
 from typing import List, Optional
 
-from .. import __version__
+from ..command_line import parser_of
 from . import limits
 from .checking import check
 from .joining import join
@@ -103,10 +103,7 @@ exit status: 0 done; 1 refused or failed, with one line on standard error; 2 wro
 
 def parser() -> argparse.ArgumentParser:
     """The command line."""
-    words = argparse.ArgumentParser(
-        prog=PROGRAM, description=_ABOUT, epilog=_MORE,
-        formatter_class=argparse.RawDescriptionHelpFormatter)
-    words.add_argument("--version", action="version", version=f"{PROGRAM} {__version__}")
+    words = parser_of(PROGRAM, _ABOUT, _MORE)
     words.add_argument("sources", nargs="*", metavar="SOURCE", help="a layer or an image")
     words.add_argument("--check", metavar="FILE",
                        help="tell the faults of a manifest; - is standard input")

@@ -10,7 +10,7 @@ from .objects import PIECE, ZEROS, zeros
 from .telling import Refused, shown
 
 Identity = Tuple[int, int]
-_DIRECTORY = os.O_RDONLY | os.O_DIRECTORY | os.O_NOFOLLOW | os.O_CLOEXEC
+DIRECTORY_FLAGS = os.O_RDONLY | os.O_DIRECTORY | os.O_NOFOLLOW | os.O_CLOEXEC
 FILE_FLAGS = os.O_RDONLY | os.O_NOFOLLOW | os.O_NONBLOCK | os.O_CLOEXEC
 # How many directories of a way are open at once.
 _OPEN_MOST = 64
@@ -38,6 +38,18 @@ def changed(name: str) -> Refused:
 def identity_of(status: os.stat_result) -> Identity:
     """What tells an object from all others."""
     return status.st_dev, status.st_ino
+
+
+def opened_below(top: int, raw: bytes) -> int:
+    """A descriptor of the directory at a path below another one, of which no name may be a link."""
+    found = os.dup(top)
+    for name in raw.split(b"/") if raw else ():
+        above = found
+        try:
+            found = os.open(name, DIRECTORY_FLAGS, dir_fd=above)
+        finally:
+            os.close(above)
+    return found
 
 
 class Root:
@@ -88,13 +100,7 @@ class Root:
                 return self._way[1]
             os.close(self._way[1])
             self._way = None
-        found = os.dup(self.descriptor)
-        for name in raw.split(b"/") if raw else ():
-            above = found
-            try:
-                found = os.open(name, _DIRECTORY, dir_fd=above)
-            finally:
-                os.close(above)
+        found = opened_below(self.descriptor, raw)
         self._way = raw, found
         return found
 
@@ -135,7 +141,7 @@ class Ways:
         below, _ = self._open.pop()
         try:
             if self._open and self._open[-1][0] < 0:
-                above = os.open("..", _DIRECTORY, dir_fd=below)
+                above = os.open("..", DIRECTORY_FLAGS, dir_fd=below)
                 identity = self._open[-1][1]
                 self._open[-1] = above, identity
                 if identity_of(os.fstat(above)) != identity:
@@ -153,7 +159,7 @@ class Ways:
 
 def open_at(name: str, directory: int, is_directory: bool) -> int:
     """Opens a file or directory that a listing has, and no link."""
-    return os.open(name, _DIRECTORY if is_directory else FILE_FLAGS, dir_fd=directory)
+    return os.open(name, DIRECTORY_FLAGS if is_directory else FILE_FLAGS, dir_fd=directory)
 
 
 def is_change(error: OSError) -> bool:

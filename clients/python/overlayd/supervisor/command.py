@@ -13,7 +13,7 @@ import sys
 import threading
 from typing import Any, Dict, List, Optional
 
-from .. import __version__
+from ..command_line import parser_of
 from ..importer import telling
 from ..importer.joining import join
 from ..importer.telling import shown
@@ -46,10 +46,7 @@ started, with one line on standard error; 2 wrong usage.
 
 def parser() -> argparse.ArgumentParser:
     """The command line."""
-    words = argparse.ArgumentParser(
-        prog=PROGRAM, description=_ABOUT, epilog=_MORE,
-        formatter_class=argparse.RawDescriptionHelpFormatter)
-    words.add_argument("--version", action="version", version=f"{PROGRAM} {__version__}")
+    words = parser_of(PROGRAM, _ABOUT, _MORE)
     words.add_argument("--program", metavar="PATH", default="overlayd",
                        help="the program (overlayd, as the shell finds it)")
     words.add_argument("--save", metavar="FILE", help="write the upper to FILE in the end")
@@ -91,8 +88,19 @@ def command_of(words: argparse.Namespace) -> List[str]:
     if "--explain" in told:
         command.append("--explain")
     if words.save is not None:
+        _refuse_one_file_for_both(words.save, words.options)
         command += ["--save", words.save]
-    return command + [option for option in words.options if option not in command]
+    return command + [option for option in words.options
+                      if option not in command or not option.startswith("-")]
+
+
+def _refuse_one_file_for_both(saved: str, options: List[str]) -> None:
+    """A status that is written to the file of the upper would take its place."""
+    for option, following in zip(options, [*options[1:], ""]):
+        name, _, value = option.partition("=")
+        status = value or following
+        if name == "--status" and status and os.path.realpath(status) == os.path.realpath(saved):
+            raise Refused(f"{shown(saved)}: --save and --status name one file")
 
 
 def _going_on(saved: str, manifest: str) -> str:
@@ -180,8 +188,9 @@ def supervise(server: Server, words: argparse.Namespace) -> int:
                     saver = Saver(words.manifest, words.socket, words.save, words.every, say)
                     saver.start()
             continue
-        is_ending = True
-        notify("STOPPING=1\nSTATUS=ending")
+        if not is_ending:
+            is_ending = True
+            notify("STOPPING=1\nSTATUS=ending")
         if saver is not None:
             saver.stop()
         if event == 0:

@@ -2,9 +2,6 @@
 
 import contextlib
 import errno
-import os
-import stat
-import tempfile
 import threading
 from typing import Any, BinaryIO, Callable, List, Optional, Set, Tuple, TypeVar
 
@@ -14,6 +11,7 @@ from ..exporter import Change, Entry, LowerTree, MountTree, Tree, Unsayable, cha
 from ..importer import objects
 from ..importer.telling import shown
 from ..importer.writing import ManifestWriter
+from ..new_file import NewFile
 
 T = TypeVar("T")
 
@@ -76,24 +74,13 @@ class Saver(threading.Thread):
     def _replace(self, lower: Tree, client: Client) -> None:
         """Writes a file beside the target, which takes its name when it is on the disk."""
         found = _found(lower, MountTree(client))
-        folder, name = os.path.split(os.path.abspath(self._target))
-        descriptor, part = tempfile.mkstemp(prefix=f".{name}.", suffix=".part", dir=folder)
-        try:
-            with os.fdopen(descriptor, "wb", buffering=1 << 20) as stream:
-                left_out = write_upper_manifest(found, Mounted(client), stream)
-                stream.flush()
-                os.fsync(stream.fileno())
+        with NewFile(self._target) as new:
+            left_out = write_upper_manifest(found, Mounted(client), new.stream)
+            new.sync()
             with self._lock:
                 if self._ending.is_set():
                     return
-                if os.path.lexists(self._target):
-                    if not stat.S_ISREG(os.lstat(self._target).st_mode):
-                        raise Unsayable(f"{shown(self._target)}: is no regular file any more")
-                os.replace(part, self._target)
-        finally:
-            with contextlib.suppress(FileNotFoundError):
-                os.unlink(part)
-        _sync(folder)
+                new.keep()
         if left_out:
             self._say(f"saved without {len(left_out)} objects that no manifest can say, the first "
                       f"of them {shown(left_out[0])}")
@@ -105,14 +92,6 @@ def _found(lower: Tree, mounted: Tree) -> List[Change]:
     if found and found[0].path == "/":
         return found
     return [Change("/", next(iter(mounted.entries()))), *found]
-
-
-def _sync(folder: str) -> None:
-    descriptor = os.open(folder, os.O_RDONLY | os.O_DIRECTORY)
-    try:
-        os.fsync(descriptor)
-    finally:
-        os.close(descriptor)
 
 
 class Mounted:

@@ -1,0 +1,1 @@
+"""`overlayd-status`: tells how a server does."""
