@@ -1,7 +1,7 @@
 #!/usr/bin/env python3
 """bench/mounts.py OVERLAYD [BRIDGE]: programs on a mount of the bridge and of overlayfs, in turn.
 
-As root, with /dev/fuse, git, make and cc. OVERLAYD is the program, BRIDGE the bridge
+As root, with /dev/fuse, git, make, cc and dpkg. OVERLAYD is the program, BRIDGE the bridge
 (out/overlayd-fuse). Each load runs on the bridge, on a server and, where it is built so, with the
 engine inside, without and with --poll, on the kernel's overlayfs and, where it is installed, on
 fuse-overlayfs, over the same lower layer, each time on a new mount, in turn, ROUNDS times
@@ -32,6 +32,7 @@ FOLDERS, FILES, UNITS = 50, 20, 40
 LOADS = {
     "clone": ("true", "git clone -q --no-hardlinks repository clone; sync -f ."),
     "make": ("true", "make -s -C project; sync -f ."),
+    "make -j4": ("true", "make -s -j4 -C project; sync -f ."),
     "find": ("true", "find tree -type f -size +0 -perm -u=r > /dev/null"),
     "find again": ("find tree -type f -size +0 > /dev/null",
                    "find tree -type f -size +0 -perm -u=r > /dev/null"),
@@ -39,6 +40,8 @@ LOADS = {
     "tar x": ("tar cf tree.tar tree; sync -f .", "mkdir out; tar xf tree.tar -C out; sync -f ."),
     "cp -a": ("true", "cp -a tree copy; sync -f ."),
     "grep -r": ("true", "grep -r nothing.of.this tree || true"),
+    "dpkg -i": ("dpkg-deb -b --root-owner-group package p.deb > /dev/null; sync -f .",
+                "dpkg --root=\"$PWD/root\" -i p.deb > /dev/null; sync -f ."),
     "git status": ("true", "git -C repository status > /dev/null"),
     "write 64 MiB": ("true", "dd if=/dev/zero of=large bs=1M count=64 status=none; sync -f ."),
     "read 64 MiB": ("dd if=/dev/zero of=large bs=1M count=64 status=none; sync -f ."
@@ -46,8 +49,22 @@ LOADS = {
 }
 
 
+def fill_package(lower):
+    """What a package is made of, and a root in which nothing is installed."""
+    package = os.path.join(lower, "package")
+    shutil.copytree(os.path.join(lower, "tree"), os.path.join(package, "usr", "share", "tree"))
+    os.mkdir(os.path.join(package, "DEBIAN"))
+    with open(os.path.join(package, "DEBIAN", "control"), "w", encoding="ascii") as file:
+        file.write("Package: tree\nVersion: 1\nArchitecture: all\nMaintainer: a <a@example>\n"
+                   "Description: a tree of files\n")
+    for name in ("info", "updates", "triggers"):
+        os.makedirs(os.path.join(lower, "root", "var", "lib", "dpkg", name))
+    with open(os.path.join(lower, "root", "var", "lib", "dpkg", "status"), "w", encoding="ascii"):
+        pass
+
+
 def fill(lower):
-    """A tree of files, a repository of the same, and a project in C."""
+    """A tree of files, a repository and a package of the same, and a project in C."""
     for folder in range(FOLDERS):
         path = os.path.join(lower, "tree", f"d{folder % 7}", f"f{folder}")
         os.makedirs(path)
@@ -57,6 +74,7 @@ def fill(lower):
     shutil.copytree(os.path.join(lower, "tree"), os.path.join(lower, "repository"))
     for words in (["init", "-q", "-b", "main"], ["add", "."], ["commit", "-qm", "one"]):
         subprocess.run(["git", *words], cwd=os.path.join(lower, "repository"), check=True, env=GIT)
+    fill_package(lower)
     project = os.path.join(lower, "project")
     os.mkdir(project)
     for unit in range(UNITS):

@@ -61,8 +61,8 @@ uint32_t ovl_version(void);
  * its key `blobs`, and have these lengths, one for each name there; with none, the pointers may be
  * to anything. Directories hash their names by `keys`, 16 bytes that nobody should be able to guess
  * (getrandom(2)). The mount keeps no history, so that it answers calls without end. OVL_OK;
- * OVL_FAULT, with a text of why in `fault`, as the program tells it; OVL_NO_MEMORY; OVL_MOUNTED,
- * where the mount stays. *length is that of the text, or 0. */
+ * OVL_FAULT, with a text of why in `fault`, as the program tells it; OVL_NO_MEMORY, by which there
+ * may be a text too; OVL_MOUNTED, where the mount stays. *length is that of the text, or 0. */
 int32_t ovl_mount_manifest(ovl_mount *mount, const uint8_t *manifest, size_t manifest_length,
                            const uint8_t *blobs, size_t blobs_length,
                            const size_t *lengths, size_t count, const uint8_t keys[16],
@@ -80,7 +80,8 @@ int32_t ovl_mount_upper(ovl_mount *mount, const uint8_t *upper, size_t upper_len
 /* The names of a manifest's blobs, in the order of its key `blobs`: one behind the other, each with
  * a zero byte behind it. *length is that of them all, never more than manifest_length, and *count is
  * how many they are. No file has a name with a zero byte of its own, though a manifest may. OVL_OK;
- * OVL_FAULT, with a text of why in `names`, *length its length and *count 0; OVL_NO_MEMORY. */
+ * OVL_FAULT, with a text of why in `names`, *length its length and *count 0; OVL_NO_MEMORY, by which
+ * there may be such a text, and *count is 0. */
 int32_t ovl_blob_names(const uint8_t *manifest, size_t manifest_length, uint8_t *names, size_t room,
                        size_t *length, size_t *count);
 
@@ -105,7 +106,8 @@ int32_t ovl_call(ovl_mount *mount, uint64_t client, const uint8_t *request, size
                  uint8_t *reply, size_t room, size_t *length);
 
 /* The frame of the mount's last reply once more, of whichever client's call, as where it didn't
- * fit; none was made before the first call. OVL_OK, OVL_NOT_MOUNTED. */
+ * fit. *length is 0 where there is none: before the first call, and after OVL_UNWRITTEN. OVL_OK,
+ * OVL_NOT_MOUNTED. */
 int32_t ovl_reply(ovl_mount *mount, uint8_t *reply, size_t room, size_t *length);
 
 /* The same call in steps, so that a file that has to be copied up first holds nobody up: other

@@ -314,6 +314,15 @@ static void note_written(struct bridge *bridge, struct node *node, uint64_t end,
         times_changed(bridge, node);
 }
 
+/* What the kernel held back and the engine could not take is lost, which is told in the end; of what
+   failed before it began, syncfs(2) tells nothing. */
+static void refuse_write(fuse_req_t request, struct bridge *bridge, bool was_held, int fault)
+{
+    if (was_held && (fault == EIO || fault == ENOMEM))
+        bridge->kernel.unsaved = true;
+    fuse_reply_err(request, fault);
+}
+
 /* Of what the kernel writes from its cache nobody sees how much was written, so all has to be. */
 static void do_write(fuse_req_t request, fuse_ino_t number, const char *bytes, size_t size,
                      off_t offset, struct fuse_file_info *info)
@@ -334,7 +343,7 @@ static void do_write(fuse_req_t request, fuse_ino_t number, const char *bytes, s
         ? write_at_once(bridge, opened, bytes, size, place, &fault)
         : write_pieces(bridge, opened, bytes, size, place, &fault);
     if (fault && total == 0) {
-        fuse_reply_err(request, fault);
+        refuse_write(request, bridge, info->writepage, fault);
         return;
     }
     if (total > 0) {
@@ -344,7 +353,7 @@ static void do_write(fuse_req_t request, fuse_ino_t number, const char *bytes, s
     }
     bool is_lost = total < size && (total == 0 || info->writepage);
     if (is_lost)
-        fuse_reply_err(request, fault ? fault : EFBIG);
+        refuse_write(request, bridge, info->writepage, fault ? fault : EFBIG);
     else
         fuse_reply_write(request, total);
 }

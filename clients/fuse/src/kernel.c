@@ -149,7 +149,7 @@ static void drain(struct kernel *kernel, bool unsaved)
 {
     kernel->syncer = 0;
     kernel->drains = true;
-    kernel->unsaved = unsaved;
+    kernel->unsaved |= unsaved;
     kernel->last = milliseconds() + DRAINS_MOST;
 }
 

@@ -16,7 +16,7 @@ static int serve(struct bridge *bridge)
     int status = fuse_session_loop(bridge->session) < 0 ? STATUS_FAILED : 0;
     if (bridge->kernel.unsaved) {
         tell(bridge, "%s: what was written last may be lost: the kernel could not write all that "
-             "it held", bridge->options.mountpoint);
+             "it held back", bridge->options.mountpoint);
         status = STATUS_FAILED;
     }
     return status;

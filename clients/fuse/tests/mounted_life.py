@@ -113,8 +113,11 @@ class Life(unittest.TestCase):
                              b"".join(bytes((at,)) * 50000 for at in range(20)))
 
     def test_what_could_not_be_written_is_told(self):
-        process = self.begun("--wait", "2")
-        os.write(self.opened("lost"), bytes(50000))
+        process = self.begun("--wait", "20")
+        file = self.opened("lost")
+        # A machine that is short of memory may have the kernel write it at once.
+        self.server.process.send_signal(signal.SIGSTOP)
+        os.write(file, bytes(50000))
         self.server.process.kill()
         self.server.process.wait()
         process.send_signal(signal.SIGTERM)

@@ -62,7 +62,7 @@ def fill(base):
 
 
 class Programs(MountedCase):
-    OPTIONS = ("--times",)
+    OPTIONS = ("--times", "--devices")
     fill = staticmethod(fill)
 
     def both(self, script, *needs):
