@@ -78,7 +78,8 @@ def without_a_history(program):
 
 
 def a_status_that_cannot_be_written(program):
-    """A link, a device, a fifo, a directory: refused before there is a socket, and left."""
+    """A link, a device, a fifo, a directory, the file of --save: refused before there is a socket,
+    and left."""
     with runs(program) as (folder, run):
         (folder / "aim").write_text("aim")
         (folder / "link").symlink_to("aim")
@@ -90,7 +91,11 @@ def a_status_that_cannot_be_written(program):
         told = run(*words, "link", "--explain")[2].splitlines()
         expect(told, ["overlayd: cannot write status",
                       "overlayd: link: is there and no regular file"], "the second line")
+        told = run(*words, "one", "--save", "one", "--explain")[2].splitlines()
+        expect(told, ["overlayd: cannot write status",
+                      "overlayd: --save and --status name one file"], "the file of --save")
         expect(((folder / "aim").read_text(), (folder / "s").exists()), ("aim", False), "is left")
+        expect((folder / "one").exists(), False, "nothing is made")
 
 
 def a_status_that_is_lost(program):

@@ -217,6 +217,10 @@ where
     if serving.until_eof && serving.source.manifest == STANDARD_INPUT {
         return Err(Failure::from(Fault::InputTwice));
     }
+    if serving.save.is_some() && serving.save == serving.status {
+        let why = "--save and --status name one file";
+        return Err(Failure::because(rt.alloc(), Fault::CannotWriteStatus, why));
+    }
     hold_standard(rt, serving)?;
     let hooks = hooks_by_slot(rt.alloc())?;
     serve_with(rt, keys, hooks.as_slice(), serving, starts)
