@@ -1,15 +1,16 @@
 // The bytes of an entry of kind `file`, which one of four keys may give.
-ghost use Rattle.std.specs.Prelude.{◌≡◌, ◌<◌, IfSome};
+ghost use Rattle.std.specs.Prelude.{◌≡◌, ◌<◌, IfOk, IfSome, replicate};
 ghost use Rattle.std.specs.Option.{ok_or};
 ghost use Rattle.toml.specs.View.{table_view};
 ghost use Rattle.ov_wire.specs.ManifestEntries.{Answers};
 ghost use Rattle.ov_wire.specs.ManifestEntries as spec;
 
+use super::blob::Blob;
 use super::entry::{integer_at, number_within, text_at, value_at};
 use super::fault::{EntryError, EntryFault};
 use super::stretch::stretch;
-use ov_base::Bytes;
-use std::alloc::Global;
+use ov_base::FileBytes;
+use std::alloc::{AllocError, Global};
 use toml::Table;
 
 // Whether at most one key gives the bytes.
@@ -44,28 +45,29 @@ fn has_key(entry: &Table, key: &str) -> bool
 pub(super) fn bytes_of(
     alloc: Global,
     limit: u64,
-    blobs: &[Bytes],
+    blobs: &[Blob],
     entry: &Table,
-) -> Result<Bytes, EntryError>
+) -> Result<FileBytes, EntryError>
     ensures { Answers result (spec.bytes_of limit blobs.now (table_view entry.now)) }
 {
-    let bytes = bytes_given(alloc, limit, blobs, entry)?;
-    if bytes.as_slice().len() as u64 > limit {
+    let given = bytes_given(alloc, limit, blobs, entry)?;
+    if given.len() as u64 > limit {
         return Err(EntryError::Fault(EntryFault::Value));
     }
-    Ok(bytes)
+    Ok(given)
 }
 
 fn bytes_given(
     alloc: Global,
     limit: u64,
-    blobs: &[Bytes],
+    blobs: &[Blob],
     entry: &Table,
-) -> Result<Bytes, EntryError>
+) -> Result<FileBytes, EntryError>
     ensures { Answers result (spec.bytes_given limit blobs.now (table_view entry.now)) }
 {
     if let Some(text) = text_at(entry, "text") {
-        return Ok(Bytes::from_slice(alloc, text.as_bytes())?);
+        let bytes = Vec::from_slice(alloc, text.as_bytes())?;
+        return Ok(FileBytes::from_vec(alloc, bytes)?);
     }
     if let Some(digits) = text_at(entry, "hex") {
         return bytes_spelled(alloc, digits.as_bytes());
@@ -75,7 +77,7 @@ fn bytes_given(
     }
     match integer_at(entry, "blob") {
         Some(number) => part_of(alloc, limit, blobs, entry, number),
-        None => Ok(Bytes::new(alloc)),
+        None => Ok(FileBytes::new(alloc)),
     }
 }
 
@@ -83,33 +85,43 @@ fn bytes_given(
 fn part_of(
     alloc: Global,
     limit: u64,
-    blobs: &[Bytes],
+    blobs: &[Blob],
     entry: &Table,
     number: i64,
-) -> Result<Bytes, EntryError>
+) -> Result<FileBytes, EntryError>
     ensures { Answers result (spec.part_of limit blobs.now (table_view entry.now) number) }
 {
     let at = integer_at(entry, "at");
     let size = integer_at(entry, "size");
-    let bytes = stretch(blobs, number, at, size)?;
+    let (blob, start, count) = stretch(blobs, number, at, size)?;
+    let bytes = blob.part(alloc, start, count)?;
     if bytes.len() as u64 > limit {
         return Err(EntryError::Fault(EntryFault::Value));
     }
-    Ok(Bytes::from_slice(alloc, bytes)?)
+    Ok(bytes)
 }
 
 // So many zero bytes, at most `limit`.
-fn zero_bytes(alloc: Global, limit: u64, count: i64) -> Result<Bytes, EntryError>
+fn zero_bytes(alloc: Global, limit: u64, count: i64) -> Result<FileBytes, EntryError>
     ensures { Answers result (spec.zero_bytes limit count) }
 {
     let count = number_within(limit, count)?;
-    let mut bytes = Vec::new(alloc);
-    bytes.resize(count as usize, 0)?;
-    Ok(Bytes::from_vec(bytes))
+    Ok(hole(alloc, count as usize)?)
+}
+
+#[tactic(auto, using(crate::proofs::Holes::sized_nothing))]
+// So many zero bytes, which take little memory.
+fn hole(alloc: Global, count: usize) -> Result<FileBytes, AllocError>
+    ensures { IfOk result (λ bytes. bytes ≡ replicate count 0) }
+{
+    let mut bytes = FileBytes::new(alloc);
+    bytes.resize(count)?;
+    bytes.settle()?;
+    Ok(bytes)
 }
 
 // The bytes that pairs of lower case hexadecimal digits spell.
-fn bytes_spelled(alloc: Global, digits: &[u8]) -> Result<Bytes, EntryError>
+fn bytes_spelled(alloc: Global, digits: &[u8]) -> Result<FileBytes, EntryError>
     ensures { Answers result (ok_or (spec.hex_bytes digits.now) EntryFault.Value) }
 {
     let count = digits.len() / 2;
@@ -123,7 +135,7 @@ fn bytes_spelled(alloc: Global, digits: &[u8]) -> Result<Bytes, EntryError>
             None => return Err(EntryError::Fault(EntryFault::Value)),
         }
     }
-    Ok(Bytes::from_vec(bytes))
+    Ok(FileBytes::from_vec(alloc, bytes)?)
 }
 
 // The byte that two digits spell, the higher first.
