@@ -1,6 +1,6 @@
 # What can be made; `make` alone lists it.
-.PHONY: help show play try-serve build serve test test-serve test-memory test-clients install \
-    clean build-fuse test-fuse test-fuse-mounted try-fuse lib test-c
+.PHONY: help show play try-serve build serve test test-serve test-memory test-sharing \
+    test-clients install clean build-fuse test-fuse test-fuse-mounted try-fuse lib test-c
 
 EXAMPLE := examples/change-layer
 SOCKET := out/overlay.socket
@@ -19,6 +19,7 @@ help:
 	@echo "make test          the gate: every proof, test, refused edit and program run"
 	@echo "make test-serve    tests the server of out/overlayd, or of \$$OVERLAYD, over its own sockets"
 	@echo "make test-memory   tests that program with its requests for memory refused (needs cc)"
+	@echo "make test-sharing  has 64 clients of that program write parts of one blob for a minute"
 	@echo "make test-clients  tests the Python tools, with that program where it is built"
 	@echo "make try-fuse DIR=DIRECTORY  mount a copy of a directory, until it is unmounted"
 	@echo "make lib           prove the C library and leave it at out/liboverlayd.a and .so.0 (needs cc)"
@@ -59,6 +60,9 @@ test-serve:
 
 test-memory:
 	tools/test-memory
+
+test-sharing:
+	tools/test-sharing
 
 test-clients:
 	python3 -m unittest discover -s clients/python/tests -t clients/python

@@ -9,6 +9,8 @@ from refusing import SECONDS, expect
 # What a program may have in all, as by `ulimit -v`.
 MEMORY = 1 << 30
 MOST = 1 << 40
+# A file of more bytes than that, which are zeros until they are written.
+HOLE = 2 * MEMORY
 SCRIPT = f"""attach
 0 open bc /f
 0 write 0 ab
@@ -18,6 +20,12 @@ SCRIPT = f"""attach
 0 seek 0 {MOST - 1} set
 0 write 0 x
 0 seek 0 0 set
+0 read 0 9
+0 truncate 0 {HOLE}
+0 fstat 0
+0 seek 0 -2 end
+0 write 0 yz
+0 seek 0 -3 end
 0 read 0 9
 0 truncate 0 4096
 0 fstat 0
@@ -33,6 +41,12 @@ WANTED = f"""client 0
 0 not taken ENOMEM
 0 ok 0
 0 ok ab
+0 ok
+0 ok f 0644 0 0 {HOLE} 1
+0 ok {HOLE - 2}
+0 ok 2
+0 ok {HOLE - 3}
+0 ok \\x00yz
 0 ok
 0 ok f 0644 0 0 4096 1
 d 0755 0 0 0 1 /
@@ -56,15 +70,17 @@ def run(program, word, manifest, script):
 
 
 def zeros(program, _):
-    """A file of 1 TiB in a manifest ends the program as without memory, and no sooner."""
-    for count in (2 * MEMORY, MOST):
+    """Zeros of a manifest take little memory; 1 TiB of them end the program as without memory."""
+    merge = f"d 0755 0 0 0 1 /\nf 0644 0 0 {HOLE} 1 /f\n"
+    for count, wanted in [(HOLE, (merge, "", 0)), (MOST, ("", "overlayd: out of memory\n", 3))]:
         entry = f'[{{path = "/f", kind = "file", zeros = {count}}}]'
         manifest = f"file_limit = {MOST}\nlayer = [{{}}, {{entry = {entry}}}]\n"
-        expect(run(program, "show", manifest, ""), ("", "overlayd: out of memory\n", 3), "a show")
+        expect(run(program, "show", manifest, ""), wanted, "a show")
 
 
 def truncates(program, _):
-    """A call that makes a file of 1 TiB is refused, and the file is as it was."""
+    """A call that makes a file of 1 TiB is refused, and the file is as it was; one of 2 GiB is made,
+    and takes memory where it is written."""
     manifest = f"file_limit = {MOST}\nlayer = [{{}}, {{}}]\n"
     expect(run(program, "play", manifest, SCRIPT), (WANTED, "", 0), "a play")
 

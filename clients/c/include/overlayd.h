@@ -120,7 +120,7 @@ int32_t ovl_reply(ovl_mount *mount, uint8_t *reply, size_t room, size_t *length)
 int32_t ovl_begin(ovl_mount *mount, uint64_t client, const uint8_t *request, size_t request_length,
                   uint64_t *job, uint8_t *reply, size_t room, size_t *length);
 
-/* Makes one step of a job: a parent that is made, or a chunk that is copied, of 4,096 bytes or the
+/* Makes one step of a job: a parent that is made, or a chunk that is counted, of 4,096 bytes or the
  * 256th part of a file of more than 1 MiB, or the call itself. OVL_MORE, where more steps come;
  * OVL_OK, where that was the last, with the reply as ovl_call gives it; OVL_UNWRITTEN, the last
  * too; OVL_NOT_MOUNTED, OVL_NO_JOB, OVL_ENDED; OVL_NO_CLIENT, where its client was detached, and the job

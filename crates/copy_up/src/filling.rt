@@ -13,7 +13,7 @@ ghost use Rattle.copy_up.specs.Texts.{KeepsTexts};
 
 use layer_tree::{Layer, Node};
 use merged_lookup::{Layers, Place};
-use ov_base::{Bytes, Content};
+use ov_base::{Content, FileBytes};
 use std::alloc::AllocError;
 
 /// Gives a marked file of the upper bytes of its own, those that it shows, and ends its mark
@@ -42,7 +42,11 @@ pub fn fill(layers: &mut Layers, key: usize, source: Option<Place>) -> Result<()
 
 // The bytes that a marked file of the upper shows: those of the file that the lower layers show at its
 // mark, or else its own.
-fn shown_bytes(layers: &mut Layers, key: usize, source: Option<Place>) -> Result<Bytes, AllocError>
+fn shown_bytes(
+    layers: &mut Layers,
+    key: usize,
+    source: Option<Place>,
+) -> Result<FileBytes, AllocError>
     requires file { IsSome (bytes_at layers.old.upper key) }
     requires source { (q : Path) × (mark_at layers.old.upper key ≡ Some q) ×
         (source ≡ file_place (shows 1 (lowers_of layers.old) q)) }
@@ -56,8 +60,8 @@ fn shown_bytes(layers: &mut Layers, key: usize, source: Option<Place>) -> Result
     }
 }
 
-// A copy of the bytes that a file has under its key.
-fn raw_bytes(upper: &Layer, key: usize) -> Result<Bytes, AllocError>
+// The bytes that a file has under its key, shared.
+fn raw_bytes(upper: &Layer, key: usize) -> Result<FileBytes, AllocError>
     requires { IsSome (bytes_at upper.now key) }
     ensures { IfOk result (λ b. bytes_at upper.now key ≡ Some b) }
 {
@@ -65,13 +69,16 @@ fn raw_bytes(upper: &Layer, key: usize) -> Result<Bytes, AllocError>
         unreachable!()
     };
     match &inode.content {
-        Content::File(bytes) => bytes.clone(),
+        Content::File(bytes) => {
+            let bytes = bytes.clone()?;
+            Ok(bytes)
+        }
         Content::SymbolicLink(_) => unreachable!(),
     }
 }
 
 // Gives the file under a key of the upper these bytes of its own; the lower layers stay.
-fn set_bytes(layers: &mut Layers, key: usize, bytes: Bytes)
+fn set_bytes(layers: &mut Layers, key: usize, bytes: FileBytes)
     requires { IsSome (bytes_at layers.old.upper key) }
     ensures lowers { layers.new.lowers ≡ layers.old.lowers }
     ensures sets { SetsBytes (layer_of layers.old.upper) (layer_of layers.new.upper) key bytes }

@@ -10,7 +10,6 @@ pub mod Following
 pub mod Roots
 pub mod Replacing
 pub mod Writing
-pub mod Overlays
 pub mod Held
 pub mod Swapping
 pub mod Layers

@@ -4,11 +4,11 @@ ghost use Rattle.layer_tree.specs.Tree.{HasMark, layer_of};
 ghost use Rattle.layer_tree.specs.Change.{node_bytes, is_marked_node, with_file};
 
 use crate::node::Node;
-use ov_base::{Bytes, Content};
+use ov_base::{Content, FileBytes};
 use slab::Slab;
 
 /// Gives a node that is a file these bytes of its own, in place of those that it had or of its mark.
-pub fn fill_in(node: &mut Node, bytes: Bytes)
+pub fn fill_in(node: &mut Node, bytes: FileBytes)
     requires { IsSome (node_bytes node.old) }
     ensures { node.new ≡ with_file bytes node.old }
 {

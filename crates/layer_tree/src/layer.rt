@@ -26,7 +26,7 @@ use crate::link_count::lose_name;
 use crate::name_table::{Entry, NameTable};
 use crate::node::{Directory, Inode, Marks, Node, Object};
 use indexmap::map::Slice;
-use ov_base::{Attributes, Bytes, Content, Name, Path};
+use ov_base::{Attributes, Content, FileBytes, Name, Path};
 use slab::{Iter, Slab};
 use std::alloc::{AllocError, AllocFailed, Global};
 use std::hash::RandomState;
@@ -362,7 +362,7 @@ fn planted(alloc: Global, keys: RandomState, object: Object) -> Node
             mark: None,
         }),
         Object::Marked(mark, attributes) => Node::Inode(Inode {
-            content: Content::File(Bytes::new(alloc)),
+            content: Content::File(FileBytes::new(alloc)),
             attributes,
             links: 1,
             mark: Some(mark),

@@ -14,7 +14,7 @@ use crate::seen::Seen;
 use copy_up::{insert_leaf, place_parents, placed_or};
 use layer_tree::Object;
 use merged_lookup::{Layers, Stack};
-use ov_base::{Attributes, Bytes, Content, Errno, LinkTarget, Mode, Path};
+use ov_base::{Attributes, Content, Errno, FileBytes, LinkTarget, Mode, Path};
 use std::alloc::{AllocError, Global};
 
 /// Makes a symbolic link of this target, with mode 0777, owner 0, group 0 and no user attributes,
@@ -80,7 +80,7 @@ pub fn create(
     ensures sound { StaysSound layers.old layers.new }
 {
     mode.lawful();
-    let content = Content::File(Bytes::new(alloc));
+    let content = Content::File(FileBytes::new(alloc));
     let key = make_leaf(
         layers,
         directory,

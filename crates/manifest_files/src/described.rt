@@ -3,10 +3,9 @@ ghost use Rattle.std.specs.Prelude.{◌≤◌, IfOk, length};
 
 use crate::failure::Failure;
 use crate::reading::{Unread, bytes_of, cannot_read, taken};
-use ov_base::Bytes;
 use ov_script::Escaped;
 use ov_server::{Fault, Source, going_on};
-use ov_wire::{ManifestFault, blobs_of, table_of};
+use ov_wire::{Blob, ManifestFault, blobs_of, table_of};
 use std::alloc::Global;
 use std::fs::Files;
 use std::io::Input;
@@ -22,7 +21,7 @@ pub struct Described {
     /// What its file says.
     pub table: Table,
     /// The bytes of its blobs, in its order.
-    pub blobs: Vec<Bytes>,
+    pub blobs: Vec<Blob>,
     /// How many layers a saved upper put above those of the manifest; none where it has no saved one.
     pub above: Option<usize>,
 }
@@ -166,7 +165,7 @@ fn read_blobs<R: Files + AllocGlobal>(
     path: &str,
     manifest: &Table,
     limit: u64,
-) -> Result<Vec<Bytes>, Failure> {
+) -> Result<Vec<Blob>, Failure> {
     let names = match blobs_of(rt.alloc(), manifest) {
         Ok(names) => names,
         Err(fault) => return Err(Failure::from(Fault::from(fault))),
@@ -179,7 +178,7 @@ fn read_blobs<R: Files + AllocGlobal>(
             Err(why) => return Err(no_blob(rt.alloc(), blob, name, left, why)),
         };
         left -= bytes.len() as u64;
-        blobs.push(Bytes::from_vec(bytes))?;
+        blobs.push(Blob::from_vec(rt.alloc(), bytes)?)?;
     }
     Ok(blobs)
 }

@@ -1,5 +1,5 @@
 -- What is shown at a place of a lower layer is what that layer has under its key.
-use Rattle.std.proofs.Common.{◌≡◌, ℕ, zero, suc, ◌<◌, arith, List, [], ◌∷◌, Option, Some, refl, sym, ap, ◌∙◌, map}
+use Rattle.std.proofs.Common.{◌≡◌, ℕ, zero, suc, ◌<◌, arith, List, [], ◌∷◌, Option, None, Some, IsSome, refl, sym, ap, ◌∙◌, map}
 use Rattle.std.specs.Option.{option_and_then, option_map}
 use Rattle.ov_base.specs.declared.bytes.Content.{Content}
 use Rattle.ov_base.specs.declared.bytes.Content.TheVariants as content
@@ -8,8 +8,10 @@ use Rattle.layer_tree.specs.Tree.{Tree, layer_of, inode_of}
 use Rattle.layer_tree.specs.declared.node.Inode as stored
 use Rattle.layer_tree.specs.declared.node.Node.TheVariants as node
 use Rattle.merged_lookup.specs.declared.layers.Layers.{Layers}
+use Rattle.merged_lookup.specs.declared.stack.Place.{Place}
 use Rattle.merged_lookup.specs.Lower.{lower_inode, file_bytes, lower_bytes}
-use Rattle.merged_lookup.specs.Merged.{trees, fill_at, layers_of, lowers_of}
+use Rattle.merged_lookup.specs.Marking.{file_content}
+use Rattle.merged_lookup.specs.Merged.{trees, node_in, fill_at, layers_of, lowers_of}
 use Rattle.merged_lookup.proofs.Filled.{raw_shown, IsInodeOf, raw-inode}
 use Rattle.merged_lookup.proofs.Looking.{inode_in, inode-shown}
 
@@ -45,3 +47,26 @@ pub bytes-shown : (l : Layers) (p : Path) (j k : ℕ) (bytes : List ℕ) (i : In
 bytes-shown l p zero k bytes i has h = cc
 bytes-shown l p (suc j) k bytes i has h =
     bytes-file i.content bytes (sym (ap (option_and_then (λ (x : Inode). file_bytes x.content)) (lower-shown l p j k (Some i) h)) ∙ has)
+
+-- the bytes of an inode that is a file
+file-bytes : (i : Inode) (b : List ℕ) → file_content (Some i) ≡ Some (content.File b) → file_bytes i.content ≡ Some b
+file-bytes i b = by i.content
+  where
+    by : (c : Content) → file_content (Some (record i { content = c })) ≡ Some (content.File b) → file_bytes c ≡ Some b
+    by (content.File bytes) h = cc
+    by (content.SymbolicLink target) h = cc
+
+inode-bytes : (o : Option Inode) (b : List ℕ) → file_content o ≡ Some (content.File b) → option_and_then (λ (x : Inode). file_bytes x.content) o ≡ Some b
+inode-bytes None b h = cc
+inode-bytes (Some i) b h = file-bytes i b h
+
+-- the bytes of the file that stands at a place of a lower layer
+pub bytes-low : (l : Layers) (d : Place) (b : List ℕ) → IsSome (lower_bytes (lowers_of l) d) → file_content (option_and_then inode_of (node_in (trees l) d)) ≡ Some (content.File b) →
+    lower_bytes (lowers_of l) d ≡ Some b
+bytes-low l d b = by d.layer
+  where
+    by : (j : ℕ) → IsSome (lower_bytes (lowers_of l) (record d { layer = j })) → file_content (inode_in (trees l) j d.key) ≡ Some (content.File b) →
+        lower_bytes (lowers_of l) (record d { layer = j }) ≡ Some b
+    by zero some at = cc
+    by (suc j) some at =
+        ap (option_and_then (λ (x : Inode). file_bytes x.content)) (lower-in l.upper l.lowers.items j d.key) ∙ inode-bytes (inode_in (trees l) (suc j) d.key) b at

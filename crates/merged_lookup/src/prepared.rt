@@ -7,18 +7,19 @@ ghost use Rattle.merged_lookup.specs.Prepared.{Fits};
 
 use crate::layers::Layers;
 use crate::stack::Place;
-use ov_base::{Bytes, Content};
+use ov_base::{Content, FileBytes};
 use std::alloc::AllocError;
 
-/// A copy of the bytes of a lower layer's file, and the place of that file.
+/// The bytes of a lower layer's file, and the place of that file.
 #[derive(Drop)]
 pub struct Prepared {
     pub place: Place,
-    pub bytes: Bytes,
+    pub bytes: FileBytes,
 }
 
 impl Layers {
-    /// Offers a copy of a lower file's bytes, which `content_of` hands over in place of a clone.
+    /// Offers the bytes of a lower file, which `content_of` hands over in place of sharing them
+    /// anew.
     pub fn offer(&mut self, prepared: Prepared)
         requires { Fits (lowers_of self.old) prepared }
         ensures { self.new ≡ self.old }
@@ -34,7 +35,7 @@ impl Layers {
     }
 
     /// What the file or symbolic link shown at a place holds: the bytes that were offered for this
-    /// place, which are moved, or else a clone.
+    /// place, or else the same, shared anew.
     pub fn content_of(&mut self, place: Place) -> Result<Content, AllocError>
         requires shown { (p : Path) × ShowsInode self.old p place }
         requires lower { 0 < place.layer }
@@ -51,8 +52,8 @@ impl Layers {
     }
 
     /// The bytes of the file at a place of a lower layer: those that were offered for this place,
-    /// which are moved, or else a clone.
-    pub fn low_copy(&mut self, source: Place) -> Result<Bytes, AllocError>
+    /// or else the same, shared anew.
+    pub fn low_copy(&mut self, source: Place) -> Result<FileBytes, AllocError>
         requires { IsSome (lower_bytes (lowers_of self.old) source) }
         ensures same { self.new ≡ self.old }
         ensures bytes { IfOk result (λ b. lower_bytes (lowers_of self.old) source ≡ Some b) }
@@ -61,13 +62,16 @@ impl Layers {
             return Ok(bytes);
         }
         match self.file_at(source) {
-            Some(Content::File(bytes)) => bytes.clone(),
+            Some(Content::File(bytes)) => {
+                let bytes = bytes.clone()?;
+                Ok(bytes)
+            }
             Some(Content::SymbolicLink(_)) | None => unreachable!(),
         }
     }
 
     // The bytes that were offered for a place, no longer offered then.
-    fn take_offered(&mut self, place: Place) -> Option<Bytes>
+    fn take_offered(&mut self, place: Place) -> Option<FileBytes>
         ensures same { self.new ≡ self.old }
         ensures bytes { IfSome result (λ b. lower_bytes (lowers_of self.old) place ≡ Some b) }
     {

@@ -52,3 +52,4 @@ pub mod Having
 pub mod Placing
 pub mod Judging
 pub mod Seen
+pub mod RoomReads

@@ -1,5 +1,5 @@
 -- Files of the upper to which a path leads are live, and stay so through each call.
-use Rattle.std.proofs.Common.{◌≡◌, ◌≢◌, ℕ, ◌-◌, Bool, true, false, cond, List, [], ◌∷◌, Option, None, Some, Result, Ok, Err, IsSome, refl, sym, ap, ◌∙◌, subst, ◌⊎◌, inl, inr, is_none, is_some, length, nat_eq}
+use Rattle.std.proofs.Common.{◌≡◌, ◌≢◌, ℕ, ◌-◌, ◌≤◌, Bool, true, false, cond, List, [], ◌∷◌, Option, None, Some, Result, Ok, Err, IsOk, IsSome, arith, refl, sym, ap, ◌∙◌, subst, ◌⊎◌, inl, inr, is_none, is_some, length, nat_eq}
 use Rattle.merged_lookup.specs.Merged.{upper_of}
 use Rattle.mount_calls.proofs.Words.{after, AllocError, Call, cases_Bool, cases_eq, change, Content, Contents, false≢true, fresh, Handle, handle_of, Inode, IsLive, IsMountOf, Layer, layer_of, Layers, Leaf, lowers_of, lowest_free, made_way, Node, node_at, NodeId, OnErr, opening_fault, OpenFlags, Own, Path, refusal, Removes, Reply, reply_of, shows, sized, State, Tree, way_of, with_bytes, with_handle}
 use Rattle.std.specs.Result.{OnOk}
@@ -154,6 +154,11 @@ module _ (u new : LayerTree) (key : ℕ) (now : List ℕ → List ℕ) (there : 
       by : (x : Result (Unit {0}) AllocError) → OnOk x ((old : List ℕ) → own_at u key ≡ Some old → SetsBytes (layer_of u) (layer_of new) key (now old)) → OnErr x (SameTree u new) → NamesFile (layer_of new) q k
       by (Ok x) w tree = sets-files w q k was
       by (Err e) w tree = record { inode = was.inode; bytes = was.bytes; named = objects q ∙ was.named; stored = tree.inodes k ∙ was.stored; file = was.file }
+
+-- bytes are cut to nothing where each cut of them is made
+pub cut-empties : (o : Option (List ℕ)) (size : ℕ) (r : Result (Unit {0}) AllocError) → IsSome o → ((old : List ℕ) → o ≡ Some old → size ≤ length old → IsOk r) → size ≡ 0 → IsOk r
+cut-empties None size r there cuts none = absurd (false≢true there)
+cut-empties (Some old) size r there cuts none = cuts old refl (omega (arith, none))
 
 -- paths lead where they led where a node changes, but not its names
 change-paths : (f : Node → Node) → IsMild f → (t : Tree) (o : Option NodeId) (q : Path) → node_at (change f t o) q ≡ node_at t q

@@ -16,3 +16,4 @@ pub mod Altering
 pub mod Living
 pub mod Looking
 pub mod Renaming
+pub mod Reading

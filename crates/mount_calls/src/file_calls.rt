@@ -1,40 +1,64 @@
 // The calls on open files, and `lseek` and `fstat` on directories, by the plain machine (POSIX.1-2017, read(), lseek() and fstat()).
-ghost use Rattle.std.specs.Prelude.{◌≡◌, None, Some, Ok, IfOk, IfErr, IsSome, option_copied};
+ghost use Rattle.std.specs.Prelude.{◌≡◌, None, Some, Ok, IfOk, IfErr, IsSome, length};
+ghost use Rattle.std.specs.Prelude.{option_copied};
 ghost use Rattle.ov_base.specs.declared.attributes.Attributes.{Attributes as DirectoryAttributes};
 ghost use Rattle.mount_calls.specs.Attaching.{directory_by, file_by, opened_by};
 ghost use Rattle.mount_calls.specs.Making.{MakesCall, TellsCall};
 ghost use Rattle.mount_calls.specs.Opening as opening;
 ghost use Rattle.mount_calls.specs.Opening.{read_fault, seek_fault};
+ghost use Rattle.mount_calls.specs.Reading.{read_reply, KeepsRoom};
 ghost use Rattle.mount_calls.specs.Status.{stat_with};
 
-use crate::files::{bytes_in, status_in};
+use crate::files::{bytes_in, read_at, read_into, size_of, status_in};
 use crate::mount::Mount;
 use crate::status::{status_at, status_with};
-use open_handles::{Handle, OpenFile, read_at, sought};
-use ov_base::{Attributes, Bytes, Call, Errno, ObjectKind, Reply, Stat};
+use open_handles::{Handle, OpenFile, sought};
+use ov_base::{Attributes, Call, Errno, ObjectKind, Reply, Stat};
 use std::alloc::AllocError;
 
 /// The most bytes of one read or write.
-const TRANSFER_MAX: u32 = 65_536;
+const TRANSFER_MAX: usize = 65_536;
 
 impl Mount {
     /// Reads the next bytes of an open file, at most so many.
     pub fn read(&mut self, client: u64, descriptor: u32, count: u32) -> Result<Reply, AllocError>
         ensures { MakesCall client (Call.Read descriptor count) self.old self.new result }
     {
-        let file = match self.file_to_read(client, descriptor, count) {
+        let file = match self.file_to_read(client, descriptor, count as usize) {
             Ok(file) => file,
             Err(errno) => return Ok(Reply::Refused(errno)),
         };
-        let bytes = read_at(bytes_in(&self.layers, file), file.place, count as usize);
-        let end = file.place + bytes.len() as u64;
-        let copy = Bytes::from_slice(self.alloc, bytes)?;
+        let bytes = bytes_in(&self.layers, file);
+        let read = read_at(self.alloc, bytes, file.place, count as usize)?;
+        let end = file.place + read.as_slice().len() as u64;
         self.clients.move_to(client, descriptor, end);
-        Ok(Reply::Read(copy))
+        Ok(Reply::Read(read))
+    }
+
+    /// `read` into some room, at most as many bytes as that has: it begins with them, and is else
+    /// as it was. Gives how many they are, and takes no memory.
+    pub fn read_into(
+        &mut self,
+        client: u64,
+        descriptor: u32,
+        room: &mut [u8],
+    ) -> Result<usize, Errno>
+        ensures makes { MakesCall client (Call.Read descriptor (length room.old)) self.old self.new
+            (Ok (read_reply result room.new)) }
+        ensures room { KeepsRoom result room.old room.new }
+    {
+        let file = match self.file_to_read(client, descriptor, room.len()) {
+            Ok(file) => file,
+            Err(errno) => return Err(errno),
+        };
+        let count = read_into(bytes_in(&self.layers, file), file.place, room);
+        self.clients
+            .move_to(client, descriptor, file.place + count as u64);
+        Ok(count)
     }
 
     // The open file that so many bytes are to be read of.
-    fn file_to_read(&self, client: u64, descriptor: u32, count: u32) -> Result<OpenFile, Errno>
+    fn file_to_read(&self, client: u64, descriptor: u32, count: usize) -> Result<OpenFile, Errno>
         ensures file { IfOk result (λ f. (file_by self.now.clients client descriptor ≡ Some f) × (read_fault (opened_by self.now.clients client descriptor) count ≡ None)) }
         ensures refused { IfErr result (λ e. read_fault (opened_by self.now.clients client descriptor) count ≡ Some e) }
     {
@@ -95,7 +119,7 @@ impl Mount {
         requires { file_by self.old.clients client descriptor ≡ Some file }
         ensures { MakesCall client (Call.Seek descriptor offset whence) self.old self.new (Ok result) }
     {
-        let size = bytes_in(&self.layers, file).len();
+        let size = size_of(bytes_in(&self.layers, file));
         match place_sought(file, size, offset, whence) {
             Ok(place) => {
                 self.clients.move_to(client, descriptor, place);

@@ -26,7 +26,7 @@ ghost use Rattle.mount_calls.specs.Making.{AnswersCall, RunsOut};
 ghost use Rattle.mount_calls.specs.Opening as opening;
 ghost use Rattle.mount_calls.specs.States.{HasStateOf, IsStateOf};
 
-use crate::file_bytes::resize_file;
+use crate::file_changes::resize_file;
 use crate::files::{file_at, is_marked, kept_low, marked_place};
 use crate::look::Look;
 use crate::mount::Mount;

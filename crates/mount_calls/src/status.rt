@@ -103,7 +103,7 @@ fn size_of(content: &Content) -> u64
     ensures { result ≡ length (content_bytes content.now) }
 {
     match content {
-        Content::File(bytes) => bytes.as_slice().len() as u64,
+        Content::File(bytes) => bytes.len() as u64,
         Content::SymbolicLink(target) => target.as_bytes().as_slice().len() as u64,
     }
 }

@@ -1,4 +1,4 @@
-// What the steps of a call do before it is made: they place its parents, and copy and offer a
+// What the steps of a call do before it is made: they place its parents, and share and offer a
 // file's bytes.
 ghost use Rattle.std.specs.Prelude.{◌≡◌, Some, OnOk, OnErr, IfSome, option_copied, option_map};
 ghost use Rattle.layer_tree.specs.Tree.{layer_of, SameObjects};
@@ -16,7 +16,7 @@ use crate::files::low_bytes;
 use crate::mount::Mount;
 use copy_up::place_dir;
 use merged_lookup::{Place, Prepared};
-use ov_base::{Bytes, Call, Path, Source};
+use ov_base::{Call, FileBytes, Path, Source};
 use std::alloc::AllocError;
 
 /// The path of a call that changes something, or its second one.
@@ -66,14 +66,15 @@ impl Mount {
     }
 
     /// The bytes of the file that a lower layer has at a place, if it has one there.
-    pub fn low_bytes(&self, source: Source) -> Option<&[u8]>
+    pub fn low_bytes(&self, source: Source) -> Option<&FileBytes>
         ensures { option_copied result ≡ bytes_at (lowers_of self.now.layers) source }
     {
         low_bytes(&self.layers, source)
     }
 
-    /// Offers the bytes of a lower file, which the next copy of it takes in place of a clone.
-    pub fn offer(&mut self, source: Source, bytes: Bytes)
+    /// Offers the bytes of a lower file, which the next copy of it takes in place of sharing them
+    /// anew.
+    pub fn offer(&mut self, source: Source, bytes: FileBytes)
         requires { bytes_at (lowers_of self.old.layers) source ≡ Some bytes }
         ensures { self.new ≡ self.old }
     {

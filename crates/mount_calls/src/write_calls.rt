@@ -4,8 +4,8 @@ ghost use Rattle.mount_calls.specs.Attaching.{file_by, opened_by};
 ghost use Rattle.mount_calls.specs.Making.{MakesCall};
 ghost use Rattle.mount_calls.specs.Opening.{write_fault, truncate_fault, written_key};
 
-use crate::file_bytes::{resize_file, write_file};
-use crate::files::bytes_in;
+use crate::file_changes::{resize_file, write_file};
+use crate::files::{bytes_in, size_of};
 use crate::mount::Mount;
 use open_handles::{FileSource, Handle, OpenFile, fitting};
 use ov_base::{Bytes, Call, Errno, Reply};
@@ -32,7 +32,7 @@ impl Mount {
         if bytes.is_empty() {
             return Ok(Reply::Written(0));
         }
-        let start = file.write_place(bytes_in(&self.layers, file).len());
+        let start = file.write_place(size_of(bytes_in(&self.layers, file)));
         let count = match fitting(self.file_limit, start, bytes.len()) {
             Ok(count) => count,
             Err(errno) => return Ok(Reply::Refused(errno)),

@@ -11,7 +11,7 @@ mod tracked_handles;
 
 pub use descriptors::{DESCRIPTORS_MAX, Descriptors};
 pub use handle::{Handle, OpenDirectory};
-pub use open_file::{FileSource, OpenFile, PLACE_MAX, fitting, read_at, sought};
+pub use open_file::{FileSource, OpenFile, PLACE_MAX, fitting, sought};
 pub use open_files::OpenFiles;
 pub use tracked_client::{TrackedHandle, Way};
 pub use tracked_handles::TrackedHandles;

@@ -1,5 +1,5 @@
 // One file that is open, and its places in bytes.
-ghost use Rattle.std.specs.Prelude.{◌≡◌, ◌<◌, ◌≤◌, ◌^◌, IfOk, take, drop};
+ghost use Rattle.std.specs.Prelude.{◌≡◌, ◌<◌, ◌≤◌, ◌^◌, IfOk};
 ghost use Rattle.open_handles.specs.Places.{sought_from, base_of, write_begin, count_fitting, IsSeekBase, IsWritePlace, AreFitting};
 
 use ov_base::{Errno, Source};
@@ -77,13 +77,4 @@ pub fn fitting(limit: u64, at: u64, count: usize) -> Result<usize, Errno>
         return Err(Errno::EFBIG);
     }
     Ok(room.min(count))
-}
-
-/// What a read of at most so many bytes at a place gives; none at the end or past it (read(2)).
-pub fn read_at(bytes: &[u8], place: u64, count: usize) -> &[u8]
-    ensures { result.now ≡ take count (drop place bytes.now) }
-{
-    let start = bytes.len().min(place as usize);
-    let rest = &bytes[start..];
-    &rest[..rest.len().min(count)]
 }

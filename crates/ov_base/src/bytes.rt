@@ -6,11 +6,12 @@ ghost use Rattle.std.specs.Hash as fed;
 ghost use Rattle.std.proofs.Common.{rules};
 
 use crate::link_target::LinkTarget;
+use file_bytes::FileBytes;
 use std::alloc::{AllocError, Global};
 use std::hash::{Hash, Hasher};
 use std::marker::Model;
 
-/// The bytes of a file, or of an attribute's name or value.
+/// The bytes of an attribute's name or value, of a write or of what was read.
 #[derive(Drop)]
 pub struct Bytes {
     bytes: Vec<u8>,
@@ -131,7 +132,7 @@ impl Texts {
 /// What a file or a symbolic link holds.
 #[derive(Drop)]
 pub enum Content {
-    File(Bytes),
+    File(FileBytes),
     SymbolicLink(LinkTarget),
 }
 

@@ -28,6 +28,7 @@ pub use call::{Call, OpenFlags};
 pub use cookie::cookie_of;
 pub use errno::Errno;
 pub use event_name::EventName;
+pub use file_bytes::FileBytes;
 pub use link_target::{LinkTarget, TARGET_MAX};
 pub use mode::Mode;
 pub use name::{NAME_MAX, Name, NameList, copy_names};

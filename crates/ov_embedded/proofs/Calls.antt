@@ -167,6 +167,18 @@ module _ {F G : Type 0} {asks : Callback F} {rule : Rule G} (client : ℕ) where
       } in
       (played, clients, kept)
 
+  -- so is a call that was made without a job
+  pub direct_call : (a b : Core F G asks rule) (call : Call) (reply : Reply) →
+      core_finished b ≡ core_finished a + 1 → CoreGoes a client (deeds.Called call reply) b →
+      KeepsAttached (core_clients a) (core_clients b) → CoreKeeps a b →
+      Makes client a (Called call (Replied (core_finished a) reply) ∷ []) b
+  direct_call a b call reply counts goes clients kept =
+      let played : IsPlayed client a (Called call (Replied (core_finished a) reply) ∷ []) b = record {
+        counted = (refl, counts);
+        run = λ s agrees. let x = goes s agrees in (x.0, (λ number. (x.0, x.1, refl)), x.2);
+      } in
+      (played, clients, kept)
+
   -- a job that memory ran out in is a call that is not taken
   pub made_no_memory : (a b : Core F G asks rule) (call : Call) (job : Job) → job.call ≡ call →
       takes_no_memory job.call ≢ true → core_finished b ≡ core_finished a → CoreStays a b →

@@ -6,8 +6,7 @@ ghost use Rattle.ov_embedded.specs.Mounting.{IsFresh, IsMountOf, IsMounted, IsRe
 
 use crate::mounted::Mounted;
 use crate::outcome::Outcome;
-use ov_base::Bytes;
-use ov_wire::{ManifestFault, blobs_of, layers_of, table_of};
+use ov_wire::{Blob, ManifestFault, blobs_of, layers_of, table_of};
 use overlay_core::{Core, Unmounted};
 use program_hooks::{ByTag, ProgramRule};
 use std::alloc::{AllocError, AllocFailed, Global};
@@ -36,7 +35,7 @@ pub(crate) fn blobs_in(
     bytes: &[u8],
     lengths: &[usize],
     count: usize,
-) -> Result<Vec<Bytes>, Unmountable>
+) -> Result<Vec<Blob>, Unmountable>
     ensures { IfOk result (λ blobs. blobs.items ≡ pieces_of lengths.now bytes.now) }
 {
     if lengths.len() != count {
@@ -49,7 +48,8 @@ pub(crate) fn blobs_in(
             return Err(Unmountable::Blob(blobs.len()));
         }
         let (blob, after) = rest.split_at(*length);
-        blobs.push(Bytes::from_slice(alloc, blob)?)?;
+        let bytes = Vec::from_slice(alloc, blob)?;
+        blobs.push(Blob::from_vec(alloc, bytes)?)?;
         rest = after;
     }
     if rest.is_empty() {
@@ -64,7 +64,7 @@ pub(crate) fn core_of(
     alloc: Global,
     keys: RandomState,
     manifest: &Table,
-    blobs: &[Bytes],
+    blobs: &[Blob],
 ) -> Result<Core<ByTag, ProgramRule>, Unmountable>
     ensures mount { IfOk result (IsMountOf blobs.now (table_view manifest.now)) }
     ensures fault { IfErr result (IsUnmountable blobs.now (table_view manifest.now)) }

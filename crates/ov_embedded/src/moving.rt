@@ -1,12 +1,18 @@
 // Bytes of a file, without frames.
-ghost use Rattle.std.specs.Prelude.{◌≡◌, ◌≤◌};
+ghost use Rattle.std.specs.Prelude.{◌≡◌, ◌≤◌, ◌+◌, ◌<◌, ◌^◌, [], ◌∷◌, length, true};
+ghost use Rattle.mount_calls.specs.Reading.{read_reply, KeepsRoom};
+ghost use Rattle.ov_base.specs.declared.call.Call.TheVariants as call;
+ghost use Rattle.ov_frames.specs.declared.answer.Answer.TheVariants.{Replied};
+ghost use Rattle.ov_session.specs.declared.exchange.Exchange.TheVariants.{Called};
+ghost use Rattle.overlay_core.specs.Views.{core_finished, has_client};
+ghost use Rattle.ov_embedded.specs.Calling.{Makes};
+ghost use Rattle.ov_embedded.specs.Jobs.{KeepsRest};
 ghost use Rattle.ov_embedded.specs.Moving as moving;
-ghost use Rattle.ov_embedded.specs.Moving.{IsBarred, ReadsOff, TellsRead, TellsWritten, WritesOff};
+ghost use Rattle.ov_embedded.specs.Moving.{IsBarred, ReadsOff, TellsWritten, WritesOff};
 
-use crate::copying::copy_into;
 use crate::mounted::{FINISHED_MAX, Mounted};
 use crate::outcome::Outcome;
-use ov_base::{Bytes, Call, Reply};
+use ov_base::{Bytes, Call, Errno, Reply};
 use ov_frames::Answer;
 use std::alloc::Global;
 
@@ -22,30 +28,6 @@ fn moved(count: usize) -> u32
         MOVED_MAX as u32
     } else {
         count as u32
-    }
-}
-
-// Tells what was read, into some room.
-fn told_read(answer: Answer, room: &mut [u8]) -> Result<usize, Outcome>
-    ensures { TellsRead answer room.old room.new result }
-{
-    match answer {
-        Answer::Replied { place: _, reply } => match reply {
-            Reply::Read(bytes) => Ok(copy_into(bytes.as_slice(), room)),
-            Reply::Refused(errno) => Err(Outcome::Refused(errno)),
-            Reply::Done
-            | Reply::Status(_)
-            | Reply::Target(_)
-            | Reply::Value(_)
-            | Reply::Names(_)
-            | Reply::AttributeNames(_)
-            | Reply::Descriptor(_)
-            | Reply::Written(_)
-            | Reply::Place(_)
-            | Reply::Watch(_)
-            | Reply::Unread(_) => Err(Outcome::Unwritten),
-        },
-        Answer::NotTaken(_) => Err(Outcome::NoMemory),
     }
 }
 
@@ -87,7 +69,7 @@ impl Mounted {
         None
     }
 
-    #[tactic(auto, using(crate::proofs::Moves::reads_nothing, crate::proofs::Moves::reads))]
+    #[tactic(auto, using(crate::proofs::Moves::reads_nothing))]
     /// Reads from where a descriptor stands into some room, and gives how many bytes are there.
     pub(crate) fn read(
         &mut self,
@@ -100,9 +82,25 @@ impl Mounted {
         if let Some(outcome) = self.call_refusal(client) {
             return Err(outcome);
         }
-        let count = moved(room.len());
-        let (_, answer) = self.perform(client, Call::Read { descriptor, count });
-        told_read(answer, room)
+        let most = moved(room.len());
+        match self.read_front(client, descriptor, &mut room[..most as usize]) {
+            Ok(count) => Ok(count),
+            Err(errno) => Err(Outcome::Refused(errno)),
+        }
+    }
+
+    // Makes the call `read` for as many bytes as some room has, which go straight there.
+    fn read_front(&mut self, client: u64, descriptor: u32, room: &mut [u8]) -> Result<usize, Errno>
+        requires attached { has_client self.old.core client ≡ true }
+        requires bound { core_finished self.old.core + 1 < 2 ^ 63 }
+        ensures made { Makes client self.old.core
+            (Called (call.Read descriptor (length room.old))
+            (Replied (core_finished self.old.core) (read_reply result room.new)) ∷ [])
+            self.new.core }
+        ensures rest { KeepsRest self.old self.new }
+        ensures room { KeepsRoom result room.old room.new }
+    {
+        self.core.read_into(client, descriptor, room)
     }
 
     #[tactic(auto, using(crate::proofs::Moves::writes_nothing, crate::proofs::Moves::writes_short, crate::proofs::Moves::writes))]

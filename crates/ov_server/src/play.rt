@@ -17,9 +17,9 @@ use crate::devices::{Output, read_some};
 use crate::fault::{DeviceFault, Fault};
 use crate::history_length::HistoryLength;
 use crate::stage::Stage;
-use ov_base::{Bytes, Options};
+use ov_base::Options;
 use ov_devices::{Sink, Source};
-use ov_wire::layers_of;
+use ov_wire::{Blob, layers_of};
 use overlay_core::{Core, LOOK_UPS_KEPT, Unmounted};
 use std::alloc::{AllocError, Global};
 use std::hash::RandomState;
@@ -35,7 +35,7 @@ pub fn play_run<S: Source, K: Sink, F: Callback + Copy, H: Rule>(
     alloc: Global,
     keys: RandomState,
     manifest: Table,
-    blobs: Vec<Bytes>,
+    blobs: Vec<Blob>,
     hooks: &[Hook<F, H>],
     input: &mut S,
     output: &mut Output<K>,
@@ -65,7 +65,7 @@ pub fn play_run_keeping<S: Source, K: Sink, F: Callback + Copy, H: Rule>(
     keys: RandomState,
     look_ups: usize,
     manifest: Table,
-    blobs: Vec<Bytes>,
+    blobs: Vec<Blob>,
     hooks: &[Hook<F, H>],
     input: &mut S,
     output: &mut Output<K>,
@@ -120,7 +120,7 @@ pub fn core_of<F: Callback + Drop, H: Rule>(
     alloc: Global,
     keys: RandomState,
     manifest: &Table,
-    blobs: &[Bytes],
+    blobs: &[Blob],
     history: Option<HistoryLength>,
 ) -> Result<Core<F, H>, Fault>
     ensures manifest { AnswersManifest blobs.now (table_view manifest.now) result }
@@ -140,7 +140,7 @@ fn core_keeping<F: Callback + Drop, H: Rule>(
     keys: RandomState,
     look_ups: usize,
     manifest: &Table,
-    blobs: &[Bytes],
+    blobs: &[Blob],
     history: Option<HistoryLength>,
 ) -> Result<Core<F, H>, Fault>
     requires { look_ups ≤ 65536 }

@@ -122,7 +122,7 @@ fn size_at(layers: &Layers, place: Place) -> u64
     ensures { result ≡ content_size (content_in (inode_over layers.now place)) }
 {
     match layers.content_at(place) {
-        Some(Content::File(bytes)) => bytes.as_slice().len() as u64,
+        Some(Content::File(bytes)) => bytes.len() as u64,
         Some(Content::SymbolicLink(target)) => target.as_bytes().as_slice().len() as u64,
         None => 0,
     }

@@ -193,7 +193,7 @@ impl<'a> Saving<'a> {
             self.named.insert(key, path)?;
         }
         match self.layers.content_at(Place { layer: 0, key }) {
-            Some(Content::File(bytes)) => put_bytes(bytes.as_slice(), output),
+            Some(Content::File(bytes)) => put_bytes(self.alloc, bytes, output),
             _ => Ok(()),
         }
     }

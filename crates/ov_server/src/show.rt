@@ -8,9 +8,8 @@ use crate::devices::Output;
 use crate::fault::Fault;
 use crate::print_tree::write_merge;
 use merged_lookup::Layers;
-use ov_base::Bytes;
 use ov_devices::Sink;
-use ov_wire::layers_of;
+use ov_wire::{Blob, layers_of};
 use overlay_core::upper_over;
 use std::alloc::Global;
 use std::hash::RandomState;
@@ -22,7 +21,7 @@ pub fn show_run<K: Sink>(
     alloc: Global,
     keys: RandomState,
     manifest: Table,
-    blobs: Vec<Bytes>,
+    blobs: Vec<Blob>,
     output: &mut Output<K>,
 ) -> Result<(), Fault>
     ensures manifest { AnswersManifest blobs.items (table_view manifest) result }
@@ -43,7 +42,7 @@ pub fn layers_in(
     alloc: Global,
     keys: RandomState,
     manifest: &Table,
-    blobs: &[Bytes],
+    blobs: &[Blob],
 ) -> Result<Layers, Fault>
     ensures manifest { AnswersManifest blobs.now (table_view manifest.now) result }
     ensures layers { IfOk result (HoldManifest blobs.now (table_view manifest.now)) }

@@ -10,3 +10,4 @@ mod Listing
 mod HexDigits
 mod Pairs
 mod Unmarked
+mod Holes

@@ -3,7 +3,7 @@
 
 mod manifest;
 
-pub use manifest::{EntryFault, ManifestFault, blobs_of, layers_of, manifest_of, table_of};
+pub use manifest::{Blob, EntryFault, ManifestFault, blobs_of, layers_of, manifest_of, table_of};
 pub use ov_frames::{
     Answer, Decoder, End, FRAME_MAX, FrameFault, LentAnswer, Request, append_reply, encode_reply,
 };

@@ -14,18 +14,20 @@ ghost use Rattle.ov_wire.specs.ManifestLayers as layers;
 ghost use Rattle.ov_wire.specs.ManifestLayers.{AreSpelled, HasNoMark, IsTold, layer_items, layers_fault};
 ghost use Rattle.ov_wire.specs.Manifests as spec;
 
+mod blob;
 mod entry;
 mod fault;
-mod file_bytes;
+mod file_content;
 mod link_paths;
 mod place;
 mod stretch;
 mod user_attributes;
 
+pub use blob::Blob;
 use entry::{array_at, integer_at, text_at, value_at};
 pub use fault::{EntryFault, ManifestFault};
 use layer_tree::Layer;
-use ov_base::{Bytes, FILE_LIMIT, Options};
+use ov_base::{FILE_LIMIT, Options};
 use place::read_layer;
 use std::alloc::{AllocError, Global};
 use std::hash::RandomState;
@@ -113,7 +115,7 @@ pub fn layers_of(
     alloc: Global,
     keys: RandomState,
     manifest: &Table,
-    blobs: &[Bytes],
+    blobs: &[Blob],
 ) -> Result<(Option<Layer>, Vec<Layer>, Options), ManifestFault>
     ensures told { IfErr result (IsTold (layers.fault_of (layers.manifest_of blobs.now (table_view manifest.now)))) }
     ensures whole { IfErr (spec.whole_of (table_view manifest.now)) (λ fault. result ≡ Err fault) }
@@ -159,7 +161,7 @@ fn read_layers(
     alloc: Global,
     keys: RandomState,
     limit: u64,
-    blobs: &[Bytes],
+    blobs: &[Blob],
     tables: &[Value],
 ) -> Result<Vec<Layer>, ManifestFault>
     requires { length tables.now ≤ 17 }

@@ -18,6 +18,10 @@ pub enum Deed {
     Whiteout,
     /// Opening a file of the lowest layer, reading its 4,096 bytes and closing it, 256 files in turn.
     Read,
+    /// Opening, listing and closing a directory of 256 names, part of them from each lower layer.
+    List,
+    /// The same of 10,000 names of the lowest layer.
+    ListWide,
     /// Making a file by opening it, closing it and removing it.
     Create,
     /// Opening a file of so many bytes for writing, for which it is copied up, and closing it, each time another one.
@@ -72,6 +76,8 @@ fn asking(word: &str) -> Option<Deed> {
         "absent" => Some(Deed::Absent),
         "absent_new" => Some(Deed::AbsentNew),
         "open_read" => Some(Deed::Read),
+        "list" => Some(Deed::List),
+        "list_10k" => Some(Deed::ListWide),
         _ => None,
     }
 }

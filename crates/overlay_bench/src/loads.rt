@@ -4,6 +4,7 @@ use crate::manifests::ManifestText;
 use crate::mounts::{Pace, attached, made, mounted_alone, unmount};
 use crate::operations::{before, operations};
 use crate::trees::{BLOCK, OBJECTS, copied, copied_again, deep, served};
+use crate::watchers::tell_on;
 use ov_base::{Call, Errno, Reply};
 use overlay_core::Core;
 use std::alloc::{AllocError, Global};
@@ -11,27 +12,36 @@ use std::hash::RandomState;
 use std::io;
 use std::rt::Clock;
 use std::time::Instant;
-use watch_table::{Callback, Rule};
+use watch_table::{Callback, Hook, Rule};
 
 /// How many operations are made ready at a time.
 const BATCH: u32 = 64;
 
-/// What is measured: what a client does, and how its calls are made.
+/// What is measured.
 #[derive(Clone, Copy)]
-pub struct Load {
-    deed: Deed,
-    pace: Pace,
+pub enum Load {
+    /// What a client does, and how its calls are made.
+    Deed(Deed, Pace),
+    /// What so many clients that watch a directory are told.
+    Notices(u32),
 }
 
 impl Load {
-    /// The load of a word of the command line, behind which `_steps` says that each call is made step by step.
+    /// The load of a word of the command line.
     pub fn named(word: &str) -> Option<Load> {
-        let (word, pace) = match word.strip_suffix("_steps") {
-            Some(word) => (word, Pace::InSteps),
-            None => (word, Pace::AtOnce),
-        };
-        let deed = Deed::named(word)?;
-        Some(Load { deed, pace })
+        match word {
+            "notify_1" => Some(Load::Notices(1)),
+            "notify_64" => Some(Load::Notices(64)),
+            _ => deed_named(word),
+        }
+    }
+}
+
+// The load of a deed's word, behind which `_steps` says that each call is made step by step.
+fn deed_named(word: &str) -> Option<Load> {
+    match word.strip_suffix("_steps") {
+        Some(word) => Some(Load::Deed(Deed::named(word)?, Pace::InSteps)),
+        None => Some(Load::Deed(Deed::named(word)?, Pace::AtOnce)),
     }
 }
 
@@ -40,13 +50,17 @@ pub fn measure<C: Clock, F: Callback + Copy, R: Rule>(
     clock: &C,
     alloc: Global,
     keys: RandomState,
+    hook: &Hook<F, R>,
     load: Load,
     lowers: u32,
     count: u32,
 ) -> io::Result<(u64, u32)> {
-    let manifest = layers_for(alloc, load.deed, lowers, count)?;
+    let manifest = layers_for(alloc, load, lowers, count)?;
     let mut core: Core<F, R> = mounted_alone(alloc, keys, &manifest)?;
-    let measured = do_on(clock, alloc, &mut core, load, count);
+    let measured = match load {
+        Load::Deed(deed, pace) => do_on(clock, alloc, &mut core, deed, pace, count),
+        Load::Notices(watchers) => tell_on(clock, alloc, &mut core, hook, watchers, count),
+    };
     unmount(core);
     measured
 }
@@ -54,10 +68,13 @@ pub fn measure<C: Clock, F: Callback + Copy, R: Rule>(
 // The layers. For each copy there is a file, or a name of one file.
 fn layers_for(
     alloc: Global,
-    deed: Deed,
+    load: Load,
     lowers: u32,
     count: u32,
 ) -> Result<ManifestText, AllocError> {
+    let Load::Deed(deed, _) = load else {
+        return served(alloc, lowers);
+    };
     let manifest = layers_of(alloc, deed, lowers, count)?;
     if deed.is_with_metacopy() {
         manifest.with_metacopy(alloc)
@@ -86,11 +103,11 @@ fn do_on<C: Clock, F: Callback + Copy, R: Rule>(
     clock: &C,
     alloc: Global,
     core: &mut Core<F, R>,
-    load: Load,
+    deed: Deed,
+    pace: Pace,
     count: u32,
 ) -> io::Result<(u64, u32)> {
-    let Load { deed, pace } = load;
-    let client = attached(alloc, core)?;
+    let client = attached(core, Vec::new(alloc))?;
     let _ = do_all(core, client, deed, pace, before(alloc, deed)?)?;
     let count = match deed {
         Deed::Whiteout => count.min(OBJECTS),
@@ -113,8 +130,8 @@ fn do_on<C: Clock, F: Callback + Copy, R: Rule>(
     Ok((nanos, done))
 }
 
-// How many calls were answered as they should be.
-fn do_all<F: Callback + Copy, R: Rule>(
+/// How many calls were answered as they should be.
+pub fn do_all<F: Callback + Copy, R: Rule>(
     core: &mut Core<F, R>,
     client: u64,
     deed: Deed,
@@ -140,7 +157,7 @@ fn is_fine(deed: Deed, reply: &Reply) -> bool {
     }
 }
 
-// The nanoseconds since a moment.
-fn since<C: Clock>(clock: &C, start: Instant) -> io::Result<u64> {
+/// The nanoseconds since a moment.
+pub fn since<C: Clock>(clock: &C, start: Instant) -> io::Result<u64> {
     Ok(u64::try_from(start.elapsed(clock)?.as_nanos()).unwrap_or(u64::MAX))
 }

@@ -8,10 +8,11 @@ mod manifests;
 mod mounts;
 mod operations;
 mod trees;
+mod watchers;
 
 use crate::echo::echo_on;
 use crate::loads::{Load, measure};
-use crate::mounts::Silent;
+use crate::mounts::echoing_hook;
 use std::alloc::Global;
 use std::fs::Files;
 use std::hash::RandomState;
@@ -20,13 +21,13 @@ use std::rt::{Clock, Env};
 use std::sync::Wait;
 use std::thread::Threads;
 use std::{env, io};
-use watch_table::AnyAnswer;
 
 const USAGE: &str = "usage: overlay_bench LOAD COUNT [LOWERS]
-calls of a client over LOWERS lower layers, 16 if not given: stat stat_many absent absent_new symlink mkdir whiteout rename setattr
+calls of a client over LOWERS lower layers, 16 if not given: stat stat_many absent absent_new list list_10k symlink mkdir whiteout rename setattr
 several calls an operation, over as many: open_read (open, read, close) create (open, close, unlink) copy_64k copy_1m copy_64m (open, close) copy_64k_again copy_1m_again (open, close, unlink) link (link, unlink)
 each of these with _steps behind its word: every call is made step by step, not at once
 a mode changed of a lower file, for which no bytes are copied or all are: chmod_empty chmod_1m chmod_1m_copied; what is done with a file whose mode was changed so: stat_marked open_read_marked, stat_copied open_read_copied
+notify_1 notify_64: COUNT files made and removed in a directory that so many clients watch; an operation is a notice that was read
 usage: overlay_bench echo WORKERS SOCKET, a bare echo that serve is compared with";
 
 /// The most lower layers of a mount, and as many as a call has where the command line says nothing of them.
@@ -86,9 +87,8 @@ where
         return println!(rt; "{USAGE}");
     };
     let alloc: Global = rt.alloc();
-    let (nanos, operations) = measure::<R, Silent, AnyAnswer>(
-        rt, alloc, keys, load, lowers, count,
-    )?;
+    let hook = echoing_hook();
+    let (nanos, operations) = measure(rt, alloc, keys, &hook, load, lowers, count)?;
     let each = nanos / u64::from(operations.max(1));
     println!(rt; "{each} ns an operation, {operations} operations")
 }

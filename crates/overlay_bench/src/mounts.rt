@@ -9,24 +9,36 @@ use ov_wire::manifest_of;
 use overlay_core::{Core, Job, Standing, Turn};
 use std::alloc::{AllocError, Global};
 use std::hash::RandomState;
-use watch_table::{Callback, Rule};
+use watch_table::{AnyAnswer, Callback, Hook, Rule};
 use work_dir::STEPS_MAX;
 
 /// More attaches, calls and detaches than are ever measured.
 const DEEDS_MAX: u64 = 1 << 62;
 
-/// A callback that no client has.
+/// A callback that answers each event as it is.
 #[derive(Clone, Copy)]
-pub struct Silent;
+pub struct Echo;
 
-impl Callback for Silent {
-    ghost may = { λ c event. Unit {0} };
+impl Callback for Echo {
+    ghost use Rattle.plain_model.specs.Watching.{IsEvent};
+
+    ghost may = { λ c event. IsEvent event.now };
 
     ghost gives = { λ c event answer. Unit {0} };
 
-    fn answer(&self, _event: &Event) -> Option<Notice> {
-        None
+    fn answer(&self, event: &Event) -> Option<Notice> {
+        Some(Notice {
+            watch: event.watch as i32,
+            mask: event.bits,
+            cookie: event.cookie,
+            name: event.name,
+        })
     }
+}
+
+/// The hook of each client that watches: its answers may be any.
+pub fn echoing_hook() -> Hook<Echo, AnyAnswer> {
+    Hook::new(0, Echo)
 }
 
 /// The mount of a manifest without a client; what is no mount is answered as an allocation failure
@@ -46,16 +58,16 @@ pub fn mounted_alone<F: Callback + Copy, R: Rule>(
 /// of a proof.
 pub fn unmount<F: Callback + Copy, R: Rule>(_core: Core<F, R>) {}
 
-/// The number of a client that comes without hooks; that it is refused is answered as an allocation
-/// failure is.
+/// The number of a client that comes with these hooks; that it is refused is answered as an
+/// allocation failure is.
 pub fn attached<F: Callback + Copy, R: Rule>(
-    alloc: Global,
     core: &mut Core<F, R>,
+    hooks: Vec<Hook<F, R>>,
 ) -> Result<u64, AllocError> {
     if core.finished() >= DEEDS_MAX {
         return Err(AllocError);
     }
-    match core.attach(Vec::new(alloc)) {
+    match core.attach(hooks) {
         Ok(client) => Ok(client),
         Err(_) => Err(AllocError),
     }

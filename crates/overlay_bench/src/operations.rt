@@ -1,13 +1,16 @@
 // The calls of operations.
 use crate::deeds::Deed;
 use crate::manifests::nested;
-use crate::mounts::path_to;
-use crate::trees::{BLOCK, DIRECTORIES, FILES, WIDE};
+use crate::mounts::{path_of, path_to};
+use crate::trees::{BLOCK, DIRECTORIES, FILES, MERGED, OBJECTS, WIDE};
 use ov_base::{Bytes, Call, OpenFlags, Path};
 use std::alloc::{AllocError, Global};
 
 /// The lowest descriptor, which all that is opened has, as nothing else is open.
 const DESCRIPTOR: u32 = 0;
+
+/// The most names that one call lists.
+const PAGE: u32 = 256;
 
 /// The calls that come first and aren't measured: they bring into the upper what gets an attribute, another mode or another name.
 pub fn before(alloc: Global, deed: Deed) -> Result<Vec<Call>, AllocError> {
@@ -53,8 +56,31 @@ fn operation_in(
             {
                 opened_in(alloc, calls, deed, number)?;
             }
+        Deed::List => listed_in(alloc, calls, MERGED, FILES)?,
+        Deed::ListWide => listed_in(alloc, calls, WIDE, OBJECTS)?,
         _ => named_in(alloc, calls, deed, number)?,
     }
+    Ok(())
+}
+
+// The calls that open a directory of so many names, list them to the end and close it.
+fn listed_in(
+    alloc: Global,
+    calls: &mut Vec<Call>,
+    directory: &str,
+    names: u32,
+) -> Result<(), AllocError> {
+    let descriptor = DESCRIPTOR;
+    calls.push(Call::Open {
+        path: path_of(alloc, directory)?,
+        flags: flags_of(true, false, true),
+        mode: 0,
+    })?;
+    for _ in 0..=names.div_ceil(PAGE) {
+        let count = PAGE;
+        calls.push(Call::ListNames { descriptor, count })?;
+    }
+    calls.push(Call::Close { descriptor })?;
     Ok(())
 }
 
@@ -179,13 +205,13 @@ fn opening(alloc: Global, deed: Deed, number: u32) -> Result<Call, AllocError> {
     let creates = matches!(&deed, Deed::Create | Deed::Link | Deed::Rename);
     Ok(Call::Open {
         path: path_for(alloc, deed, number)?,
-        flags: flags_of(reads, creates),
+        flags: flags_of(reads, creates, false),
         mode: 0o644,
     })
 }
 
-// The flags to open for reading, or else for writing, a file that is made or not.
-fn flags_of(reads: bool, creates: bool) -> OpenFlags {
+// The flags to open for reading, or else for writing, a file that is made or not, or a directory.
+fn flags_of(reads: bool, creates: bool, directory: bool) -> OpenFlags {
     OpenFlags {
         reads,
         writes: !reads,
@@ -193,7 +219,7 @@ fn flags_of(reads: bool, creates: bool) -> OpenFlags {
         exclusive: creates,
         truncate: false,
         append: false,
-        directory: false,
+        directory,
         unknown: false,
     }
 }

@@ -8,7 +8,7 @@ pub const OBJECTS: u32 = 10_000;
 /// How deep the file stands that is looked up: three directories are above it.
 pub const DIRECTORIES: u32 = 3;
 
-/// How many files are looked up one after the other.
+/// How many files are looked up one after the other, and how many names `MERGED` has.
 pub const FILES: u32 = 256;
 
 /// How many bytes each file has that is looked up, and how many are read at a time.
@@ -16,6 +16,9 @@ pub const BLOCK: u32 = 4096;
 
 /// The directory that has `OBJECTS` names, of the lowest layer.
 pub const WIDE: &str = "/list-10k-all";
+
+/// The directory that has `FILES` names, part of them of each lower layer.
+pub const MERGED: &str = "/list-256-all";
 
 /// So many layers, each of `OBJECTS` objects: three directories, and the files in the last.
 pub fn deep(alloc: Global, layers: u32) -> Result<ManifestText, AllocError> {
@@ -29,14 +32,17 @@ pub fn deep(alloc: Global, layers: u32) -> Result<ManifestText, AllocError> {
     Ok(manifest)
 }
 
-/// An empty upper over so many lower layers, for whole calls: all have the directories, the lowest has the files that are looked up, of
-/// `BLOCK` zero bytes each, and those of `WIDE`.
+/// An empty upper over so many lower layers, for whole calls: all have the directories and part of
+/// the names of `MERGED`, the lowest has the files that are looked up, of `BLOCK` zero bytes each,
+/// and those of `WIDE`.
 pub fn served(alloc: Global, lowers: u32) -> Result<ManifestText, AllocError> {
     let mut manifest = ManifestText::new(alloc)?;
     manifest.layer()?;
-    for _ in 0..lowers {
+    for lower in 0..lowers {
         manifest.layer()?;
         nested_in(alloc, &mut manifest, DIRECTORIES)?;
+        manifest.directory(MERGED)?;
+        share_in(alloc, &mut manifest, lower, lowers)?;
     }
     let last = nested(alloc, DIRECTORIES)?;
     zeros_in(alloc, &mut manifest, last.as_str(), "name-", FILES, BLOCK)?;
@@ -73,6 +79,21 @@ pub fn copied_again(
         manifest.link(name.as_str(), file.as_str())?;
     }
     Ok(manifest)
+}
+
+// The names of `MERGED` that one of so many lower layers has: every so many.
+fn share_in(
+    alloc: Global,
+    manifest: &mut ManifestText,
+    lower: u32,
+    lowers: u32,
+) -> Result<(), AllocError> {
+    for number in 0..FILES {
+        if number.checked_rem(lowers) == Some(lower) {
+            manifest.file(child(alloc, MERGED, "name-", number)?.as_str())?;
+        }
+    }
+    Ok(())
 }
 
 // So many empty files in a directory.

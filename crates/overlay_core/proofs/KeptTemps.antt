@@ -1,25 +1,24 @@
 -- A chunk that is copied into a temp where it is kept.
-use Rattle.std.proofs.Common.{arith, ◌≡◌, ℕ, ◌+◌, ◌*◌, Bool, true, false, cond, nat_lt, nat_eq, ◌<◌, List, [], length, take, Option, None, Some, option_map, unwrap_or, refl, sym, ap, ap₂, ◌∙◌, subst}
+use Rattle.std.proofs.Common.{arith, ◌≡◌, ℕ, ◌+◌, Bool, true, false, cond, nat_lt, nat_eq, ◌<◌, List, length, Option, None, Some, refl, sym, ap, ap₂, ◌∙◌, subst}
 use Rattle.std.specs.Prelude.{IsSomeAnd}
 use Rattle.std.proofs.lemmas.Bool.{eqb-true, eq-eqb}
 use Rattle.std.proofs.lemmas.Option.{same_Some}
 use Rattle.plain_model.specs.Layers.{Layer}
 use Rattle.plain_model.specs.Watching.{Rule}
 use Rattle.merged_lookup.specs.Merged.{lowers_of}
-use Rattle.work_dir.specs.Beginnings.{Beginning}
-use Rattle.work_dir.specs.OpenJobs.{closed, closed_any, held, is_of, job_at, of_chunks, of_client, temp_of, unless_of, with_chunk, Changes}
-use Rattle.work_dir.specs.Chunks.{chunk_of}
+use Rattle.work_dir.specs.Beginnings.{Beginning, longer_beginning}
+use Rattle.work_dir.specs.OpenJobs.{closed, closed_any, held, is_of, job_at, of_chunks, of_client, temp_of, unless_of, with_chunk, Changes, LacksBytes}
 use Rattle.work_dir.specs.declared.limits.TheConstants.{CHUNKS_MAX}
 use Rattle.work_dir.specs.declared.next.Lack.TheVariants.{File}
 use Rattle.work_dir.specs.declared.next.Next.TheVariants.{Copy}
 use Rattle.work_dir.specs.declared.table.OpenJob.{OpenJob}
 use Rattle.work_dir.proofs.Jobs.{own_within, set_changes}
-use Rattle.mount_calls.specs.Lacks.{bytes_at, lack_size}
+use Rattle.mount_calls.specs.Lacks.{lack_size}
 use Rattle.overlay_core.specs.declared.job.Job.{Job}
 use Rattle.overlay_core.specs.declared.job.Standing.TheVariants as standing
 use Rattle.overlay_core.specs.declared.turn.Turn.TheVariants.{More}
 use Rattle.overlay_core.specs.declared.watched.Watched.{Watched}
-use Rattle.overlay_core.specs.Steps.{held_by, longer, without, Counts, Makes}
+use Rattle.overlay_core.specs.Steps.{held_by, without, Counts, Makes}
 use Rattle.overlay_core.specs.Temps.{AreTemps, IsTemp}
 use Rattle.overlay_core.proofs.StepsMade.{made-aside}
 use Rattle.overlay_core.proofs.TempFits.{changes-fit, held-fits, longer-fits, temp-few, temp-part}
@@ -77,11 +76,6 @@ held-entry work j t n number e =
     entry-of j.client j.chunks t (job_at work n)
     (subst (λ m. held work m j.client j.chunks ≡ Some t) number (held-under work j t e))
 
--- a file of which there are first bytes has bytes
-bytes-of : (o : Option (List ℕ)) (f : List ℕ → List ℕ) (x : List ℕ) → option_map f o ≡ Some x → (b : List ℕ) × (o ≡ Some b)
-bytes-of None f x h = cc
-bytes-of (Some b) f x h = (b, refl)
-
 module _ {F G : Type 0} (shows : Rule) (m : Watched F G) (work w : List (Option OpenJob)) (j k : Job) (n : ℕ)
     (number : j.number ≡ Some n) (t : Beginning) (holds : held_by work j ≡ Some t)
     (temps : AreTemps (lowers_of m.mount.layers) work) where
@@ -109,24 +103,24 @@ module _ {F G : Type 0} (shows : Rule) (m : Watched F G) (work w : List (Option 
   fits : IsTemp the_lowers t
   fits = held-fits the_lowers work j temps t holds
 
-  -- of bytes that its file has
-  whole : (b : List ℕ) × (bytes_at the_lowers t.source ≡ Some b)
-  whole = bytes-of (bytes_at the_lowers t.source) (λ b. take (chunk_of (length b) * t.chunks) b) t.bytes fits.0
+  -- and where it lacks bytes of its file, so does what stood there
+  pub lacks-more : length t.bytes < lack_size the_lowers (File t.source) → LacksBytes (job_at work n)
+  lacks-more less =
+      subst LacksBytes (sym entry) (fits.1, temp-part the_lowers t fits less)
 
-  -- so where it lacks bytes the job has copied fewer chunks than a file may have
+  -- and the job has copied fewer chunks than a file may have
   pub copies-few : length t.bytes < lack_size the_lowers (File t.source) → j.chunks < CHUNKS_MAX
   copies-few less =
       subst (λ m. m < CHUNKS_MAX) (held-chunks work j t n number holds)
-      (temp-few the_lowers t whole.0 fits whole.1 (temp-part the_lowers t whole.0 fits whole.1 less))
+      (temp-few the_lowers t fits (temp-part the_lowers t fits less))
 
-  module _ (changes : Changes work w n (with_chunk (unwrap_or (bytes_at the_lowers t.source) []) (job_at work n))) where
+  module _ (changes : Changes work w n (with_chunk (job_at work n))) where
     -- what stands under the number now
     abbrev longer_entry : Option OpenJob
-    longer_entry = Some (record { client = j.client; temp = Some (longer the_lowers t) })
+    longer_entry = Some (record { client = j.client; temp = Some (longer_beginning t) })
 
     becomes : Changes work w n longer_entry
-    becomes =
-        subst (Changes work w n) (ap (with_chunk (unwrap_or (bytes_at the_lowers t.source) [])) entry) changes
+    becomes = subst (Changes work w n) (ap with_chunk entry) changes
 
     -- the step that copies a chunk where it is kept
     pub copied-more : k.standing ≡ standing.Open → k.number ≡ Some n →
@@ -136,7 +130,7 @@ module _ {F G : Type 0} (shows : Rule) (m : Watched F G) (work w : List (Option 
         subst (Makes m m (without work j) w j k shows More Copy) (sym holds)
         (made-aside shows m (without work j) w j k More Copy (Some t)
         (changes-fit the_lowers work w n longer_entry becomes temps
-        (λ x e. subst (IsTemp the_lowers) (same_Some (longer the_lowers t) x e) (longer-fits the_lowers t whole.0 fits whole.1)))
+        (λ x e. subst (IsTemp the_lowers) (same_Some (longer_beginning t) x e) (longer-fits the_lowers t fits)))
         (λ s a. a, goes) (
           record {
             number = n;

@@ -1,6 +1,7 @@
 -- Calls that tell nothing, and uses of open files that are told: each goes as the machine's call.
-use Rattle.std.proofs.Common.{◌≡◌, ◌≢◌, ℕ, ◌∷◌, Bool, true, false, cond, not, List, [], length, nat_eq, Option, None, Some, IsSome, is_none, refl, sym, ap, subst, ◌∙◌, suc, arith, eqb-true}
+use Rattle.std.proofs.Common.{◌≡◌, ◌≢◌, ◌<◌, ◌≤◌, ℕ, zero, ◌∷◌, Bool, true, false, cond, not, List, [], length, nat_eq, Option, None, Some, IsSome, is_none, refl, sym, ap, subst, ◌∙◌, suc, take, arith, eqb-true}
 use Rattle.std.proofs.lemmas.Bool.{false≢true}
+use Rattle.std.proofs.lemmas.List.{length-take-le}
 use mathlib.Core.Logic.{∥∥₁_elim}
 use mathlib.Core.Bool.{Bool-set}
 use Rattle.ov_base.specs.declared.call.Call.{Call}
@@ -106,6 +107,17 @@ none-bytes xs bytes same b is on = sym same ∙ by xs (sym is ∙ on)
     by : (ys : List ℕ) → nat_eq (length ys) 0 ≡ true → ys ≡ []
     by [] h = refl
     by (y ∷ ys) h = let z : suc (length ys) ≡ 0 = eqb-true (length (y ∷ ys)) 0 h in absurd (omega (arith, z))
+
+-- so many bytes of some room are some, or none
+pub front-some : (n : ℕ) (room : List ℕ) → 0 < n → n ≤ length room → take n room ≢ []
+front-some n room some within none =
+    let nothing : length (take n room) ≡ 0 = ap length none in
+    let so_many : length (take n room) ≡ n = length-take-le n room within in
+    omega (arith, some, nothing, so_many)
+
+pub front-none : (n : ℕ) (room : List ℕ) → n ≤ 0 → take n room ≡ []
+front-none zero room h = refl
+front-none (suc n) room h = absurd (omega (arith, h))
 
 -- a read that is not refused is by an open descriptor
 pub read-open : (c fd n : ℕ) (s : State) → refusal s c (call.Read fd n) ≡ None → is_none (handle_of s.tables c fd) ≡ false

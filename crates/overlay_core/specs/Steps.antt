@@ -53,12 +53,9 @@ next_by m j temp refused =
     next_of refused (lack_by m j) j.placings j.begins temp
     (lack_size (lowers_of m.layers) (lack_by m j))
 
--- a beginning of this file without a byte, and one with a chunk more
+-- a beginning of this file without a byte
 abbrev pub begun : List Layer → Source → Beginning
-begun lowers d = empty_beginning d (lack_size lowers (File d))
-
-abbrev pub longer : List Layer → Beginning → Beginning
-longer lowers t = longer_beginning (unwrap_or (bytes_at lowers t.source) []) t
+begun lowers d = empty_beginning d (unwrap_or (bytes_at lowers d) [])
 
 -- the job goes on, open under a number that was free, with this temp, and no other job changes
 pub record GoesOn (e w : List (Option OpenJob)) (j k : Job) (temp : Option Beginning) : Type 0 where
@@ -94,7 +91,7 @@ module _ {F G : Type 0} (old new : Watched F G) (e w : List (Option OpenJob)) (j
       GoesOn e w j k (Some (begun (lowers_of old.mount.layers) d))
       × Counts k j.placings (j.begins + 1) 0 × (new ≡ old)
   MoreBy Copy (Some t) =
-      GoesOn e w j k (Some (longer (lowers_of old.mount.layers) t))
+      GoesOn e w j k (Some (longer_beginning t))
       × Counts k j.placings j.begins (j.chunks + 1) × (new ≡ old)
   MoreBy Copy None = ⊥
   MoreBy Finish temp = ⊥

@@ -20,6 +20,8 @@ ghost use Rattle.overlay_core.specs.Temps.{AreTemps};
 ghost use Rattle.overlay_core.specs.Waits.{WaitsForAny};
 ghost use Rattle.ov_base.specs.declared.reply.Reply.TheVariants as Reply;
 
+mod reads;
+
 use crate::blank_upper::upper_over;
 use crate::job::{Job, Standing};
 use crate::mount_faults::{MountFault, fault_of};

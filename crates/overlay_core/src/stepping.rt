@@ -1,19 +1,19 @@
 // One step of a job: which one is next, and what it does.
-ghost use Rattle.std.specs.Prelude.{◌≡◌, ◌≢◌, ◌<◌, List, [], Option, true, false, All, Some, IfOk, IsOk, IsSomeAnd, OnErr, OnOk, option_copied, unwrap_or, length};
+ghost use Rattle.std.specs.Prelude.{◌≡◌, ◌≢◌, List, [], Option, true, false, All, Some, IfOk, IsOk, OnErr, OnOk, option_copied};
 ghost use Rattle.std.specs.Option.{ForSome};
 ghost use Rattle.plain_model.specs.Layers.{Layer};
 ghost use Rattle.plain_model.specs.Machine.{State};
 ghost use Rattle.plain_model.specs.Refusals.{refusal};
 ghost use Rattle.merged_lookup.specs.Merged.{lowers_of};
 ghost use Rattle.work_dir.specs.Beginnings.{Beginning};
-ghost use Rattle.work_dir.specs.OpenJobs.{job_at, temp_at, with_chunk, Same, Changes};
+ghost use Rattle.work_dir.specs.OpenJobs.{job_at, Same, Changes};
 ghost use Rattle.work_dir.specs.declared.limits.TheConstants.{CHUNKS_MAX};
 ghost use Rattle.work_dir.specs.declared.next.Lack.TheVariants as Lacking;
 ghost use Rattle.work_dir.specs.declared.table.OpenJob.{OpenJob};
 ghost use Rattle.mount_calls.specs.Attaching.{is_attached};
 ghost use Rattle.mount_calls.specs.Keeping.{takes_no_memory};
 ghost use Rattle.mount_calls.specs.Lacks as lacks;
-ghost use Rattle.mount_calls.specs.Lacks.{bytes_at, lack_size, CanBeHad};
+ghost use Rattle.mount_calls.specs.Lacks.{lack_size, CanBeHad};
 ghost use Rattle.mount_calls.specs.Looking.{AreLooks};
 ghost use Rattle.mount_calls.specs.States.{IsStateOf};
 ghost use Rattle.overlay_core.specs.Placing.{PlacesFor};
@@ -330,7 +330,8 @@ fn begin<F: Callback, R: Rule>(
     }
 }
 
-// Keeps the job with a temp of this file, without a byte, under the number that it gives.
+// Keeps the job with a temp of this file, which shares its bytes and has none of them yet, under
+// the number that it gives.
 fn keep_begun(
     mount: &Mount,
     work: &mut WorkDir,
@@ -347,8 +348,10 @@ fn keep_begun(
     ensures same { OnErr result (Same work.old work.new) }
     ensures temps { AreTemps (lowers_of mount.now.layers) work.new }
 {
-    let size = size_of(mount, Lack::File(source));
-    let temp = Temp::begin(mount.alloc(), source, size)?;
+    let Some(bytes) = mount.low_bytes(source) else {
+        unreachable!()
+    };
+    let temp = Temp::begin(source, bytes)?;
     keep(work, job, temp)
 }
 
@@ -365,32 +368,9 @@ fn copy<F: Callback, R: Rule>(watched: &Watched<F, R>, work: &mut WorkDir, job: 
     let Some(number) = job.number() else {
         unreachable!()
     };
-    lengthen(&watched.mount, work, number);
+    work.copy_chunk(number);
     job.copy(number);
     Turn::More
-}
-
-// Copies a chunk of its file into the temp under a number, where it is kept. There is room for it
-// since the temp was begun.
-fn lengthen(mount: &Mount, work: &mut WorkDir, number: usize)
-    requires temps { AreTemps (lowers_of mount.now.layers) work.old }
-    requires more { IsSomeAnd (temp_at work.old number)
-        (λ t. length t.bytes < lack_size (lowers_of mount.now.layers) (Lacking.File t.source)) }
-    ensures { (t : Beginning) → temp_at work.old number ≡ Some t →
-        Changes work.old work.new number
-        (with_chunk (unwrap_or (bytes_at (lowers_of mount.now.layers) t.source) [])
-        (job_at work.old number)) }
-{
-    let Some(temp) = work.temp_at(number) else {
-        unreachable!()
-    };
-    let Some(bytes) = mount.low_bytes(temp.source()) else {
-        unreachable!()
-    };
-    match work.copy_chunk(number, bytes) {
-        Ok(()) => {}
-        Err(AllocError) => unreachable!(),
-    }
 }
 
 // Keeps an open job with this temp under the number that it gives.

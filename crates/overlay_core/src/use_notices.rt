@@ -1,12 +1,13 @@
 // What uses of open files tell.
-ghost use Rattle.std.specs.Prelude.{◌≡◌, true};
+ghost use Rattle.std.specs.Prelude.{◌≡◌, true, length, Ok};
 ghost use Rattle.mount_calls.specs.Attaching.{is_attached};
+ghost use Rattle.mount_calls.specs.Reading.{read_reply, KeepsRoom};
 ghost use Rattle.overlay_core.specs.Performing.{Performs};
 ghost use Rattle.overlay_core.specs.Watching.{HasState};
 
 use crate::watched::Watched;
 use notifier::{ACCESS, MODIFY};
-use ov_base::{Bytes, Call, Reply};
+use ov_base::{Bytes, Call, Errno, Reply};
 use std::alloc::AllocError;
 use watch_table::{Callback, Rule};
 
@@ -30,6 +31,30 @@ impl<F: Callback, R: Rule> Watched<F, R> {
             }
         }
         Ok(reply)
+    }
+
+    /// Reads of an open file into some room, and notifies of an access where bytes were read.
+    pub(crate) fn read_into(
+        &mut self,
+        client: u64,
+        descriptor: u32,
+        room: &mut [u8],
+    ) -> Result<usize, Errno>
+        requires there { is_attached self.old.mount.clients client ≡ true }
+        requires state { ∥ HasState self.old.mount self.old.notifier ∥₁ }
+        ensures performs { Performs R.shows client (Call.Read descriptor (length room.old))
+            self.old self.new (Ok (read_reply result room.new)) }
+        ensures room { KeepsRoom result room.old room.new }
+    {
+        let count = match self.mount.read_into(client, descriptor, room) {
+            Ok(count) => count,
+            Err(errno) => return Err(errno),
+        };
+        if count > 0 {
+            self.notifier.used(client, descriptor, ACCESS);
+            self.notifier.lawful();
+        }
+        Ok(count)
     }
 
     /// Writes to an open file, and notifies of a change where bytes were written.

@@ -1,6 +1,7 @@
 // The opening tree, put together by hand.
 
 use crate::clients::Clients;
+use crate::content::Content;
 use crate::id::Id;
 use crate::instances::Instances;
 use crate::names::Names;
@@ -9,7 +10,7 @@ use crate::options::MountOptions;
 use crate::reference::Reference;
 use crate::tree::Tree;
 use crate::unwatched::Unwatched;
-use ov_base::{Attributes, Bytes, Content, Path};
+use ov_base::{Attributes, Bytes, Path};
 use std::alloc::{AllocError, Global};
 
 /// Puts an opening tree together, node by node from the root down, with nothing of the engine's look-up.

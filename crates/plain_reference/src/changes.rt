@@ -1,11 +1,12 @@
 // The calls that change the tree.
 
 use crate::clients::is_held;
+use crate::content::Content;
 use crate::id::Id;
 use crate::names::Names;
 use crate::node::{Node, Origin, count_of, is_named};
 use crate::unwatched::Unwatched;
-use ov_base::{Attributes, Bytes, Content, Errno, LinkTarget, Mode, Path, Reply, UserAttributes};
+use ov_base::{Attributes, Bytes, Errno, LinkTarget, Mode, Path, Reply, UserAttributes};
 use std::alloc::{AllocError, Global};
 
 fn fresh(alloc: Global, mode: Mode) -> Attributes {

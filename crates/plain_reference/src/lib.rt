@@ -11,6 +11,7 @@ mod builder;
 mod calls;
 mod changes;
 mod clients;
+mod content;
 mod directories;
 mod files;
 mod handle_refusals;
@@ -43,6 +44,7 @@ mod watches;
 mod ways;
 
 pub use builder::Builder;
+pub use content::Content;
 pub use node::Origin;
 pub use options::MountOptions;
 pub use reference::Reference;

@@ -1,10 +1,9 @@
 // The nodes of the tree.
 
+use crate::content::Content;
 use crate::id::Id;
 use crate::names::Names;
-use ov_base::{
-    Attributes, Bytes, Content, Name, NameList, ObjectKind, OpenFlags, Reply, Stat, Texts,
-};
+use ov_base::{Attributes, Bytes, Name, NameList, ObjectKind, OpenFlags, Reply, Stat, Texts};
 use std::alloc::{AllocError, Global};
 
 /// Where a file or symbolic link stands: in the upper layer, with bytes of its own or, where that is true, those of a file of the lower

@@ -1,7 +1,8 @@
 // What an open handle sees of its node.
 
+use crate::content::Content;
 use crate::node::{Node, Origin, bytes_in, capped, stat_by, stat_kept, stat_of};
-use ov_base::{Attributes, Bytes, Content, ObjectKind, OpenFlags, Reply};
+use ov_base::{Attributes, Bytes, ObjectKind, OpenFlags, Reply};
 use std::alloc::AllocError;
 
 /// What a handle sees: its node as it is, or, where it was opened for reading alone on a file whose bytes were a lower layer's, these

@@ -1,9 +1,10 @@
 // The walk of a path (POSIX.1-2017, Pathname Resolution), narrowed: symbolic links are never followed.
 
+use crate::content::Content;
 use crate::id::Id;
 use crate::node::Node;
 use crate::tree::Tree;
-use ov_base::{Content, Errno, Name};
+use ov_base::{Errno, Name};
 use std::alloc::{AllocError, Global};
 
 /// Where a path leads: to a node, or its last name is absent from a directory, or the walk is refused.

@@ -1,7 +1,8 @@
 // What files, symbolic links and directories of a manifest have in them.
 use crate::entries::{Entry, Kind, Spelling};
 use hex::FromHexError;
-use ov_base::{Attributes, Bytes, Content, LinkTarget, Mode, UserAttributes};
+use ov_base::{Attributes, Bytes, LinkTarget, Mode, UserAttributes};
+use plain_reference::Content;
 use std::alloc::{AllocError, Global};
 use toml::Value;
 

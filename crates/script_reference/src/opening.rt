@@ -3,8 +3,8 @@ use crate::contents::{attributes_of, content_of};
 use crate::entries::Kind;
 use crate::merged::{Shown, shown_below};
 use crate::plain_layer::PlainLayer;
-use ov_base::{Attributes, Content, Path};
-use plain_reference::{Builder, MountOptions, Origin, Reference};
+use ov_base::{Attributes, Path};
+use plain_reference::{Builder, Content, MountOptions, Origin, Reference};
 use std::alloc::{AllocError, Global};
 
 /// The reference at the tree that layers show, of a mount that is told this. None where there is no layer, or the root of the upper has no

@@ -15,8 +15,8 @@ pub struct Limit {
     around: [&'static str; 3],
 }
 
-/// The limits of generated scripts.
-pub const LIMITS: [Limit; 5] = [
+/// The limits of generated scripts: bytes that lie together in memory are at most 65,536.
+pub const LIMITS: [Limit; 7] = [
     Limit {
         key: "",
         zeros: ["4097", "9000"],
@@ -42,6 +42,18 @@ pub const LIMITS: [Limit; 5] = [
         around: ["65535", "65536", "65537"],
     },
     Limit {
+        key: "file_limit = 65_537\n",
+        zeros: ["4097", "9000"],
+        many_zeros: ["65536", "65537"],
+        around: ["65536", "65537", "65538"],
+    },
+    Limit {
+        key: "file_limit = 131_072\n",
+        zeros: ["4096", "65537"],
+        many_zeros: ["131071", "131072"],
+        around: ["131071", "131072", "131073"],
+    },
+    Limit {
         key: "file_limit = 3_000_000\n",
         zeros: ["4097", "9000"],
         many_zeros: ["1048577", "3000000"],
@@ -64,9 +76,27 @@ const FLAGS: [&str; 8] = ["b", "b", "b", "w", "ba", "wa", "bt", "bc"];
 
 const DESCRIPTORS: [&str; 4] = ["0", "0", "1", "2"];
 
-const OFFSETS: [&str; 6] = ["0", "1", "-1", "-2", "-5", "9223372036854775807"];
+const OFFSETS: [&str; 9] = [
+    "0",
+    "1",
+    "-1",
+    "-2",
+    "-5",
+    "65533",
+    "65536",
+    "131071",
+    "9223372036854775807",
+];
 
-const SIZES: [&str; 5] = ["0", "1", "5", "1099511627776", "18446744073709551615"];
+const SIZES: [&str; 7] = [
+    "0",
+    "1",
+    "5",
+    "65535",
+    "65537",
+    "1099511627776",
+    "18446744073709551615",
+];
 
 const DATA: [&str; 5] = ["\\-", "x", "yz", "wxyz", "0123456789"];
 

@@ -32,7 +32,7 @@ struct Limited {
     many: Manifests,
 }
 
-/// Plays generated scripts, each over one of five limits of the bytes of a file, one of sixteen with lower files as long as that, and tells
+/// Plays generated scripts, each over one of seven limits of the bytes of a file, one of sixteen with lower files as long as that, and tells
 /// how many get the same lines from the engine and from the reference.
 pub fn play_generated_limits<R: Files + AllocGlobal + Print>(
     rt: &R,
@@ -89,7 +89,7 @@ fn limit_difference(
     limits: &[Limited],
     seed: u64,
 ) -> io::Result<Option<String>> {
-    let Some(limited) = limits.get((seed % 5) as usize) else {
+    let Some(limited) = limits.get((seed % 7) as usize) else {
         return Ok(Some(String::from_str(alloc, "there is no limit")?));
     };
     let manifests = if seed % 16 == 0 {

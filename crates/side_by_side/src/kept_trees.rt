@@ -88,7 +88,7 @@ fn push_kept(alloc: Global, kept: &KeptLayer<'_>, key: usize, path: &Path, lines
 // How many bytes the file or the target of the symbolic link at a place shows.
 fn size_at(layers: &Layers, place: Place) -> u64 {
     match layers.content_at(place) {
-        Some(Content::File(bytes)) => bytes.as_slice().len() as u64,
+        Some(Content::File(bytes)) => bytes.len() as u64,
         Some(Content::SymbolicLink(target)) => target.as_bytes().as_slice().len() as u64,
         None => 0,
     }

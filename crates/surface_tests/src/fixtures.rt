@@ -6,7 +6,7 @@ ghost use Rattle.layer_tree.specs.Tree.{layer_of};
 
 use layer_tree::{Layer, Node};
 use merged_lookup::{Found, Layers};
-use ov_base::{Errno, OpenFlags, Options, Path};
+use ov_base::{Errno, FileBytes, OpenFlags, Options, Path};
 use ov_wire::manifest_of;
 use std::alloc::Global;
 use std::hash::RandomState;
@@ -33,6 +33,17 @@ pub fn read(
         },
         Err(_) => panic!(rt; "no layers"),
     }
+}
+
+// Whether a file is there and holds these bytes.
+pub fn are_bytes(rt: &impl Abort, alloc: Global, held: Option<&FileBytes>, bytes: &[u8]) -> bool {
+    let Some(held) = held else {
+        return false;
+    };
+    let mut all = Vec::new(alloc);
+    let count = held.len();
+    held.append_to(0, count, &mut all).expect(rt, "memory");
+    all.as_slice() == bytes
 }
 
 // The layers of a manifest as a mount has them.

@@ -34,6 +34,10 @@ mod schedules;
 #[cfg(test)]
 mod sessions;
 #[cfg(test)]
+mod shared_bytes;
+#[cfg(test)]
+mod shared_files;
+#[cfg(test)]
 mod streams;
 #[cfg(test)]
 mod whole_runs;

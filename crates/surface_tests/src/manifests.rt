@@ -1,6 +1,6 @@
 // What no script shows of a manifest: its options, and that it may be long.
 use crate::checks::{add_text, counts, holds, keys_of};
-use crate::fixtures::{path, read};
+use crate::fixtures::{are_bytes, path, read};
 use layer_tree::{Entry, Layer, Node};
 use ov_base::Options;
 use std::alloc::Global;
@@ -79,5 +79,6 @@ fn has_last(rt: &impl Abort, alloc: Global, layer: &Layer) {
         matches!(layer.node(key), Some(Node::Inode(_))),
         "no directory",
     );
-    holds(rt, layer.read(key) == Some(b"9999".as_slice()), "its bytes");
+    let same = are_bytes(rt, alloc, layer.read(key), b"9999");
+    holds(rt, same, "its bytes");
 }

@@ -6,7 +6,7 @@ ghost use Rattle.layer_tree.specs.Tree.{layer_of};
 
 use crate::checks::{holds, keys_of};
 use crate::cores::{Answer, answer_to, answers, attached, mounted_on, refused, reply, unmount};
-use crate::fixtures::{flags, path, read};
+use crate::fixtures::{are_bytes, flags, path, read};
 use layer_tree::{Entry, Layer, Object, ROOT};
 use ov_base::{
     Attributes, Bytes, Call, Mode, Name, ObjectKind, Options, Reply, Stat, UserAttributes,
@@ -321,6 +321,7 @@ fn fills<F: Callback + Copy, H: Rule>(
 // `/m` has bytes of its own, and no mark.
 fn assert_filled(rt: &impl Abort, alloc: Global, upper: &Layer) {
     let key = key_at(rt, alloc, upper, "/m");
-    holds(rt, upper.own(key) == Some(BYTES), "bytes of its own");
+    let same = are_bytes(rt, alloc, upper.own(key), BYTES);
+    holds(rt, same, "bytes of its own");
     holds(rt, upper.mark(key).is_none(), "no mark");
 }

@@ -2,7 +2,7 @@
 // streams beside a slow reference.
 mod cuts;
 mod devices;
-mod dice;
+pub mod dice;
 mod failures;
 mod faults;
 mod frame_reference;

@@ -3,25 +3,27 @@ use Rattle.std.specs.Prelude.{◌≡◌, ℕ, ◌+◌, ◌*◌, Bool, ◌&&◌, 
 use Rattle.work_dir.specs.Chunks.{chunk_of}
 use Rattle.ov_base.specs.declared.source.Source.{Source}
 
--- some bytes of a lower file, which were copied in so many chunks, and room for so many bytes
+-- some bytes of a lower file, which were copied in so many chunks, and all that the file has
 pub record Beginning : Type 0 where
   pub source : Source
-  pub room : ℕ
+  pub whole : List ℕ
   pub chunks : ℕ
   pub bytes : List ℕ
 
 -- they are the file's first bytes, as many as the chunks hold
-abbrev pub IsBeginning : List ℕ → Beginning → Type 0
-IsBeginning whole t = t.bytes ≡ take (chunk_of (length whole) * t.chunks) whole
+abbrev pub IsBeginning : Beginning → Type 0
+IsBeginning t = t.bytes ≡ take (chunk_of (length t.whole) * t.chunks) t.whole
 
--- no bytes of a file yet, with room for so many
-abbrev pub empty_beginning : Source → ℕ → Beginning
-empty_beginning source room = record { source = source; room = room; chunks = 0; bytes = [] }
+-- no bytes yet of a file of these
+abbrev pub empty_beginning : Source → List ℕ → Beginning
+empty_beginning source whole = record { source = source; whole = whole; chunks = 0; bytes = [] }
 
--- the beginning with one chunk more of the file, or what was left of it
-abbrev pub longer_beginning : List ℕ → Beginning → Beginning
-longer_beginning whole t =
-    record t { chunks = t.chunks + 1; bytes = take (chunk_of (length whole) * (t.chunks + 1)) whole }
+-- the beginning with one chunk more of its file, or what was left of it
+abbrev pub longer_beginning : Beginning → Beginning
+longer_beginning t = record t {
+  chunks = t.chunks + 1;
+  bytes = take (chunk_of (length t.whole) * (t.chunks + 1)) t.whole;
+}
 
 -- whether they are all bytes of a file that has so many
 abbrev pub is_whole : Beginning → ℕ → Bool

@@ -33,15 +33,14 @@ of_client client o = cond (is_of client o) o None
 abbrev pub unless_of : ℕ → Option OpenJob → Option OpenJob
 unless_of client o = cond (is_of client o) None o
 
--- a job whose temp has one chunk more of this file
-abbrev pub with_chunk : List ℕ → Option OpenJob → Option OpenJob
-with_chunk whole (Some o) = Some (record o { temp = option_map (longer_beginning whole) o.temp })
-with_chunk whole None = None
+-- a job whose temp has one chunk more of its file
+abbrev pub with_chunk : Option OpenJob → Option OpenJob
+with_chunk (Some o) = Some (record o { temp = option_map longer_beginning o.temp })
+with_chunk None = None
 
--- the job has a temp, which is a beginning of this file and has not all of its bytes
-abbrev pub LacksBytes : List ℕ → Option OpenJob → Type 0
-LacksBytes whole o =
-    IsSomeAnd (temp_of o) (λ t. IsBeginning whole t × (length t.bytes < length whole))
+-- the job has a temp, which is a beginning of its file and has not all of its bytes
+abbrev pub LacksBytes : Option OpenJob → Type 0
+LacksBytes o = IsSomeAnd (temp_of o) (λ t. IsBeginning t × (length t.bytes < length t.whole))
 
 -- the number is in the table, and no job stands under it
 abbrev pub IsFree : List (Option OpenJob) → ℕ → Type 0

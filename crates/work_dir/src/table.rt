@@ -172,20 +172,16 @@ impl WorkDir {
         Some(temp)
     }
 
-    /// Copies the next chunk of a file's bytes, or what is left of them, into the temp under a
-    /// number, where it is kept. It takes memory only where the file has more bytes than there is room
-    /// for. An allocation failure changes nothing.
-    pub fn copy_chunk(&mut self, number: usize, whole: &[u8]) -> Result<(), AllocError>
-        requires { LacksBytes whole.now (job_at self.old number) }
-        ensures ok { OnOk result (self.new ≡ slice_set self.old number
-            (with_chunk whole.now (job_at self.old number))) }
-        ensures numbers { OnOk result (Changes self.old self.new number
-            (with_chunk whole.now (job_at self.old number))) }
-        ensures err { OnErr result (self.new ≡ self.old) }
-        ensures full { OnErr result (IsSomeAnd (temp_of (job_at self.old number))
-            (λ t. t.room < length whole.now)) }
+    /// Copies the next chunk of its file's bytes, or what is left of them, into the temp under a
+    /// number, where it is kept. It takes no memory.
+    pub fn copy_chunk(&mut self, number: usize)
+        requires { LacksBytes (job_at self.old number) }
+        ensures table { self.new
+            ≡ slice_set self.old number (with_chunk (job_at self.old number)) }
+        ensures numbers { Changes self.old self.new number
+            (with_chunk (job_at self.old number)) }
     {
-        copy_into(&mut self.jobs[number], whole)
+        copy_into(&mut self.jobs[number]);
     }
 
     /// Ends all that is kept of a client's jobs.
@@ -229,28 +225,25 @@ fn forget(job: &mut Option<OpenJob>, client: u64)
     }
 }
 
-// Copies the next chunk of a file's bytes into the temp of a job.
-fn copy_into(job: &mut Option<OpenJob>, whole: &[u8]) -> Result<(), AllocError>
-    requires { LacksBytes whole.now job.old }
-    ensures ok { OnOk result (job.new ≡ with_chunk whole.now job.old) }
-    ensures err { OnErr result (job.new ≡ job.old) }
-    ensures full { OnErr result (IsSomeAnd (temp_of job.old) (λ t. t.room < length whole.now)) }
+// Copies the next chunk of its file into the temp of a job.
+fn copy_into(job: &mut Option<OpenJob>)
+    requires { LacksBytes job.old }
+    ensures { job.new ≡ with_chunk job.old }
 {
     match job {
-        Some(open) => lengthen(&mut open.temp, whole),
+        Some(open) => lengthen(&mut open.temp),
         None => unreachable!(),
     }
 }
 
-// Copies the next chunk of a file's bytes into a temp.
-fn lengthen(temp: &mut Option<Temp>, whole: &[u8]) -> Result<(), AllocError>
-    requires { IsSomeAnd temp.old (λ t. IsBeginning whole.now t × (length t.bytes < length whole.now)) }
-    ensures ok { OnOk result (temp.new ≡ option_map (longer_beginning whole.now) temp.old) }
-    ensures err { OnErr result (temp.new ≡ temp.old) }
-    ensures full { OnErr result (IsSomeAnd temp.old (λ t. t.room < length whole.now)) }
+// Copies the next chunk of its file into a temp.
+fn lengthen(temp: &mut Option<Temp>)
+    requires { IsSomeAnd temp.old
+        (λ t. IsBeginning t × (length t.bytes < length t.whole)) }
+    ensures { temp.new ≡ option_map longer_beginning temp.old }
 {
     match temp {
-        Some(temp) => temp.copy_chunk(whole),
+        Some(temp) => temp.copy_chunk(),
         None => unreachable!(),
     }
 }

@@ -1,45 +1,50 @@
 // A beginning of a lower file's bytes.
-ghost use Rattle.std.specs.Prelude.{◌≡◌, ◌<◌, ◌≤◌, length, IfOk, OnOk, OnErr};
+ghost use Rattle.std.specs.Prelude.{◌≡◌, ◌<◌, ◌≤◌, length, IfOk};
 ghost use Rattle.work_dir.specs.Beginnings.{IsBeginning, empty_beginning, longer_beginning, is_whole};
 ghost use Rattle.work_dir.specs.declared.limits.TheConstants.{CHUNKS_MAX};
 
 use crate::limits::chunk_of;
-use ov_base::{Bytes, Source};
-use std::alloc::{AllocError, Global};
+use ov_base::{FileBytes, Source};
+use std::alloc::AllocError;
 use std::marker::Model;
 
-/// A beginning of a lower file's bytes, which is to become its copy.
+/// A beginning of a lower file's bytes, which is to become its copy. It shares all of them with the
+/// file from the start, and counts how many its steps have covered.
 #[derive(Drop)]
 pub struct Temp {
     source: Source,
-    room: usize,
+    whole: FileBytes,
     chunks: usize,
-    bytes: Vec<u8>,
+    covered: usize,
 }
 
 impl Model for Temp {
-    ghost use Rattle.std.specs.Prelude.{◌≤◌};
-    ghost use Rattle.std.specs.Vec.{vec_capacity};
+    ghost use Rattle.std.specs.Prelude.{◌≤◌, length, take};
     ghost use Rattle.work_dir.specs.Beginnings.{Beginning};
 
     ghost Value = { Beginning };
 
-    ghost view = { λ t. record { source = t.source; room = t.room; chunks = t.chunks; bytes = t.bytes.items } };
+    ghost view = { λ t. record {
+      source = t.source;
+      whole = t.whole;
+      chunks = t.chunks;
+      bytes = take t.covered t.whole;
+    } };
 
-    ghost invariant = { λ t. t.room ≤ vec_capacity t.bytes };
+    ghost invariant = { λ t. t.covered ≤ length t.whole };
 }
 
 impl Temp {
-    /// No bytes of a file, with room for so many, so that copying its chunks moves none.
-    pub fn begin(alloc: Global, source: Source, size: usize) -> Result<Temp, AllocError>
-        ensures { IfOk result (λ t. t ≡ empty_beginning source size) }
+    /// No bytes yet of a file of these, which it shares.
+    pub fn begin(source: Source, whole: &FileBytes) -> Result<Temp, AllocError>
+        ensures { IfOk result (λ t. t ≡ empty_beginning source whole.now) }
     {
-        let bytes = Vec::with_capacity(alloc, size)?;
+        let whole = whole.clone()?;
         Ok(Temp {
             source,
-            room: size,
+            whole,
             chunks: 0,
-            bytes,
+            covered: 0,
         })
     }
 
@@ -61,37 +66,38 @@ impl Temp {
     pub fn is_whole(&self, size: usize) -> bool
         ensures { result ≡ is_whole self.now size }
     {
-        size <= self.bytes.len()
+        size <= self.covered
     }
 
-    /// Copies the next chunk of its file's bytes, or what is left of them. It takes memory only
-    /// where the file has more bytes than there is room for. An allocation failure changes nothing.
-    pub fn copy_chunk(&mut self, whole: &[u8]) -> Result<(), AllocError>
-        requires begun { IsBeginning whole.now self.old }
-        requires more { length self.old.bytes < length whole.now }
-        ensures ok { OnOk result (self.new ≡ longer_beginning whole.now self.old) }
-        ensures err { OnErr result (self.new ≡ self.old) }
-        ensures full { OnErr result (self.old.room < length whole.now) }
+    /// Covers the next chunk of its file's bytes, or what is left of them. It takes no memory, and
+    /// no time by the chunk's size.
+    pub fn copy_chunk(&mut self)
+        requires begun { IsBeginning self.old }
+        requires more { length self.old.bytes < length self.old.whole }
+        ensures longer { self.new ≡ longer_beginning self.old }
         ensures few { self.old.chunks < CHUNKS_MAX }
     {
-        let rest = &whole[self.bytes.len()..];
-        let len = chunk_of(whole.len()).min(rest.len());
-        self.bytes.extend_from_slice(&rest[..len])?;
+        let size = self.whole.len();
+        let left = size - self.covered;
+        let count = chunk_of(size).min(left);
+        self.covered += count;
         self.chunks += 1;
-        Ok(())
     }
 
-    /// Its bytes, with no copy.
-    pub fn into_bytes(self) -> Bytes
+    /// Its bytes, which are still shared with its file.
+    pub fn into_bytes(self) -> FileBytes
         ensures { result ≡ self.bytes }
     {
         let Temp {
             source: _,
-            room: _,
+            mut whole,
             chunks: _,
-            bytes,
+            covered,
         } = self;
-        Bytes::from_vec(bytes)
+        match whole.resize(covered) {
+            Ok(()) => whole,
+            Err(AllocError) => unreachable!(),
+        }
     }
 
     /// Lets it go.

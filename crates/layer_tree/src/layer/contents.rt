@@ -18,12 +18,12 @@ use crate::file_fill::{fill_in, has_marked};
 use crate::file_size::resize_in;
 use crate::file_write::write_in;
 use crate::node::{Inode, Node};
-use ov_base::{AttributeChange, Attributes, Bytes, Content, Path};
+use ov_base::{AttributeChange, Attributes, Content, FileBytes, Path};
 use std::alloc::AllocError;
 
 impl Layer {
     /// The bytes of a file.
-    pub fn read(&self, key: usize) -> Option<&[u8]>
+    pub fn read(&self, key: usize) -> Option<&FileBytes>
         ensures { option_copied result ≡ bytes_at self.now key }
     {
         match self.nodes.get(key) {
@@ -34,13 +34,13 @@ impl Layer {
                         ..
                     },
                 ),
-            ) => Some(bytes.as_slice()),
+            ) => Some(bytes),
             _ => None,
         }
     }
 
     /// The bytes of a file that bears no mark: those of a marked one stand in a layer below.
-    pub fn own(&self, key: usize) -> Option<&[u8]>
+    pub fn own(&self, key: usize) -> Option<&FileBytes>
         ensures { option_copied result ≡ own_at self.now key }
     {
         match self.nodes.get(key) {
@@ -52,7 +52,7 @@ impl Layer {
                         ..
                     },
                 ),
-            ) => Some(bytes.as_slice()),
+            ) => Some(bytes),
             _ => None,
         }
     }
@@ -92,14 +92,13 @@ impl Layer {
         ensures keeps { IsLayer (layer_of self.old) → IsLayer (layer_of self.new) }
         ensures nameless { (k : ℕ) → IsNameless self.old k → IsNameless self.new k }
     {
-        let alloc = self.alloc;
         let node = &mut self.nodes[key];
-        write_in(alloc, node, start, bytes)
+        write_in(node, start, bytes)
     }
 
     /// Cuts the bytes of a file to a length, or fills them with zero bytes up to it, as
     /// ftruncate(2). It fails only when out of memory, and changes nothing then. A cut never fails,
-    /// and gives memory back where less than half of it stays in use.
+    /// and gives back the memory of whole pieces beyond it, and of a small file's greater half.
     pub fn resize(&mut self, key: usize, size: usize) -> Result<(), AllocError>
         requires { IsSome (own_at self.old key) }
         ensures writes { (old : List ℕ) → own_at self.old key ≡ Some old → Writes self.old self.new key (if is_ok result then sized old size else old) }
@@ -113,14 +112,13 @@ impl Layer {
         ensures keeps { IsLayer (layer_of self.old) → IsLayer (layer_of self.new) }
         ensures nameless { (k : ℕ) → IsNameless self.old k → IsNameless self.new k }
     {
-        let alloc = self.alloc;
         let node = &mut self.nodes[key];
-        resize_in(alloc, node, size)
+        resize_in(node, size)
     }
 
     /// Gives a file these bytes of its own, in place of those that it had or of its mark. It takes
     /// no memory.
-    pub fn fill(&mut self, key: usize, bytes: Bytes)
+    pub fn fill(&mut self, key: usize, bytes: FileBytes)
         requires { IsSome (bytes_at self.old key) }
         ensures writes { Writes self.old self.new key bytes }
         ensures sets { SetsBytes (layer_of self.old) (layer_of self.new) key bytes }

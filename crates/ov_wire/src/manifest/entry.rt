@@ -9,8 +9,9 @@ ghost use Rattle.layer_tree.specs.Tree.{leads};
 ghost use Rattle.ov_wire.specs.ManifestEntries.{Answers, IsPlaceable};
 ghost use Rattle.ov_wire.specs.ManifestEntries as spec;
 
+use super::blob::Blob;
 use super::fault::{EntryError, EntryFault};
-use super::file_bytes::{bytes_of, gives_bytes_once, names_blob};
+use super::file_content::{bytes_of, gives_bytes_once, names_blob};
 use super::user_attributes::{is_array_of_pairs, user_attributes_of};
 use layer_tree::{Marks, Object};
 use ov_base::{Attributes, Bytes, Content, LinkTarget, Mode, Name, Path, Redirect, UserAttributes};
@@ -41,7 +42,7 @@ pub(super) enum Item {
 pub(super) fn read(
     alloc: Global,
     limit: u64,
-    blobs: &[Bytes],
+    blobs: &[Blob],
     entry: &Table,
 ) -> Result<(Path, Item), EntryError>
     ensures answer { Answers result (spec.read limit blobs.now (table_view entry.now)) }
@@ -183,7 +184,7 @@ fn has_required(kind: EntryKind, entry: &Table) -> bool
 fn item_of(
     alloc: Global,
     limit: u64,
-    blobs: &[Bytes],
+    blobs: &[Blob],
     kind: EntryKind,
     entry: &Table,
 ) -> Result<Item, EntryError>

@@ -13,6 +13,7 @@ ghost use Rattle.ov_wire.specs.Drafts.{IsDraft, Lists, Tells, Places, Plants, Le
 ghost use Rattle.ov_wire.specs.declared.manifest.entry.Item.TheVariants as PutItem;
 ghost use Rattle.ov_wire.specs.Manifests.{IsOfEntry};
 
+use super::blob::Blob;
 use super::entry::{Item, default_attributes, directory_attributes, read, text_at};
 use super::fault::{EntryError, EntryFault, ManifestFault};
 use super::link_paths::LinkPaths;
@@ -28,7 +29,7 @@ pub(super) fn read_layer(
     alloc: Global,
     keys: RandomState,
     limit: u64,
-    blobs: &[Bytes],
+    blobs: &[Blob],
     index: usize,
     entries: &[Value],
 ) -> Result<Layer, ManifestFault>
@@ -100,7 +101,7 @@ fn is_text_at(entry: &Table, key: &str, word: &str) -> bool
 fn read_entry(
     alloc: Global,
     limit: u64,
-    blobs: &[Bytes],
+    blobs: &[Blob],
     layer: &mut Layer,
     links: &mut LinkPaths,
     root_is_set: bool,

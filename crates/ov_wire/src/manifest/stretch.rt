@@ -1,47 +1,53 @@
-// The bytes that a blob has from a place on.
-ghost use Rattle.std.specs.Prelude.{◌≡◌, ◌≤◌, Ok, Err, IfOk, IfErr, length};
+// Where in a blob the bytes of an entry lie.
+ghost use Rattle.std.specs.Prelude.{◌≡◌, ◌+◌, ◌≤◌, Ok, Err, IfOk, IfErr, drop, length, take};
 ghost use Rattle.ov_wire.specs.ManifestEntries as spec;
 
+use super::blob::Blob;
 use super::entry::number_within;
 use super::fault::EntryFault;
-use ov_base::Bytes;
 
-// The bytes of the blob of a number, from a place on or else from its start, so many or else all that are left.
+// The blob of a number, and where in it the bytes of an entry lie: from a place on or else from its
+// start, so many or else all that are left.
 pub(super) fn stretch(
-    blobs: &[Bytes],
+    blobs: &[Blob],
     number: i64,
     at: Option<i64>,
     size: Option<i64>,
-) -> Result<&[u8], EntryFault>
-    ensures ok { IfOk result (λ bytes. spec.stretch blobs.now number at size ≡ Ok bytes.now) }
+) -> Result<(&Blob, usize, usize), EntryFault>
+    ensures ok { IfOk result (λ r.
+        spec.stretch blobs.now number at size ≡ Ok (take r.2 (drop r.1 r.0.now))) }
     ensures err { IfErr result (λ fault. spec.stretch blobs.now number at size ≡ Err fault) }
+    ensures within { IfOk result (λ r. r.1 + r.2 ≤ length r.0.now) }
 {
     let blob = blob_at(blobs, number)?;
-    let start = number_or(blob.len() as u64, 0, at)?;
-    first_of(&blob[start as usize..], size)
+    let bytes = blob.as_slice();
+    let start = number_or(bytes.len() as u64, 0, at)?;
+    let count = count_of(&bytes[start as usize..], size)?;
+    Ok((blob, start as usize, count))
 }
 
-fn blob_at(blobs: &[Bytes], number: i64) -> Result<&[u8], EntryFault>
-    ensures ok { IfOk result (λ bytes. spec.blob_at blobs.now number ≡ Ok bytes.now) }
+fn blob_at(blobs: &[Blob], number: i64) -> Result<&Blob, EntryFault>
+    ensures ok { IfOk result (λ blob. spec.blob_at blobs.now number ≡ Ok blob.now) }
     ensures err { IfErr result (λ fault. spec.blob_at blobs.now number ≡ Err fault) }
 {
     if number < 0 {
         return Err(EntryFault::Value);
     }
     match blobs.get(number as usize) {
-        Some(blob) => Ok(blob.as_slice()),
+        Some(blob) => Ok(blob),
         None => Err(EntryFault::Value),
     }
 }
 
-// So many of these bytes, all of them without a number.
-fn first_of(bytes: &[u8], size: Option<i64>) -> Result<&[u8], EntryFault>
-    ensures ok { IfOk result (λ first. spec.first_of bytes.now size ≡ Ok first.now) }
+// How many of these bytes are taken: so many, all of them without a number.
+fn count_of(bytes: &[u8], size: Option<i64>) -> Result<usize, EntryFault>
+    ensures ok { IfOk result (λ count. spec.first_of bytes.now size ≡ Ok (take count bytes.now)) }
     ensures err { IfErr result (λ fault. spec.first_of bytes.now size ≡ Err fault) }
+    ensures within { IfOk result (λ count. count ≤ length bytes.now) }
 {
     let length = bytes.len() as u64;
     let count = number_or(length, length, size)?;
-    Ok(&bytes[..count as usize])
+    Ok(count as usize)
 }
 
 // A number, which may be at most `most`; `default` without one.

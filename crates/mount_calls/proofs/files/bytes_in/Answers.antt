@@ -8,7 +8,7 @@ use Rattle.mount_calls.proofs.files.bytes_in.Goals as goal
 pub returns-in-Some : goal.returns-in-Some
 returns-in-Some c = λ i h.
     let l = c.args.layers.now in
-    c.kept_bytes.ensures
+    ap (λ o. unwrap_or o []) c.low_bytes.ensures
     ∙ kept-bytes (unwrap_or (lower_bytes (lowers_of l) (low_place c.in-Some.low)) []) (source_inode (upper_of l) (lowers_of l) c.args.file.source) i
     (sym (ap (seen_inode (upper_of l) (lowers_of l) c.args.file.source) c.in-Some.is) ∙ h)
 

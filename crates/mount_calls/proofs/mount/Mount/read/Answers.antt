@@ -1,7 +1,6 @@
-use Rattle.std.proofs.Common.{ℕ, List, refl, sym, subst}
+use Rattle.std.proofs.Common.{ℕ, List, [], refl, option_copied, unwrap_or}
 use Rattle.ov_base.specs.declared.call.Call.TheVariants as call
 use Rattle.ov_base.specs.declared.reply.Reply.TheVariants as reply
-use Rattle.mount_calls.specs.Making.{ServesEach}
 use Rattle.mount_calls.proofs.FileReads.{read-refused, read-done}
 use Rattle.mount_calls.proofs.MakingCalls.{attached-same, makes-nothing, makes-read}
 use Rattle.mount_calls.proofs.Serving.{keeps-attached}
@@ -13,8 +12,8 @@ returns-in-Err c =
     makes-read c.args.client (call.Read c.args.descriptor c.args.count) m m (attached-same m.clients) refl (reply.Refused c.in-Err.errno) (λ s. refl)
     (λ s st. read-refused m s st c.args.client c.args.descriptor c.args.count c.in-Err.errno c.in-Err.ensures.refused)
 
-pub returns-in_err-copy : goal.returns-in_err-copy
-returns-in_err-copy c =
+pub returns-in_err-read : goal.returns-in_err-read
+returns-in_err-read c =
     makes-nothing c.args.client (call.Read c.args.descriptor c.args.count) c.args.self.now c.from_residual.result c.from_residual.ensures.0
 
 pub returns : goal.returns
@@ -23,7 +22,8 @@ returns c =
     let client = c.args.client in
     let k = call.Read c.args.descriptor c.args.count in
     let new = record m { clients = c.move_to.new.self } in
-    makes-read client k m new (keeps-attached m.clients c.move_to.new.self client _ c.move_to.ensures) refl (reply.Read c.in_ok-copy.copy) (λ s. refl)
-    (subst (λ (copy : List ℕ). ServesEach client k m new (reply.Read copy)) (sym c.in_ok-copy.ensures)
+    let read = c.in_ok-read.read in
+    let bytes : List ℕ = unwrap_or (option_copied c.bytes_in-bytes.result) [] in
+    makes-read client k m new (keeps-attached m.clients c.move_to.new.self client _ c.move_to.ensures) refl (reply.Read read) (λ s. refl)
     (λ s st. read-done m s st client c.args.descriptor c.args.count c.in-Ok.file c.in-Ok.ensures.file.0 c.in-Ok.ensures.file.1
-    c.bytes_in.result.now c.read_at-bytes.result.now c.bytes_in.ensures c.read_at-bytes.ensures c.move_to.new.self c.move_to.ensures))
+    bytes read c.bytes_in-bytes.ensures c.in_ok-read.ensures.bytes c.move_to.new.self (rw c.as_slice.ensures at c.move_to.ensures))

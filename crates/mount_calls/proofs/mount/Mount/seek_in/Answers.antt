@@ -1,4 +1,4 @@
-use Rattle.std.proofs.Common.{◌≡◌, ℤ, Ok, Err, length, refl, sym, ap, ◌∙◌}
+use Rattle.std.proofs.Common.{◌≡◌, ℕ, ℤ, List, [], Ok, Err, length, option_copied, refl, sym, ap, unwrap_or, ◌∙◌}
 use Rattle.std.proofs.lemmas.Int.{to_z-of_z}
 use mir.Syntax.{w64}
 use Rattle.ov_base.specs.declared.call.Call.TheVariants as call
@@ -14,17 +14,21 @@ returns-in-Ok c =
     let m = c.args.self.now in
     let new = c.move_to.new.self in
     let same = to_z-of_z w64 c.args.offset c.ranges.offset in
-    let to : seek_place c.args.file (length c.bytes_in-size.result.now) c.args.offset c.args.whence ≡ Ok c.in-Ok.place =
-    sym (c.in-Ok.ensures ∙ ap (λ (z : ℤ). seek_place c.args.file (length c.bytes_in-size.result.now) z c.args.whence) same) in
+    let bytes : List ℕ = unwrap_or (option_copied c.bytes_in.result) [] in
+    let to : seek_place c.args.file (length bytes) c.args.offset c.args.whence ≡ Ok c.in-Ok.place =
+    sym (c.in-Ok.ensures ∙ ap (λ (z : ℤ). seek_place c.args.file c.size_of-size.result z c.args.whence) same
+    ∙ ap (λ n. seek_place c.args.file n c.args.offset c.args.whence) c.size_of-size.ensures) in
     makes-read c.args.client (call.Seek c.args.descriptor c.args.offset c.args.whence) m (record m { clients = new })
     (keeps-attached m.clients new c.args.client _ c.move_to.ensures) refl (reply.Place c.in-Ok.place) (λ s. refl)
-    (λ s st. file-sought m s st c.args.client c.args.descriptor c.args.offset c.args.whence c.args.file c.requires c.bytes_in-size.result.now c.bytes_in-size.ensures c.in-Ok.place to new c.move_to.ensures)
+    (λ s st. file-sought m s st c.args.client c.args.descriptor c.args.offset c.args.whence c.args.file c.requires bytes c.bytes_in.ensures c.in-Ok.place to new c.move_to.ensures)
 
 pub returns-in-Err : goal.returns-in-Err
 returns-in-Err c =
     let m = c.args.self.now in
     let same = to_z-of_z w64 c.args.offset c.ranges.offset in
-    let to : seek_place c.args.file (length c.bytes_in-size.result.now) c.args.offset c.args.whence ≡ Err c.in-Err.errno =
-    sym (c.in-Err.ensures ∙ ap (λ (z : ℤ). seek_place c.args.file (length c.bytes_in-size.result.now) z c.args.whence) same) in
+    let bytes : List ℕ = unwrap_or (option_copied c.bytes_in.result) [] in
+    let to : seek_place c.args.file (length bytes) c.args.offset c.args.whence ≡ Err c.in-Err.errno =
+    sym (c.in-Err.ensures ∙ ap (λ (z : ℤ). seek_place c.args.file c.size_of-size.result z c.args.whence) same
+    ∙ ap (λ n. seek_place c.args.file n c.args.offset c.args.whence) c.size_of-size.ensures) in
     makes-read c.args.client (call.Seek c.args.descriptor c.args.offset c.args.whence) m m (attached-same m.clients) refl (reply.Refused c.in-Err.errno) (λ s. refl)
-    (λ s st. file-unsought m s st c.args.client c.args.descriptor c.args.offset c.args.whence c.args.file c.requires c.bytes_in-size.result.now c.bytes_in-size.ensures c.in-Err.errno to)
+    (λ s st. file-unsought m s st c.args.client c.args.descriptor c.args.offset c.args.whence c.args.file c.requires bytes c.bytes_in.ensures c.in-Err.errno to)

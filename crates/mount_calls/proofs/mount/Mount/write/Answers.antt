@@ -1,4 +1,4 @@
-use Rattle.std.proofs.Common.{◌≡◌, refl, sym, ap, ◌∙◌, length, nat_eq, take}
+use Rattle.std.proofs.Common.{◌≡◌, ℕ, List, [], refl, sym, ap, ◌∙◌, length, nat_eq, option_copied, take, unwrap_or}
 use Rattle.ov_base.specs.declared.call.Call.TheVariants as call
 use Rattle.ov_base.specs.declared.reply.Reply.TheVariants as reply
 use Rattle.mount_calls.specs.Making.{ServesEach}
@@ -30,9 +30,10 @@ pub returns-in-Err-fitting : goal.returns-in-Err-fitting
 returns-in-Err-fitting c =
     let m = c.args.self.now in
     let file = rw c.as_slice-bytes.ensures at c.in-Ok.ensures.file in
+    let held : List ℕ = unwrap_or (option_copied c.bytes_in.result) [] in
     makes-refused c.args.client (call.Write c.args.descriptor c.args.bytes.now) m m (attached-same m.clients) refl c.in-Err-fitting.errno (λ s. refl)
-    (λ s st. write-unfitting m s st c.args.client c.args.descriptor c.args.bytes.now c.in-Ok.file file.0 file.1 c.bytes_in.result.now c.bytes_in.ensures
-    c.write_place-start.result c.write_place-start.ensures.machine c.in-Err-fitting.errno (sym (rw c.as_slice-bytes.ensures at c.in-Err-fitting.ensures.count)))
+    (λ s st. write-unfitting m s st c.args.client c.args.descriptor c.args.bytes.now c.in-Ok.file file.0 file.1 held c.bytes_in.ensures
+    c.write_place-start.result (rw c.size_of.ensures at c.write_place-start.ensures.machine) c.in-Err-fitting.errno (sym (rw c.as_slice-bytes.ensures at c.in-Err-fitting.ensures.count)))
 
 pub returns-in_err-write_file : goal.returns-in_err-write_file
 returns-in_err-write_file c =
@@ -51,10 +52,11 @@ returns c =
     let now = record m { layers = c.write_file.new.layers; clients = c.move_to.new.self } in
     let file = rw c.as_slice-bytes.ensures at c.in-Ok.ensures.file in
     let made = c.in_ok-write_file.ensures in
+    let held : List ℕ = unwrap_or (option_copied c.bytes_in.result) [] in
     let fit = ap (take count) c.as_slice-bytes.ensures ∙ c.in-Ok-fitting.ensures.machine bytes (ap length (sym c.as_slice-bytes.ensures)) in
     let served : ServesEach client k m now (reply.Written count) = λ s st.
-    write-done m s st client fd bytes c.in-Ok.file file.0 file.1 c.bytes_in.result.now c.bytes_in.ensures
-    c.write_place-start.result c.write_place-start.ensures.machine
+    write-done m s st client fd bytes c.in-Ok.file file.0 file.1 held c.bytes_in.ensures
+    c.write_place-start.result (rw c.size_of.ensures at c.write_place-start.ensures.machine)
     (sym (ap (λ z. nat_eq (length z) 0) c.as_slice-bytes.ensures) ∙ sym c.is_empty.ensures ∙ c.if-is_empty.false)
     count (sym (rw c.as_slice-bytes.ensures at c.in-Ok-fitting.ensures.count)) (take count c.as_slice-bytes.result.now) fit
     c.write_file.new.layers made.sound.layers made.sets c.move_to.new.self c.move_to.ensures in

@@ -1,0 +1,6 @@
+use Rattle.std.proofs.Common.{◌≡◌}
+use Rattle.ov_server.proofs.saved_bytes.put_pairs.Given as goal
+
+-- no device has failed so far
+abbrev pub invariant-loop-byte : goal.invariant-loop-byte
+invariant-loop-byte g l = g.K.Sink.failures l.output.sink ≡ g.K.Sink.failures l.initial.output.sink
