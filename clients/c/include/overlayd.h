@@ -50,7 +50,8 @@ enum ovl_status {
     OVL_NO_JOB = 12,     /* no job of this number is there */
     OVL_REFUSED = 13,    /* refused, by an error number of docs/FORMATS.md */
     OVL_NO_UPPER = 14,   /* the mount has no upper layer */
-    OVL_UPPER_FAULT = 15 /* the saved upper is at fault */
+    OVL_UPPER_FAULT = 15,/* the saved upper is at fault */
+    OVL_NO_LAYER = 16    /* the mount has no layer of this number */
 };
 
 /* The version of these calls: the major number, and the minor one in the low 16 bits. */
@@ -154,12 +155,18 @@ int32_t ovl_place(ovl_mount *mount, const uint8_t *path, size_t path_length, siz
 
 /* Saves the upper as a manifest of one layer, the very bytes that the program's --save writes; the
  * mount's own manifest goes on with it (docs/FORMATS.md, A saved upper). The mount keeps the text
- * until the upper is saved again, and ovl_saved gives it. *length is how long it is, and *left_out
+ * until the next ovl_save or ovl_layer, and ovl_saved gives it. *length is how long it is, and *left_out
  * how many objects no manifest can say, which aren't in it. OVL_OK; OVL_NOT_MOUNTED, OVL_NO_UPPER,
  * OVL_NO_MEMORY: what was saved before stays, and *length and *left_out are 0. */
 int32_t ovl_save(ovl_mount *mount, size_t *length, uint64_t *left_out);
 
-/* Gives a piece of the text that ovl_save made last: its bytes from number `at` on, as far as there
+/* Lists a layer, line by line as the program's `layer` prints it (docs/FORMATS.md, Lines): 0 is the
+ * upper, where there is one, and the lower ones count from 1. The mount keeps the text as that of
+ * ovl_save, in its place, and ovl_saved gives it. *length is how long it is. OVL_OK;
+ * OVL_NOT_MOUNTED, OVL_NO_LAYER, OVL_NO_MEMORY: what was kept before stays, and *length is 0. */
+int32_t ovl_layer(ovl_mount *mount, uint32_t layer, size_t *length);
+
+/* Gives a piece of the text that ovl_save or ovl_layer made last: its bytes from number `at` on, as far as there
  * are any and there is room, go into `text`, and *count is how many they are, 0 where `at` is the
  * length or more. What is behind them stays. OVL_OK; OVL_NOT_MOUNTED, by which *count is 0. */
 int32_t ovl_saved(ovl_mount *mount, size_t at, uint8_t *text, size_t room, size_t *count);

@@ -111,6 +111,11 @@ static void save_twice(ovl_mount *mount, long number)
     int32_t status = ovl_save(mount, &length, &left_out);
     CHECK(status == OVL_OK ? length == before : status == OVL_NO_MEMORY && length == 0);
     CHECK(ovl_saved(mount, before - 1, reply, sizeof reply, &count) == OVL_OK && count == 1);
+    /* A layer's lines take its place whole: those of its root, of /d and of /d/f. */
+    status = ovl_layer(mount, 1, &length);
+    CHECK(status == OVL_OK ? length == 55 : status == OVL_NO_MEMORY && length == 0);
+    CHECK(ovl_saved(mount, 0, reply, sizeof reply, &count) == OVL_OK);
+    CHECK(count == (status == OVL_OK ? length : before));
 }
 
 /* A session in which the request of this number is refused, and all behind it where that is so for

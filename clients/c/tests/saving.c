@@ -200,6 +200,51 @@ static void left_out_of_it(void)
     ovl_unmount(&mount);
 }
 
+/* A layer line by line, as docs/FORMATS.md says. */
+static void is_listed(ovl_mount *mount, uint32_t layer, const char *lines)
+{
+    size_t length = 77, count = 77;
+    CHECK(ovl_layer(mount, layer, &length) == OVL_OK && length == strlen(lines));
+    CHECK(ovl_saved(mount, 0, text, ROOM, &count) == OVL_OK && count == length);
+    CHECK(memcmp(text, lines, length) == 0);
+}
+
+static void layers_line_by_line(void)
+{
+    ovl_mount mount = OVL_NONE;
+    uint64_t client, left_out;
+    size_t length = 9, count = 9;
+    CHECK(ovl_layer(&mount, 0, &length) == OVL_NOT_MOUNTED && length == 0);
+    CHECK(mount_over(&mount, (const uint8_t *)"[[layer]]\n", 10) == OVL_OK);
+    CHECK(ovl_attach(&mount, &client) == OVL_OK);
+    is_listed(&mount, 0, "d 0755 0 0 0 1 /\n");
+    change(&mount);
+    is_listed(&mount, 0,
+              "d 0755 0 0 0 1 /\n"
+              "d 0755 0 0 0 1 /d\n"
+              "f 0640 0 0 5 1 /d/f\n"
+              "c 0000 0 0 0 1 /gone\n"
+              "d 0750 7 8 0 1 /new\n"
+              "f 0644 0 0 3 1 /new/bytes\n"
+              "l 0777 0 0 4 1 /sym -> /d/f\n"
+              "f 0600 0 0 3 2 /text\n"
+              "f 0600 0 0 3 2 /zlink\n");
+    is_listed(&mount, 1,
+              "d 0755 0 0 0 1 /\n"
+              "d 0755 0 0 0 1 /d\n"
+              "f 0644 0 0 5 1 /d/f\n"
+              "f 0644 0 0 0 1 /gone\n");
+    size_t saved = save(&mount, again, ROOM, &left_out);
+    CHECK(ovl_layer(&mount, 2, &length) == OVL_NO_LAYER && length == 0);
+    CHECK(ovl_saved(&mount, 0, text, ROOM, &count) == OVL_OK && count == saved);
+    CHECK(memcmp(text, again, saved) == 0);
+    ovl_unmount(&mount);
+    CHECK(mount_text(&mount, "upper = false\nlayer = [{}, {}]") == OVL_OK);
+    CHECK(ovl_layer(&mount, 0, &length) == OVL_NO_LAYER && length == 0);
+    is_listed(&mount, 2, "d 0755 0 0 0 1 /\n");
+    ovl_unmount(&mount);
+}
+
 static int32_t mount_upper(ovl_mount *mount, const char *upper, const char *base, char *fault)
 {
     static const uint8_t keys[16] = "not to be known";
@@ -282,6 +327,7 @@ void saving(void)
     names_of_blobs();
     saved_and_mounted_again();
     between_calls();
+    layers_line_by_line();
     nothing_to_save();
     left_out_of_it();
 }

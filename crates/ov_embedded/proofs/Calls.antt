@@ -56,7 +56,7 @@ written : (client : ℕ) (bytes : List ℕ) (old new : Mounted) (answer : Answer
     IsAnswered client bytes old new answer → Writes new.reply.items answer result →
     Comes client bytes old new result
 written client bytes old new answer outcome.Done a w = (answer, a, w)
-written client bytes old new answer outcome.Unwritten a w = (answer, a)
+written client bytes old new answer outcome.Unwritten a w = (answer, a, w)
 written client bytes old new answer outcome.NotMounted a w = absurd w
 written client bytes old new answer outcome.NoClient a w = absurd w
 written client bytes old new answer outcome.NoFrame a w = absurd w
@@ -70,6 +70,7 @@ written client bytes old new answer outcome.More a w = absurd w
 written client bytes old new answer outcome.NoJob a w = absurd w
 written client bytes old new answer outcome.NoUpper a w = absurd w
 written client bytes old new answer outcome.Upper a w = absurd w
+written client bytes old new answer outcome.NoLayer a w = absurd w
 written client bytes old new answer (outcome.Refused errno) a w = absurd w
 
 -- a call was made
@@ -121,6 +122,7 @@ comes_of_none client bytes old outcome.More r = absurd r
 comes_of_none client bytes old outcome.NoJob r = absurd r
 comes_of_none client bytes old outcome.NoUpper r = absurd r
 comes_of_none client bytes old outcome.Upper r = absurd r
+comes_of_none client bytes old outcome.NoLayer r = absurd r
 comes_of_none client bytes old (outcome.Refused errno) r = absurd r
 
 -- nothing is shown of what isn't done
@@ -141,6 +143,7 @@ shows_nothing outcome.More frame room h = (refl, refl)
 shows_nothing outcome.NoJob frame room h = (refl, refl)
 shows_nothing outcome.NoUpper frame room h = (refl, refl)
 shows_nothing outcome.Upper frame room h = (refl, refl)
+shows_nothing outcome.NoLayer frame room h = (refl, refl)
 shows_nothing (outcome.Refused errno) frame room h = (refl, refl)
 
 -- what isn't true is false

@@ -22,14 +22,14 @@ module _ {R : Type 0} (none : R) (Does : Mounted → Mounted → R → Type 0)
 
 module _ (Is : Mounted → Type 0) where
   -- a handle that holds a mount keeps it
-  kept_as : (old new : Option Mounted) (was now : Mounted) → old ≡ Some was → now ≡ was →
+  pub kept_as : (old new : Option Mounted) (was now : Mounted) → old ≡ Some was → now ≡ was →
       new ≡ Some now → MountsAs Is old new outcome.Mounted
   kept_as old new was now held same holds =
       subst (λ o. MountsAs Is o new outcome.Mounted) (sym held)
       (holds ∙ ap (λ m. Some m) same, refl)
 
   -- one of nothing holds the mount that was made
-  made_as : (old new : Option Mounted) (m : Mounted) → old ≡ None → new ≡ Some m → Is m →
+  pub made_as : (old new : Option Mounted) (m : Mounted) → old ≡ None → new ≡ Some m → Is m →
       IsFresh m → MountsAs Is old new outcome.Done
   made_as old new m nothing holds is fresh =
       subst (λ o. MountsAs Is o new outcome.Done) (sym nothing) (m, holds, is, fresh)
@@ -52,9 +52,10 @@ module _ (Is : Mounted → Type 0) where
   refused new outcome.More nothing r = absurd r
   refused new outcome.NoJob nothing r = absurd r
   refused new outcome.NoUpper nothing r = absurd r
+  refused new outcome.NoLayer nothing r = absurd r
   refused new (outcome.Refused errno) nothing r = absurd r
 
-  nothing_as : (old new : Option Mounted) (result : Outcome) → old ≡ None → new ≡ None →
+  pub nothing_as : (old new : Option Mounted) (result : Outcome) → old ≡ None → new ≡ None →
       IsRefusal result → MountsAs Is old new result
   nothing_as old new result was nothing r =
       subst (λ o. MountsAs Is o new result) (sym was) (refused new result nothing r)

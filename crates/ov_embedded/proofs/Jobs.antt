@@ -29,7 +29,7 @@ turned : (client : ℕ) (bytes : List ℕ) (old new : Mounted) (errno : Errno) (
     IsTurnedDown bytes old new errno → Writes new.reply.items (NotTaken errno) result →
     Begins client bytes old new result 0
 turned client bytes old new errno outcome.Done t w = (errno, t, w)
-turned client bytes old new errno outcome.Unwritten t w = (errno, t)
+turned client bytes old new errno outcome.Unwritten t w = (errno, t, w)
 turned client bytes old new errno outcome.NotMounted t w = absurd w
 turned client bytes old new errno outcome.NoClient t w = absurd w
 turned client bytes old new errno outcome.NoFrame t w = absurd w
@@ -43,6 +43,7 @@ turned client bytes old new errno outcome.More t w = absurd w
 turned client bytes old new errno outcome.NoJob t w = absurd w
 turned client bytes old new errno outcome.NoUpper t w = absurd w
 turned client bytes old new errno outcome.Upper t w = absurd w
+turned client bytes old new errno outcome.NoLayer t w = absurd w
 turned client bytes old new errno (outcome.Refused e) t w = absurd w
 
 pub begins_refused : (client : ℕ) (bytes : List ℕ) (old new : Mounted) (errno : Errno)
@@ -74,6 +75,7 @@ begins_started client bytes old new call outcome.Mounted number r is same reply 
 begins_started client bytes old new call outcome.NoJob number r is same reply s = absurd s
 begins_started client bytes old new call outcome.NoUpper number r is same reply s = absurd s
 begins_started client bytes old new call outcome.Upper number r is same reply s = absurd s
+begins_started client bytes old new call outcome.NoLayer number r is same reply s = absurd s
 begins_started client bytes old new call (outcome.Refused e) number r is same reply s = absurd s
 
 -- the bytes ask for nothing
@@ -95,6 +97,7 @@ begins_none client bytes old outcome.More r = absurd r
 begins_none client bytes old outcome.NoJob r = absurd r
 begins_none client bytes old outcome.NoUpper r = absurd r
 begins_none client bytes old outcome.Upper r = absurd r
+begins_none client bytes old outcome.NoLayer r = absurd r
 begins_none client bytes old (outcome.Refused e) r = absurd r
 
 -- the answer to a last step was written or not
@@ -103,7 +106,7 @@ ended : (number : ℕ) (old new : Mounted) (last : Turn) (result : Outcome) →
     Writes new.reply.items (answer_by (core_finished old.core) last) result →
     Steps number old new result
 ended number old new last outcome.Done e w = (last, e, w)
-ended number old new last outcome.Unwritten e w = (last, e)
+ended number old new last outcome.Unwritten e w = (last, e, w)
 ended number old new last outcome.NotMounted e w = absurd w
 ended number old new last outcome.NoClient e w = absurd w
 ended number old new last outcome.NoFrame e w = absurd w
@@ -117,6 +120,7 @@ ended number old new last outcome.More e w = absurd w
 ended number old new last outcome.NoJob e w = absurd w
 ended number old new last outcome.NoUpper e w = absurd w
 ended number old new last outcome.Upper e w = absurd w
+ended number old new last outcome.NoLayer e w = absurd w
 ended number old new last (outcome.Refused errno) e w = absurd w
 
 -- what is said of a job that is there

@@ -1,10 +1,16 @@
 -- The names of blobs, one behind the other.
-use Rattle.std.proofs.Common.{◌≡◌, ℕ, ◌+◌, ◌<◌, ◌≤◌, List, [], ◌∷◌, ◌++◌, length, get_or, map, drop, Some, sym, ap, ◌∙◌}
+use Rattle.std.proofs.Common.{◌≡◌, ℕ, ◌+◌, ◌<◌, ◌≤◌, List, [], ◌∷◌, ◌++◌, length, get_or, map, drop, Some, Result, Ok, Err, IsErr, IsOk, IsSome, IsUtf8, inl, inr, refl, subst, sym, ap, ◌∙◌}
 use Rattle.std.proofs.lemmas.List.{append-nil, append_assoc, drop_all, drop_more, length-map}
 use Rattle.toml.specs.Data.{Members}
 use Rattle.toml.specs.Parse.{parse_document}
-use Rattle.ov_wire.specs.Manifests.{blob_names}
-use Rattle.ov_embedded.specs.Naming.{AreNames, names_text}
+use Rattle.ov_wire.specs.Manifests.{IsMemory, blob_names, whole_of}
+use Rattle.ov_wire.specs.declared.manifest.fault.ManifestFault.{ManifestFault}
+use Rattle.ov_wire.specs.declared.manifest.fault.ManifestFault.TheVariants as fault
+use Rattle.ov_embedded.specs.Mounting.{IsToldAs, of_manifest}
+use Rattle.ov_embedded.specs.Naming.{AreNames, IsNameless, TellsNames, names_text}
+use Rattle.ov_embedded.specs.declared.manifest.Unmountable.{Unmountable}
+use Rattle.ov_embedded.specs.declared.manifest.Unmountable.TheVariants as unmountable
+use Rattle.ov_embedded.specs.declared.outcome.Outcome.{Outcome}
 
 module _ {A : Type 0} (view : A → List ℕ) (names : List A) where
   -- one more name
@@ -41,3 +47,44 @@ module _ {A : Type 0} (view : A → List ℕ) (names : List A) where
     spelled ∙ ap names_text same,
     counted ∙ (sym (length-map names view) ∙ ap length same),
   )
+
+-- what isn't well is a fault
+not_ok : {T E : Type 0} (r : Result T E) → (IsOk r → ⊥) → IsErr r
+not_ok (Ok x) h = absurd (h refl)
+not_ok (Err e) h = refl
+
+-- no names come of bytes that are no TOML
+pub nameless_bytes : (manifest : List ℕ) (f : ManifestFault) →
+    (IsUtf8 manifest → IsSome (parse_document manifest) → IsMemory f) →
+    IsNameless manifest (of_manifest f)
+nameless_bytes manifest f =
+    elim f as (λ x.
+    (IsUtf8 manifest → IsSome (parse_document manifest) → IsMemory x) →
+    IsNameless manifest (of_manifest x)) [
+      | fault.Memory e ↦ λ h. tt
+      | _ ↦ λ h. inl h
+    ]
+
+-- nor of a manifest whose whole is at fault
+pub nameless_whole : (manifest : List ℕ) (m : Members) (f : ManifestFault) →
+    parse_document manifest ≡ Some m → (IsOk (whole_of m) → IsMemory f) →
+    IsNameless manifest (of_manifest f)
+nameless_whole manifest m f document =
+    elim f as (λ x. (IsOk (whole_of m) → IsMemory x) → IsNameless manifest (of_manifest x)) [
+      | fault.Memory e ↦ λ h. tt
+      | _ ↦ λ h. inr (m, document, not_ok (whole_of m) h)
+    ]
+
+-- what has none is told so
+pub tells_none : (manifest before after : List ℕ) (why : Unmountable) (result : Outcome)
+    (told : ℕ) → IsNameless manifest why → IsToldAs why result →
+    TellsNames manifest before after result told 0
+tells_none manifest before after (unmountable.Manifest f) result told none (inl e) =
+    subst (λ r. TellsNames manifest before after r told 0) (sym e) (none, refl)
+tells_none manifest before after unmountable.Memory result told none (inl e) =
+    subst (λ r. TellsNames manifest before after r told 0) (sym e) refl
+tells_none manifest before after (unmountable.Upper f) result told none e = absurd none
+tells_none manifest before after (unmountable.Blob n) result told none e = absurd none
+tells_none manifest before after unmountable.Layers result told none e = absurd none
+tells_none manifest before after why result told none (inr e) =
+    subst (λ r. TellsNames manifest before after r told 0) (sym e) refl

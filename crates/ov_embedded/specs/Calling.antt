@@ -53,10 +53,10 @@ IsAnswered client bytes old new answer =
     × Answers (asked_of request) told answer × Makes client old.core told new.core
     × KeepsJobs old new
 
--- the frame of an answer is kept, unless there is no memory for it
+-- the frame of an answer is kept; where there is no memory for it, none is
 abbrev pub Writes : List ℕ → Answer → Outcome → Type 0
 Writes frame answer outcome.Done = frame ≡ answer_frame answer
-Writes frame answer outcome.Unwritten = Unit {0}
+Writes frame answer outcome.Unwritten = frame ≡ []
 Writes frame answer _ = ⊥
 
 -- what a call comes to
@@ -65,7 +65,7 @@ Comes client bytes old new outcome.Done =
     (answer : Answer) × IsAnswered client bytes old new answer
     × (new.reply.items ≡ answer_frame answer)
 Comes client bytes old new outcome.Unwritten =
-    (answer : Answer) × IsAnswered client bytes old new answer
+    (answer : Answer) × IsAnswered client bytes old new answer × (new.reply.items ≡ [])
 Comes client bytes old new outcome.NoClient = (new ≡ old) × (has_client old.core client ≡ false)
 Comes client bytes old new outcome.NoFrame =
     (new ≡ old) × ((request : Request) → front_of bytes ≢ Whole request (length bytes))

@@ -1,5 +1,5 @@
 -- The mount of a manifest.
-use Rattle.std.specs.Prelude.{◌≡◌, ◌≢◌, ℕ, Bool, cond, not, true, List, [], ◌∷◌, take, drop, Option, Some, None, Ok}
+use Rattle.std.specs.Prelude.{◌≡◌, ◌≢◌, ℕ, Bool, cond, not, true, List, [], ◌∷◌, take, drop, Option, Some, None, Ok, ◌⊎◌}
 use Rattle.toml.specs.Data.{Data, Members}
 use Rattle.toml.specs.Parse.{parse_document}
 use Rattle.layer_tree.specs.Tree.{layer_of}
@@ -74,6 +74,16 @@ of_manifest f = unmountable.Manifest f
 abbrev pub IsUnmountable : List (List ℕ) → Members → Unmountable → Type 0
 IsUnmountable blobs m (unmountable.Manifest f) = IsTold (fault_of (manifest_of blobs m)) f
 IsUnmountable blobs m _ = Unit {0}
+
+-- the outcome by which that is told
+abbrev pub outcome_of : Unmountable → Outcome
+outcome_of (unmountable.Upper f) = outcome.Upper
+outcome_of unmountable.Memory = outcome.NoMemory
+outcome_of _ = outcome.Fault
+
+-- so it is, or memory ran out for its text
+abbrev pub IsToldAs : Unmountable → Outcome → Type 0
+IsToldAs why result = (result ≡ outcome_of why) ⊎ (result ≡ outcome.NoMemory)
 
 -- an outcome by which nothing is mounted
 abbrev pub IsRefusal : Outcome → Type 0

@@ -1,5 +1,5 @@
 -- What a call in steps is.
-use Rattle.std.specs.Prelude.{◌≡◌, ◌≢◌, ℕ, ◌+◌, ◌≤◌, ◌^◌, true, false, List, length, Some, None, IsSomeAnd, Ok, Err}
+use Rattle.std.specs.Prelude.{◌≡◌, ◌≢◌, ℕ, ◌+◌, ◌≤◌, ◌^◌, true, false, List, [], length, Some, None, IsSomeAnd, Ok, Err}
 use Rattle.ov_base.specs.declared.call.Call.{Call}
 use Rattle.ov_base.specs.declared.errno.Errno.{Errno}
 use Rattle.ov_base.specs.declared.errno.Errno.TheVariants.{ENOMEM}
@@ -55,7 +55,7 @@ Begins client bytes old new outcome.Done number =
     (errno : Errno) × IsTurnedDown bytes old new errno
     × (new.reply.items ≡ answer_frame (NotTaken errno))
 Begins client bytes old new outcome.Unwritten number =
-    (errno : Errno) × IsTurnedDown bytes old new errno
+    (errno : Errno) × IsTurnedDown bytes old new errno × (new.reply.items ≡ [])
 Begins client bytes old new outcome.NoClient number =
     (new ≡ old) × (has_client old.core client ≡ false)
 Begins client bytes old new outcome.NoFrame number =
@@ -108,7 +108,8 @@ Steps number old new outcome.More =
 Steps number old new outcome.Done =
     (turn : Turn) × IsEnded number old new turn
     × (new.reply.items ≡ answer_frame (answer_by (core_finished old.core) turn))
-Steps number old new outcome.Unwritten = (turn : Turn) × IsEnded number old new turn
+Steps number old new outcome.Unwritten =
+    (turn : Turn) × IsEnded number old new turn × (new.reply.items ≡ [])
 Steps number old new outcome.NoJob = (new ≡ old) × (job_of old number ≡ None)
 Steps number old new outcome.NoClient =
     (job : Job) × (job_of old number ≡ Some job)

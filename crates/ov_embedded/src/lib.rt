@@ -26,9 +26,10 @@ pub use naming::blob_names;
 pub use outcome::Outcome;
 pub use saving::Saved;
 pub use through::{
-    attach_through, call_through, detach_through, mount_through, reply_through, unmount_through,
+    attach_through, call_through, detach_through, mount_core_through, mount_through, reply_through,
+    unmount_through,
 };
 pub use through_jobs::{
     begin_through, drop_through, place_through, read_through, step_through, write_through,
 };
-pub use through_uppers::{mount_on_through, save_through, saved_through};
+pub use through_uppers::{layer_through, mount_on_through, save_through, saved_through};

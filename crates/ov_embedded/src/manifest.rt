@@ -2,7 +2,8 @@
 ghost use Rattle.std.specs.Prelude.{◌≡◌, IfErr, IfOk};
 ghost use Rattle.toml.specs.View.{table_view};
 ghost use Rattle.ov_embedded.specs.Mounting as mounting;
-ghost use Rattle.ov_embedded.specs.Mounting.{IsFresh, IsMountOf, IsMounted, IsRefusal, IsUnmountable, pieces_of};
+ghost use Rattle.ov_embedded.specs.Mounting.{IsFresh, IsMountOf, IsMounted, IsUnmountable, outcome_of, pieces_of};
+ghost use Rattle.ov_embedded.specs.declared.manifest.Unmountable.TheVariants as unmountable;
 
 use crate::mounted::Mounted;
 use crate::outcome::Outcome;
@@ -103,12 +104,14 @@ impl Mounted {
 impl Unmountable {
     /// By what outcome it is told.
     pub(crate) fn outcome(&self) -> Outcome
-        ensures { IsRefusal result }
+        ensures { result ≡ outcome_of self.now }
     {
         match self {
             Unmountable::Memory => Outcome::NoMemory,
             Unmountable::Upper(_) => Outcome::Upper,
-            _ => Outcome::Fault,
+            Unmountable::Manifest(_) | Unmountable::Blob(_) | Unmountable::Layers => {
+                Outcome::Fault
+            }
         }
     }
 
@@ -137,6 +140,8 @@ impl From<ManifestFault> for Unmountable {
 }
 
 impl From<AllocError> for Unmountable {
+    ghost from_gives = { λ error why. why ≡ unmountable.Memory };
+
     fn from(_fault: AllocError) -> Unmountable {
         Unmountable::Memory
     }

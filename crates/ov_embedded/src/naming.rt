@@ -1,6 +1,6 @@
 // The names of the files whose bytes are a manifest's blobs.
-ghost use Rattle.std.specs.Prelude.{◌≡◌, IfOk, map};
-ghost use Rattle.ov_embedded.specs.Naming.{AreNames, TellsNames, names_text};
+ghost use Rattle.std.specs.Prelude.{◌≡◌, IfErr, IfOk, map};
+ghost use Rattle.ov_embedded.specs.Naming.{AreNames, IsNameless, TellsNames, names_text};
 
 use crate::copying::copy_into;
 use crate::manifest::Unmountable;
@@ -25,7 +25,8 @@ fn joined(alloc: Global, names: &[&str]) -> Result<Vec<u8>, AllocError>
 #[tactic(auto, using(crate::proofs::Names::are_names))]
 // The names of the blobs of a manifest, and how many they are.
 fn names_in(alloc: Global, manifest: &[u8]) -> Result<(Vec<u8>, usize), Unmountable>
-    ensures { IfOk result (λ names. AreNames manifest.now names.0.items names.1) }
+    ensures names { IfOk result (λ names. AreNames manifest.now names.0.items names.1) }
+    ensures none { IfErr result (IsNameless manifest.now) }
 {
     let table = table_of(alloc, manifest)?;
     let names = blobs_of(alloc, &table)?;
@@ -33,6 +34,7 @@ fn names_in(alloc: Global, manifest: &[u8]) -> Result<(Vec<u8>, usize), Unmounta
     Ok((text, names.len()))
 }
 
+#[tactic(auto, using(crate::proofs::Names::tells_none))]
 /// Tells the names of a manifest's blobs, one behind the other and each with a zero byte behind it,
 /// and how many they are; or why there are none. The text goes into some room, as far as that goes,
 /// and its length is told.

@@ -34,6 +34,8 @@ pub enum Outcome {
     NoUpper,
     /// The saved upper is at fault; there is a text of why.
     Upper,
+    /// There is no layer of this number.
+    NoLayer,
     /// It was refused, for this reason.
     Refused(Errno),
 }

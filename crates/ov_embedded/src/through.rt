@@ -3,7 +3,7 @@ ghost use Rattle.std.specs.Prelude.{◌≡◌, Err, IfOk};
 ghost use Rattle.std.specs.declared.option.Option.TheVariants.{None};
 ghost use Rattle.ov_embedded.specs.Attending.{Attends, Departs};
 ghost use Rattle.ov_embedded.specs.Calling.{Comes, IsAgain, IsShown};
-ghost use Rattle.ov_embedded.specs.Mounting.{IsFresh, IsMounted, IsRefusal, MountsInto};
+ghost use Rattle.ov_embedded.specs.Mounting.{IsFresh, IsMounted, IsRefusal, IsToldAs, MountsAs, MountsInto};
 ghost use Rattle.ov_embedded.specs.Through.{Through};
 ghost use Rattle.ov_embedded.specs.declared.outcome.Outcome.TheVariants as outcome;
 
@@ -13,6 +13,8 @@ use crate::handle::Handle;
 use crate::manifest::Unmountable;
 use crate::mounted::Mounted;
 use crate::outcome::Outcome;
+use overlay_core::Core;
+use program_hooks::{ByTag, ProgramRule};
 use std::alloc::Global;
 
 // The mount of a manifest, on the heap.
@@ -36,7 +38,8 @@ fn boxed(
 
 /// Tells why there is no mount, with a text in some room, as far as that goes.
 pub(crate) fn told(alloc: Global, why: &Unmountable, room: &mut [u8]) -> (Outcome, usize)
-    ensures { IsRefusal result.0 }
+    ensures refusal { IsRefusal result.0 }
+    ensures told { IsToldAs why.now result.0 }
 {
     match why.text(alloc) {
         Ok(text) => (why.outcome(), copy_into(text.as_bytes(), room)),
@@ -70,6 +73,28 @@ pub fn mount_through(
             (Outcome::Done, 0)
         }
         Err(why) => told(alloc, &why, room),
+    }
+}
+
+#[tactic(auto, using(crate::proofs::Handled::kept_as, crate::proofs::Handled::made_as, crate::proofs::Handled::nothing_as))]
+/// Mounts a core that was made of layers, without a manifest, else as `mount_through` does.
+pub fn mount_core_through(
+    alloc: Global,
+    handle: &mut Handle,
+    core: Core<ByTag, ProgramRule>,
+) -> Outcome
+    ensures { MountsAs (λ m. m.core ≡ core) handle.old.mounted handle.new.mounted result }
+{
+    if let Some(mounted) = handle.take(alloc) {
+        *handle = Handle::of(mounted);
+        return Outcome::Mounted;
+    }
+    match Box::new(alloc, Mounted::of(alloc, core)) {
+        Ok(mounted) => {
+            *handle = Handle::of(mounted);
+            Outcome::Done
+        }
+        Err(_) => Outcome::NoMemory,
     }
 }
 

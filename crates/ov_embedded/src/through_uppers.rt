@@ -2,7 +2,7 @@
 ghost use Rattle.std.specs.Prelude.{◌≡◌, Err, IfOk};
 ghost use Rattle.std.specs.declared.option.Option.TheVariants.{None};
 ghost use Rattle.ov_embedded.specs.Mounting.{IsFresh, IsMountedOn, MountsOnInto};
-ghost use Rattle.ov_embedded.specs.Saving.{Recalls, Saves};
+ghost use Rattle.ov_embedded.specs.Saving.{ListsLayer, Recalls, Saves};
 ghost use Rattle.ov_embedded.specs.Through.{Through};
 ghost use Rattle.ov_embedded.specs.declared.outcome.Outcome.TheVariants as outcome;
 
@@ -74,6 +74,20 @@ pub fn save_through(alloc: Global, handle: &mut Handle) -> Result<Saved, Outcome
     let saved = mounted.save(alloc);
     *handle = Handle::of(mounted);
     saved
+}
+
+/// Keeps the lines of the layer of a number as the program prints them, in the place of the text
+/// that was saved last, and gives how long they are.
+pub fn layer_through(alloc: Global, handle: &mut Handle, index: u32) -> Result<usize, Outcome>
+    ensures { Through (Err outcome.NotMounted) (ListsLayer index) handle.old.mounted
+        handle.new.mounted result }
+{
+    let Some(mut mounted) = handle.take(alloc) else {
+        return Err(Outcome::NotMounted);
+    };
+    let listed = mounted.list_layer(alloc, index);
+    *handle = Handle::of(mounted);
+    listed
 }
 
 /// Copies a piece of the text that was saved last into some room, and gives how many bytes are

@@ -157,8 +157,8 @@ fn put_layer<K: Sink, F: Callback, H: Rule>(
     Ok(())
 }
 
-// Whether a mount has a layer of this number: the upper, where there is one, has 0.
-fn has_layer<F: Callback, H: Rule>(core: &Core<F, H>, index: u32) -> bool
+/// Whether a mount has a layer of this number: the upper, where there is one, has 0.
+pub fn has_layer<F: Callback, H: Rule>(core: &Core<F, H>, index: u32) -> bool
     ensures { result ≡ rosters.is_layer (plays.layers_in core.now) index }
 {
     if index == 0 {

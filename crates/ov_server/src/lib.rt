@@ -21,11 +21,13 @@ mod stage;
 mod stepping;
 
 pub use arguments::{Invocation, Playing, Serving, Source, command_line};
+pub use commands::has_layer;
 pub use devices::Output;
 pub use fault::{DeviceFault, Fault};
 pub use history_length::HistoryLength;
 pub use joining::going_on;
 pub use play::{core_of, play_run, play_run_keeping};
+pub use print_tree::write_layer;
 pub use program_hooks::{ByTag, ProgramRule, hooks_by_slot};
 pub use saving::{LeftOut, save_upper};
 pub use show::show_run;

@@ -8,7 +8,7 @@ use Rattle.ov_embedded.specs.Mounting.{MountsInto, MountsOnInto}
 use Rattle.ov_embedded.specs.Moving.{ReadsOff, WritesOff}
 use Rattle.ov_embedded.specs.Naming.{TellsNames}
 use Rattle.ov_embedded.specs.Placing.{Places}
-use Rattle.ov_embedded.specs.Saving.{Recalls, Saves}
+use Rattle.ov_embedded.specs.Saving.{ListsLayer, Recalls, Saves}
 use Rattle.ov_embedded.specs.Stepping.{BeginsJob, DropsJob, Steps}
 use Rattle.ov_embedded.specs.Through.{Through}
 use Rattle.ov_embedded.specs.declared.mounted.Mounted.{Mounted}
@@ -34,6 +34,7 @@ number_of outcome.NoJob = 12
 number_of (outcome.Refused errno) = 13
 number_of outcome.NoUpper = 14
 number_of outcome.Upper = 15
+number_of outcome.NoLayer = 16
 
 -- the error number of an outcome, or 0
 abbrev pub error_of : Outcome → ℕ
@@ -165,3 +166,10 @@ IsRecalled at before after old new count status =
     (told : Result ℕ Outcome)
     × Through (Err outcome.NotMounted) (Recalls at before after) old new told
     × (old ≡ None → after ≡ before) × TellsCount told count status
+
+-- the lines of a layer are kept, as the numbers say
+abbrev pub IsListed : ℕ → Option Mounted → Option Mounted → ℕ → ℤ → Type 0
+IsListed layer old new length status =
+    (told : Result ℕ Outcome)
+    × Through (Err outcome.NotMounted) (ListsLayer layer) old new told
+    × TellsCount told length status

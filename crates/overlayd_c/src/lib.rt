@@ -4,13 +4,14 @@
 
 ghost use Rattle.std.specs.Prelude.{◌≡◌, pos};
 ghost use Rattle.std.specs.declared.option.Option.TheVariants.{None};
-ghost use Rattle.overlayd_c.specs.Numbers.{AreNamed, Counts, IsAttached, IsBegun, IsCalled, IsDetached, IsDropped, IsMade, IsMadeOn, IsPlaced, IsRead, IsRecalled, IsRepeated, IsSaved, IsStepped, IsWritten, Tells, TellsCount, TellsPlace, TellsSaved, error_of, number_of};
+ghost use Rattle.overlayd_c.specs.Numbers.{AreNamed, Counts, IsAttached, IsBegun, IsCalled, IsDetached, IsDropped, IsListed, IsMade, IsMadeOn, IsPlaced, IsRead, IsRecalled, IsRepeated, IsSaved, IsStepped, IsWritten, Tells, TellsCount, TellsPlace, TellsSaved, error_of, number_of};
 
 use merged_lookup::Place;
 use ov_embedded::{
     Handle, Outcome, Saved, attach_through, begin_through, blob_names, call_through,
-    detach_through, drop_through, mount_on_through, mount_through, place_through, read_through,
-    reply_through, save_through, saved_through, step_through, unmount_through, write_through,
+    detach_through, drop_through, layer_through, mount_on_through, mount_through, place_through,
+    read_through, reply_through, save_through, saved_through, step_through, unmount_through,
+    write_through,
 };
 use std::alloc::Global;
 
@@ -38,6 +39,7 @@ fn status_of(outcome: Outcome) -> i32
         Outcome::Refused(_) => 13,
         Outcome::NoUpper => 14,
         Outcome::Upper => 15,
+        Outcome::NoLayer => 16,
     }
 }
 
@@ -61,7 +63,8 @@ fn error_in(outcome: Outcome) -> u8
         | Outcome::More
         | Outcome::NoJob
         | Outcome::NoUpper
-        | Outcome::Upper => 0,
+        | Outcome::Upper
+        | Outcome::NoLayer => 0,
     }
 }
 
@@ -390,6 +393,20 @@ pub extern "C" fn ovl_save(
     ensures { IsSaved mount.old.mounted mount.new.mounted length.new left_out.new result }
 {
     saved(save_through(alloc, mount), length, left_out)
+}
+
+/// Keeps the lines of the layer of a number, as the program prints them, in the place of the text
+/// that was saved last; their length is told.
+#[unsafe(no_mangle)]
+pub extern "C" fn ovl_layer(
+    alloc: Global,
+    mount: &mut Handle,
+    layer: u32,
+    length: &mut usize,
+) -> i32
+    ensures { IsListed layer mount.old.mounted mount.new.mounted length.new result }
+{
+    recalled(layer_through(alloc, mount, layer), length)
 }
 
 /// Copies a piece of the text that was saved last, from a byte on, into the room; how many bytes
