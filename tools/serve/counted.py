@@ -1,14 +1,20 @@
 """Tests of the file that has, second by second, what a server counts."""
+import contextlib
 import os
 import subprocess
+import threading
 import time
 
 from ends import UNTIL_EOF, close_input
 from refusing import REFUSE, turned_away
 from servers import (DETACH, DONE, EINVAL, MANIFEST, NOT_MADE, SECONDS, SHOWN_ROOT, STAT_NO_PATH,
                      STAT_ROOT, Wrong, expect, runs, serving)
+from overlayd import Client  # noqa: E402
 
 STATUS = ["--status", "status"]
+
+# How many files are copied up at most until a temp is seen, and by how many clients.
+COPIES, COPIERS = 5_000, 4
 
 
 def lines_of(path):
@@ -36,7 +42,8 @@ def what_is_counted(program):
         path = server.socket.parent / "status"
         found = wait_for(path, state="serves")
         expect(list(found), ["state", "workers", "clients", "sessions", "unattached",
-                             "turned_away", "calls", "places", "places_used", "room"], "words")
+                             "turned_away", "calls", "temps", "places", "places_used",
+                             "room"], "words")
         wait_for(path, workers=2, clients=0, sessions=0, calls=0, places=9, places_used=0, room=9)
         with server.peer() as first, server.peer() as second:
             first.ask(STAT_ROOT, DONE, SHOWN_ROOT, "stat /")
@@ -77,6 +84,47 @@ def without_a_history(program):
         wait_for(path, state="ended", clients=0, sessions=1)
 
 
+def files_that_are_copied_up(program):
+    """While clients have one file after the other copied up in steps, temps are seen, and none
+    stands where they only wait, or are gone."""
+    size = 256 << 20
+    links = "".join(f'{{ path = "/{name}", kind = "link", to = "/0" }},\n'
+                    for name in range(1, COPIES))
+    manifest = f"""
+file_limit = {size}
+[[layer]]
+[[layer]]
+entry = [{{ path = "/0", kind = "file", zeros = {size} }},
+{links}]
+"""
+    with serving(program, COPIERS, 1, more=["--no-history", *STATUS],
+                 manifest=manifest) as server:
+        path = server.socket.parent / "status"
+        wait_for(path, state="serves", temps=0)
+        names = iter(range(COPIES))
+        with contextlib.ExitStack() as ends:
+            clients = [ends.enter_context(Client(str(server.socket))) for _ in range(COPIERS)]
+            copying = [threading.Thread(target=copy_up, args=(client, names))
+                       for client in clients]
+            for thread in copying:
+                thread.start()
+            wait_while(lambda: lines_of(path)["temps"] == "0", "no temp is seen")
+            for _ in names:
+                pass
+            for thread in copying:
+                thread.join()
+            wait_for(path, clients=COPIERS, temps=0)
+        expect(server.end(), "", "standard error")
+        wait_for(path, state="ended", temps=0)
+
+
+def copy_up(client, names):
+    """Has one name's file after the other copied up, until none is left, and removes the copy."""
+    for name in names:
+        client.open(f"/{name}", os.O_WRONLY).close()
+        client.unlink(f"/{name}")
+
+
 def a_status_that_cannot_be_written(program):
     """A link, a device, a fifo, a directory, the file of --save: refused before there is a socket,
     and left."""
@@ -110,20 +158,21 @@ def a_status_that_is_lost(program):
             time.sleep(1.5)
             path.rmdir()
             path.write_text("state of another time\n")
-            wait_for_words(path)
+            wait_while(lambda: not path.read_text().startswith("state serves\n"),
+                       "the status isn't written any more")
             client.ask(DETACH, DONE, b"", "detach")
         expect(server.end(), "", "standard error")
         wait_for(path, state="ended", sessions=1, calls=1)
 
 
-def wait_for_words(path):
-    """Waits until a text was replaced by a status."""
+def wait_while(is_so, fault):
+    """Waits until something isn't so any more."""
     until = time.monotonic() + SECONDS
-    while time.monotonic() < until:
-        if path.read_text().startswith("state serves\n"):
-            return
+    while is_so():
+        if time.monotonic() > until:
+            raise Wrong(fault)
         time.sleep(0.05)
-    raise Wrong("the status isn't written any more")
 
 
-TESTS = [what_is_counted, without_a_history, a_status_that_cannot_be_written, a_status_that_is_lost]
+TESTS = [what_is_counted, without_a_history, files_that_are_copied_up,
+         a_status_that_cannot_be_written, a_status_that_is_lost]

@@ -20,6 +20,7 @@ sessions 4
 unattached 0
 turned_away 0
 calls 4
+temps 0
 places {}
 """
 KEPT = "the server keeps a history of 10 places, and refuses each call when it is full; " \

@@ -118,11 +118,15 @@ impl fmt::Display for Lines<'_> {
             unattached,
             turned_away,
             calls,
+            temps,
             places: used,
         } = counted;
         write!(f, "state {state}\nworkers {workers}\nclients {clients}\n")?;
         write!(f, "sessions {sessions}\nunattached {unattached}\n")?;
-        write!(f, "turned_away {turned_away}\ncalls {calls}\n")?;
+        write!(
+            f,
+            "turned_away {turned_away}\ncalls {calls}\ntemps {temps}\n"
+        )?;
         match places {
             None => write!(f, "places none\n"),
             Some(places) => {

@@ -13,6 +13,7 @@ pub struct Counts {
     unattached: AtomicU64,
     turned_away: AtomicU64,
     calls: AtomicU64,
+    temps: AtomicU64,
     places: AtomicU64,
 }
 
@@ -29,6 +30,8 @@ pub struct Counted {
     pub turned_away: u64,
     /// How many calls were begun. One whose path text is refused isn't.
     pub calls: u64,
+    /// How many files are being copied up in steps, each to a temp of its own.
+    pub temps: u64,
     /// How many places of the history are known to be used, where it is kept.
     pub places: u64,
 }
@@ -42,6 +45,7 @@ impl Counts {
             unattached: AtomicU64::new(0),
             turned_away: AtomicU64::new(0),
             calls: AtomicU64::new(0),
+            temps: AtomicU64::new(0),
             places: AtomicU64::new(0),
         }
     }
@@ -54,6 +58,7 @@ impl Counts {
             unattached: self.unattached.load(Ordering::SeqCst),
             turned_away: self.turned_away.load(Ordering::SeqCst),
             calls: self.calls.load(Ordering::SeqCst),
+            temps: self.temps.load(Ordering::SeqCst),
             places: self.places.load(Ordering::SeqCst),
         }
     }
@@ -86,6 +91,16 @@ impl Counts {
     /// A call begins.
     pub(crate) fn calls(&self) {
         self.calls.fetch_add(1, Ordering::SeqCst);
+    }
+
+    /// A file is copied up in steps.
+    pub(crate) fn copies(&self) {
+        self.temps.fetch_add(1, Ordering::SeqCst);
+    }
+
+    /// A file isn't copied up in steps any more.
+    pub(crate) fn copied(&self) {
+        self.temps.fetch_sub(1, Ordering::SeqCst);
     }
 
     /// Looks which of so many places of a mount's history are used further. It waits for nobody.

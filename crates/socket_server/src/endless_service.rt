@@ -7,7 +7,7 @@ ghost use Rattle.socket_server.specs.EndlessClients.{IsClient, IsNew};
 use crate::connection::Connection;
 use crate::hooks::copies_of;
 use crate::requests::Requests;
-use crate::service::{Ended, Places, Service};
+use crate::service::{Awaits, Ended, Places, Service};
 use endless_door::{Departure, run_session};
 use endless_mount::{BookName, EndlessMount, Front};
 use locked_history::{Gate, Session};
@@ -35,7 +35,7 @@ pub(crate) struct Guest<N: BookName> {
 }
 
 // Runs the session of a client that was just attached, over its connection.
-fn converse<N: BookName, F: Callback + Copy, R: Rule, G: Gate, H: Wait + Clock>(
+fn converse<N: BookName, F: Callback + Copy, R: Rule, G: Gate + Awaits, H: Wait + Clock>(
     rt: &H,
     alloc: Global,
     mount: &EndlessMount<N, F, R>,
@@ -49,7 +49,7 @@ fn converse<N: BookName, F: Callback + Copy, R: Rule, G: Gate, H: Wait + Clock>(
         IsClient tags closes (is_some result.hooks) client.place
         (standing result.session result.seen (is_some result.hooks)) }
 {
-    let mut input = CountedReader::of_years(Requests::new(rt, connection));
+    let mut input = CountedReader::of_years(Requests::new(rt, gate, connection));
     let mut output = SessionOutput::new(alloc, CountedWriter::new(connection));
     let Guest {
         session,
@@ -162,7 +162,7 @@ where
         client.session.client
     }
 
-    fn run<G: Gate, H: Wait + Clock>(
+    fn run<G: Gate + Awaits, H: Wait + Clock>(
         &self,
         rt: &H,
         alloc: Global,

@@ -131,6 +131,20 @@ impl<'r, E: Eprint + Wait> Reports<'r, E> {
         }
     }
 
+    /// A file is copied up in steps.
+    pub(crate) fn copies(&self) {
+        if let Some(counts) = self.counts {
+            counts.copies();
+        }
+    }
+
+    /// A file isn't copied up in steps any more.
+    pub(crate) fn copied(&self) {
+        if let Some(counts) = self.counts {
+            counts.copied();
+        }
+    }
+
     /// Tells once each that nine tenths and all of a mount's history of so many places are used. A
     /// place that is kept for the detach of a client is used.
     pub(crate) fn looks<M: Places>(&self, mount: &M, places: usize) {

@@ -3,6 +3,7 @@ ghost use Rattle.std.specs.Io.{ReadsAtMost};
 
 use crate::connection::Connection;
 use crate::frame_place::FramePlace;
+use crate::service::Awaits;
 use std::io;
 use std::io::Read;
 use std::time::{Clock, Duration, Instant};
@@ -11,8 +12,9 @@ use std::time::{Clock, Duration, Instant};
 /// first byte of a frame, and those for the others of that frame as long together. What passes
 /// between two reads is the server's time, and counts for nothing.
 #[derive(Drop)]
-pub(crate) struct Requests<'c, H> {
+pub(crate) struct Requests<'c, G, H> {
     rt: &'c H,
+    gate: &'c G,
     connection: &'c Connection,
     place: FramePlace,
     // How long the frame in which it stands may be waited for.
@@ -21,12 +23,14 @@ pub(crate) struct Requests<'c, H> {
     limit: Duration,
 }
 
-impl<'c, H: Clock> Requests<'c, H> {
-    /// The requests of a connection, whose reads wait as long as it may be idle.
-    pub(crate) fn new(rt: &'c H, connection: &'c Connection) -> Requests<'c, H> {
+impl<'c, G: Awaits, H: Clock> Requests<'c, G, H> {
+    /// The requests of a connection, whose reads wait as long as it may be idle. The gate is told before
+    /// each.
+    pub(crate) fn new(rt: &'c H, gate: &'c G, connection: &'c Connection) -> Requests<'c, G, H> {
         let idle = Duration::from_secs(connection.idle.unwrap_or(0));
         Requests {
             rt,
+            gate,
             connection,
             place: FramePlace::start(),
             left: idle,
@@ -84,8 +88,9 @@ impl<'c, H: Clock> Requests<'c, H> {
     }
 }
 
-impl<H: Clock> Read for Requests<'_, H> {
+impl<G: Awaits, H: Clock> Read for Requests<'_, G, H> {
     fn read(&mut self, piece: &mut [u8]) -> io::Result<usize> {
+        self.gate.awaits();
         let mut connection = self.connection;
         let Some(idle) = connection.idle else {
             return connection.read(piece);

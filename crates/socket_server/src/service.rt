@@ -15,6 +15,12 @@ pub(crate) trait Places {
     fn are_used(&self, places: usize) -> bool;
 }
 
+/// Is told each time before a worker waits for what its client sends.
+pub(crate) trait Awaits {
+    /// No call of the client is in steps.
+    fn awaits(&self);
+}
+
 /// How a session ended, how many calls were answered, and whether its client was detached.
 #[derive(Drop)]
 pub(crate) struct Ended {
@@ -78,7 +84,7 @@ pub(crate) trait Service {
     fn number_of(&self, client: &Self::Client) -> u64;
 
     /// Runs the session of a client over its connection, and keeps what is left of it.
-    fn run<G: Gate, H: Wait + Clock>(
+    fn run<G: Gate + Awaits, H: Wait + Clock>(
         &self,
         rt: &H,
         alloc: Global,

@@ -6,7 +6,7 @@ ghost use Rattle.socket_server.specs.Clients.{IsClient, IsNew};
 use crate::connection::Connection;
 use crate::hooks::copies_of;
 use crate::requests::Requests;
-use crate::service::{Ended, Places, Service};
+use crate::service::{Awaits, Ended, Places, Service};
 use locked_history::{Gate, Mount, MountName, Receipt, Session};
 use mount_door::{Departure, run_session};
 use ov_base::Errno;
@@ -26,7 +26,7 @@ pub(crate) struct Newcomer<N: MountName> {
 }
 
 // Runs the session of a client that was just attached, over its connection.
-fn converse<N: MountName, F: Callback + Copy, R: Rule, G: Gate, H: Wait + Clock>(
+fn converse<N: MountName, F: Callback + Copy, R: Rule, G: Gate + Awaits, H: Wait + Clock>(
     rt: &H,
     alloc: Global,
     mount: &Mount<N, F, R>,
@@ -39,7 +39,7 @@ fn converse<N: MountName, F: Callback + Copy, R: Rule, G: Gate, H: Wait + Clock>
         IsNew tags client.session.client client.session.number client.receipts.items →
         IsClient tags closes (is_some result.hooks) result.receipts.items }
 {
-    let mut input = CountedReader::new(Requests::new(rt, connection));
+    let mut input = CountedReader::new(Requests::new(rt, gate, connection));
     let mut output = SessionOutput::new(alloc, CountedWriter::new(connection));
     let Newcomer { session, receipts } = client;
     run_session(
@@ -124,7 +124,7 @@ where
         client.session.client
     }
 
-    fn run<G: Gate, H: Wait + Clock>(
+    fn run<G: Gate + Awaits, H: Wait + Clock>(
         &self,
         rt: &H,
         alloc: Global,

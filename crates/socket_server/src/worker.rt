@@ -7,13 +7,14 @@ use crate::connection::Connection;
 use crate::entrance::Entrance;
 use crate::guard::Guard;
 use crate::reports::Reports;
-use crate::service::{Ended, Places, Service};
+use crate::service::{Awaits, Ended, Places, Service};
 use crate::serving::ServeOptions;
 use crate::tally::Tally;
 use ov_base::Errno;
 use std::alloc::Global;
 use std::io::Eprint;
 use std::sync::Wait;
+use std::sync::atomic::AtomicBool;
 use std::time::Clock;
 
 /// What a worker leaves of the connections that it took: what it keeps of its clients, how many those
@@ -57,6 +58,7 @@ where
         calls,
         detached,
     } = mount.run(rt, alloc, guard, client, connection, kept);
+    guard.awaits();
     guard
         .reports
         .ends(number, calls, ending, connection.timed_out());
@@ -174,6 +176,7 @@ where
         places: options.history,
         reports,
         closing: options.closing,
+        in_steps: AtomicBool::new(false),
     };
     let idle = options.idle;
     for _ in 0..options.sessions.unwrap_or(u64::MAX) {
