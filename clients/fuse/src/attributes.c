@@ -87,6 +87,7 @@ void keep_meta(struct bridge *bridge, struct node *node)
     if (ask_any(bridge) != 0)
         return;
     ask_setattr(&bridge->batch, bridge->path, META, text, (size_t)length);
+    ask_link_times(bridge, node, bridge->path);
     if (ask_end(bridge) == 0)
         node_touched(bridge, node);
 }

@@ -118,6 +118,7 @@ struct node {
     struct opened *opened;    /* where the engine has it open */
     struct listing *listing;  /* of a directory, as it was last taken */
     struct kept *kept;        /* the attributes of what has no name any more */
+    struct link_times *link_times;  /* of a directory: of the links in it, or NULL */
     struct attr attr;         /* as it was last told or changed */
     unsigned sure;            /* the epoch in which `attr` is true, or 0 */
     bool touched;             /* known to be in the upper layer */
@@ -376,6 +377,27 @@ void reply_entry(fuse_req_t request, struct bridge *bridge, struct node *node);
 void entry_of(const struct bridge *bridge, const struct node *node,
               struct fuse_entry_param *entry);
 
+/* link_times.c */
+/* What a directory says of the links in it, where that isn't known. */
+void link_times_look(struct bridge *bridge, struct node *directory);
+void link_times_free(struct link_times *times);
+/* The directory's attributes are others now. */
+void link_times_doubt(struct node *directory);
+/* What was found at a name, where it is a link, has the time that is known there, or looked for. */
+void link_time_see(const struct bridge *bridge, const struct node *directory, const char *name,
+                   struct node *node);
+void link_time_look(struct bridge *bridge, struct node *directory, const char *name,
+                    struct node *node);
+/* The time that is kept with a link, where it has one. */
+bool link_time_of(struct bridge *bridge, const struct node *node, struct timespec *time);
+/* A link at this name has that time, or without one none that is kept; it is written with the
+   directory's own. */
+void link_time_note(struct bridge *bridge, struct node *directory, const char *name,
+                    const struct timespec *time);
+void ask_link_times(struct bridge *bridge, struct node *directory, const char *path);
+/* A link's time is written where its names are. */
+void keep_link_time(struct bridge *bridge, const struct node *node);
+
 /* handles.c */
 struct handle *handle_new(struct bridge *bridge, struct node *node);
 struct handle *handle_of(struct bridge *bridge, const struct fuse_file_info *info);
@@ -428,6 +450,10 @@ int kept_set(struct node *node, const char *name, const char *value, size_t leng
 int kept_remove(struct node *node, const char *name);
 /* The next name from a place on, which it moves, or none. */
 const char *kept_next(const struct kept *kept, size_t *at);
+
+/* xattrs.c */
+/* UTF-8 as a manifest has it. */
+bool is_utf8(const char *bytes, size_t length);
 
 /* ahead.c */
 void ask_ahead(struct bridge *bridge, struct node *node, uint32_t descriptor);

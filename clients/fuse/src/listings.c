@@ -255,6 +255,7 @@ static struct node *item_node(struct page *page, struct item *item)
     if (node) {
         node_see(bridge, node, &item->attr);
         node_see_meta(bridge, node, &item->meta);
+        link_time_see(bridge, page->parent, item->name, node);
     }
     return node;
 }
@@ -297,6 +298,15 @@ static size_t fitting(const struct page *page, const struct listing *listing, si
     return count;
 }
 
+/* Whether there are links among the items that were looked at, which have their times elsewhere. */
+static bool has_link(const struct listing *listing, size_t first, size_t count)
+{
+    const struct item *item = listing->items + first, *end = item + count;
+    while (item < end && (item->stamp == 0 || item->fault || item->attr.kind != KIND_LINK))
+        item++;
+    return item < end;
+}
+
 /* Where the kernel didn't wait for the page, it doesn't know the nodes by it. */
 static void forget_page(struct page *page, struct listing *listing, size_t first, size_t count)
 {
@@ -316,6 +326,8 @@ static int fill(struct page *page, struct listing *listing, off_t at)
     size_t count = fitting(page, listing, first);
     int fault = page->plus && count > 0
         ? look_ahead(page->bridge, page->parent, listing, first, count) : 0;
+    if (!fault && page->plus && has_link(listing, first, count))
+        link_times_look(page->bridge, page->parent);
     for (size_t i = first; !fault && i < first + count; i++)
         add_item(page, &listing->items[i], (off_t)i + 1 + DOTS);
     if (!fault && fuse_reply_buf(page->request, page->bytes, page->used) != 0)

@@ -49,6 +49,7 @@ static void do_lookup(fuse_req_t request, fuse_ino_t number, const char *name)
     }
     node_see(bridge, node, &attr);
     node_see_meta(bridge, node, &meta);
+    link_time_look(bridge, parent, name, node);
     reply_entry(request, bridge, node);
 }
 
@@ -88,6 +89,8 @@ static int look_again(struct bridge *bridge, struct node *node, const struct ope
         return ESTALE;
     node_see(bridge, node, &attr);
     node_see_meta(bridge, node, &meta);
+    if (node->names)
+        link_time_look(bridge, node->names->parent, node->names->text, node);
     return 0;
 }
 

@@ -127,6 +127,8 @@ static void reply_made(fuse_req_t request, struct bridge *bridge, const struct m
         fuse_reply_err(request, fault ? fault : ENOMEM);
         return;
     }
+    if (node->attr.kind == KIND_LINK)
+        link_time_note(bridge, making->parent, making->name, &node->times.change);
     keep_meta(bridge, node);
     keep_meta(bridge, making->parent);
     reply_entry(request, bridge, node);
@@ -232,11 +234,15 @@ static void do_link(fuse_req_t request, fuse_ino_t number, fuse_ino_t new_parent
 {
     struct bridge *bridge = bridge_of(request);
     struct node *node = node_of(bridge, number), *parent = node_of(bridge, new_parent);
+    struct timespec time;
+    bool has_time = node && link_time_of(bridge, node, &time);
     int fault = node && parent ? link_on_server(bridge, node, parent, name) : ESTALE;
     if (fault) {
         fuse_reply_err(request, fault);
         return;
     }
+    if (node->attr.kind == KIND_LINK)
+        link_time_note(bridge, parent, name, has_time ? &time : NULL);
     keep_meta(bridge, node);
     keep_meta(bridge, parent);
     reply_entry(request, bridge, node);

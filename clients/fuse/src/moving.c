@@ -10,6 +10,11 @@
 #define RENAME_EXCHANGE 2
 #endif
 
+static bool is_link(const struct node *node)
+{
+    return node && node->attr.kind == KIND_LINK;
+}
+
 /* One name of the node is gone, at the server too; its attributes were kept, where it was the last
    name of what is open. */
 static void lose(struct bridge *bridge, struct node *parent, const char *name, struct kept *kept)
@@ -65,6 +70,8 @@ static void remove_name(fuse_req_t request, fuse_ino_t number, const char *name,
     if (fault) {
         kept_free(kept);
     } else {
+        if (is_link(node_at(bridge, parent, name)))
+            link_time_note(bridge, parent, name, NULL);
         lose(bridge, parent, name, kept);
         times_changed(bridge, parent);
         keep_meta(bridge, parent);
@@ -121,6 +128,27 @@ static int is_there(struct bridge *bridge, const char *path)
     return fault ? fault : refused(bridge, stat) ? 0 : EEXIST;
 }
 
+/* A link that is moved, and the time that is kept with it. */
+struct moved_link {
+    bool is_link, has_time;
+    struct timespec time;
+};
+
+static struct moved_link moved_of(struct bridge *bridge, const struct node *node)
+{
+    struct moved_link moved = {.is_link = is_link(node)};
+    moved.has_time = moved.is_link && link_time_of(bridge, node, &moved.time);
+    return moved;
+}
+
+/* One of the two is at this name now, where the other one was. */
+static void note_moved(struct bridge *bridge, struct node *parent, const char *name,
+                       const struct moved_link *now, const struct moved_link *before)
+{
+    if (now->is_link || before->is_link)
+        link_time_note(bridge, parent, name, now->has_time ? &now->time : NULL);
+}
+
 static void note_times(struct bridge *bridge, const struct move *move, struct node *node)
 {
     if (node)
@@ -141,6 +169,8 @@ static int move_name(struct bridge *bridge, const struct move *move)
     bool still_there = false;
     struct kept *kept;
     struct node *node = node_at(bridge, move->from, move->old);
+    const struct moved_link moved = moved_of(bridge, node), none = {.is_link = false};
+    const struct moved_link over = moved_of(bridge, node_at(bridge, move->to, move->new));
     int fault = keep_before(bridge, move->to, move->new, &kept);
     if (!fault)
         fault = rename_on_server(bridge, bridge->path, bridge->other, &still_there);
@@ -155,8 +185,11 @@ static int move_name(struct bridge *bridge, const struct move *move)
         lose(bridge, move->to, move->new, kept);
     if (node && !node_name(bridge, move->to, move->new, node))
         fault = ENOMEM;
-    if (!still_there)
+    if (!still_there) {
         node_unname(bridge, move->from, move->old);
+        note_moved(bridge, move->from, move->old, &none, &moved);
+    }
+    note_moved(bridge, move->to, move->new, &moved, &over);
     note_times(bridge, move, fault ? NULL : node);
     return fault;
 }
@@ -185,6 +218,7 @@ static int exchange_names(struct bridge *bridge, const struct move *move)
     char between[PATH_BYTES], name[64];
     struct node *one = node_at(bridge, move->from, move->old);
     struct node *other = node_at(bridge, move->to, move->new);
+    const struct moved_link first = moved_of(bridge, one), second = moved_of(bridge, other);
     snprintf(name, sizeof name, ".overlayd-fuse-%llx",
              (unsigned long long)(bridge->nodes.last_number));
     int fault = path_in(move->from, name, between);
@@ -206,6 +240,8 @@ static int exchange_names(struct bridge *bridge, const struct move *move)
     node_unname(bridge, move->from, name);
     if (fault)
         return fault;
+    note_moved(bridge, move->from, move->old, &second, &first);
+    note_moved(bridge, move->to, move->new, &first, &second);
     note_times(bridge, move, one);
     note_times(bridge, move, other);
     return 0;

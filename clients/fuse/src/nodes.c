@@ -45,6 +45,7 @@ void nodes_end(struct bridge *bridge)
             next = node->next;
             opened_end(bridge, node);
             kept_free(node->kept);
+            link_times_free(node->link_times);
             free(node);
         }
     free(nodes->by_name);
@@ -119,6 +120,7 @@ static void node_free(struct nodes *nodes, struct node *node)
     *slot = node->next;
     nodes->node_count--;
     kept_free(node->kept);
+    link_times_free(node->link_times);
     free(node);
 }
 

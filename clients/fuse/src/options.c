@@ -36,7 +36,7 @@ static const char USAGE[] =
     "  --status FILE           tell where FILE, which the server's --status writes, says that it\n"
     "                          keeps a history, by which each call is refused one day\n"
     "  --strict                mount nothing then\n"
-    "  --times                 keep times in the attribute " META ", as --manifest does\n"
+    "  --times                 keep times in attributes, as " META ", as --manifest does\n"
     "  --no-times              keep them in memory alone\n"
     "  --devices               take devices from that attribute, too, where it says so\n"
     "  --map-uids INNER:OUTER:COUNT   show owners of the mount from INNER on as OUTER and on\n"

@@ -162,6 +162,8 @@ static int set(struct bridge *bridge, struct setting *setting)
     else if (changes && setting->by_path)
         node_touched(bridge, setting->node);
     keep_meta(bridge, setting->node);
+    if (asks(setting, SET_CHANGE))
+        keep_link_time(bridge, setting->node);
     return 0;
 }
 

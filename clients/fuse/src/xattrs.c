@@ -83,8 +83,8 @@ static size_t follow_of(unsigned char byte)
         : byte >= 0xf0 && byte < 0xf5 ? 3 : SIZE_MAX;
 }
 
-/* UTF-8 as a manifest has it: the shortest form, no surrogates, nothing beyond U+10FFFF. */
-static bool is_utf8(const char *bytes, size_t length)
+/* The shortest form, no surrogates, nothing beyond U+10FFFF. */
+bool is_utf8(const char *bytes, size_t length)
 {
     const unsigned char *at = (const unsigned char *)bytes;
     for (size_t i = 0, follow; i < length; i += 1 + follow) {
@@ -241,6 +241,7 @@ static void note_change(struct bridge *bridge, struct node *node)
     if (is_nameless(node))
         return;
     node_touched(bridge, node);
+    link_times_doubt(node);
     keep_meta(bridge, node);
 }
 

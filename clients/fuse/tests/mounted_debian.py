@@ -61,7 +61,7 @@ def imported(output, *sources):
 
 def changed(root):
     """When the bytes or names of each object but links were changed."""
-    return {path: change for path, (change, _) in times(root).items()}
+    return {path: change for path, (change, _) in times(root, links=False).items()}
 
 
 class Root(Mounted):

@@ -182,15 +182,17 @@ def tree(root, leaves_out=(), link_owners=True):
     return found
 
 
-def times(root):
-    """When each object but links was changed, its bytes and all else of it."""
+def times(root, links=True):
+    """When each object was changed, its bytes and all else of it; a link, with `links`, its bytes
+    alone."""
     found = {}
     for folder, folders, files in os.walk(root, onerror=refuse):
         for name in folders + files:
             told = os.lstat(os.path.join(folder, name))
-            if not stat.S_ISLNK(told.st_mode):
+            is_link = stat.S_ISLNK(told.st_mode)
+            if links or not is_link:
                 path = os.path.relpath(os.path.join(folder, name), root)
-                found[path] = (told.st_mtime_ns, told.st_ctime_ns)
+                found[path] = (told.st_mtime_ns, None if is_link else told.st_ctime_ns)
     return found
 
 

@@ -13,6 +13,11 @@ void kept_free(struct kept *kept)
     (void)kept;
 }
 
+void link_times_free(struct link_times *times)
+{
+    (void)times;
+}
+
 void opened_end(struct bridge *bridge, struct node *node)
 {
     (void)bridge;
