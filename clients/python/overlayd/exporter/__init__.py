@@ -13,7 +13,7 @@
 Trees of other kinds can be compared too: see `Tree`.
 """
 
-from .comparing import Change, changes
+from .comparing import Change, changes, each_change
 from .layers import write_layer
 from .manifests import LowerTree, Manifest, SavedTree
 from .mounts import MountTree
@@ -22,4 +22,4 @@ from .unsayable import Unsayable
 from .uppers import write_upper
 
 __all__ = ["Change", "DirectoryTree", "Entry", "LowerTree", "Manifest", "MemoryTree", "MountTree",
-           "SavedTree", "Tree", "Unsayable", "changes", "write_layer", "write_upper"]
+           "SavedTree", "Tree", "Unsayable", "changes", "each_change", "write_layer", "write_upper"]

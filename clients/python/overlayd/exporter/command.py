@@ -4,13 +4,13 @@ import argparse
 import errno
 import os
 import sys
-from typing import List, Optional
+from typing import Iterable, Iterator, List, Optional
 
 from ..client import Client
 from ..command_line import parser_of
 from ..importer.output import Output, unwound_by_sigterm
 from ..importer.telling import shown
-from .comparing import Change, changes
+from .comparing import Change, each_change
 from .layers import write_layer
 from .layouts import add_layer
 from .manifests import LowerTree, Manifest, SavedTree
@@ -162,7 +162,8 @@ def _export(words: argparse.Namespace, epoch: Optional[int]) -> None:
 
 def _write(words: argparse.Namespace, lower: LowerTree, mounted: Tree,
            epoch: Optional[int]) -> None:
-    found = changes(lower, mounted)
+    total = _Sum()
+    found = total.counted(each_change(lower, mounted))
     if words.upper is not None:
         write_upper(found, mounted, words.upper, words.userxattr)
     elif words.image_out is not None:
@@ -170,10 +171,10 @@ def _write(words: argparse.Namespace, lower: LowerTree, mounted: Tree,
         add_layer(found, mounted, folder, tag, words.tag or tag, epoch)
     else:
         _write_layer(words.layer, found, mounted, epoch)
-    _sum_up(found, words.upper is None)
+    total.tell(words.upper is None)
 
 
-def _write_layer(path: str, found: List[Change], mounted: Tree, epoch: Optional[int]) -> None:
+def _write_layer(path: str, found: Iterable[Change], mounted: Tree, epoch: Optional[int]) -> None:
     output = Output(path, waits=True)
     try:
         write_layer(found, mounted, output.stream, epoch)
@@ -183,18 +184,34 @@ def _write_layer(path: str, found: List[Change], mounted: Tree, epoch: Optional[
         raise
 
 
-def _sum_up(found: List[Change], is_layer: bool) -> None:
-    """Says what was written, and which names were one object."""
-    linked = sum(change.entry is not None and change.entry.links > 1 and change.entry.same is None
-                 for change in found)
-    if linked:
-        _say(f"{linked} names of objects that have several are written as objects of their own")
-    for change in found:
-        if is_layer and change.entry is not None and change.entry.kind == SOCKET:
-            _say(f"left out: {shown(change.path)}: a socket")
-    gone = sum(change.entry is None for change in found)
-    same = sum(change.is_same for change in found)
-    _say(f"{len(found) - gone - same} objects, {gone} whiteouts")
+class _Sum:
+    """What was written, and which names were one object, counted while it is written."""
+
+    def __init__(self) -> None:
+        self._objects = self._whiteouts = self._linked = 0
+        self._sockets: List[str] = []
+
+    def counted(self, found: Iterable[Change]) -> Iterator[Change]:
+        """The same changes, each of which is counted."""
+        for change in found:
+            entry = change.entry
+            if entry is None:
+                self._whiteouts += 1
+            else:
+                self._objects += not change.is_same
+                self._linked += entry.links > 1 and entry.same is None
+                if entry.kind == SOCKET:
+                    self._sockets.append(change.path)
+            yield change
+
+    def tell(self, is_layer: bool) -> None:
+        """Says it; a layer has no sockets."""
+        if self._linked:
+            _say(f"{self._linked} names of objects that have several are written as objects of "
+                 "their own")
+        for path in self._sockets if is_layer else ():
+            _say(f"left out: {shown(path)}: a socket")
+        _say(f"{self._objects} objects, {self._whiteouts} whiteouts")
 
 
 def _say(line: str) -> None:

@@ -1,10 +1,9 @@
 """What one tree has that another hasn't, as a layer says it."""
 
-from typing import Dict, Hashable, Iterator, List, NamedTuple, Optional, Set
+from typing import Dict, Hashable, Iterator, List, NamedTuple, Optional, Sequence, Set, Tuple
 
-from ..importer.telling import shown
-from .trees import DIRECTORY, FILE, SYMLINK, Entry, Tree, key_of, parent_of
-from .unsayable import Unsayable
+from .shelves import Shelves
+from .trees import DIRECTORY, FILE, SYMLINK, Entry, Folder, Found, Tree, path_in, raw_of
 
 
 class Change(NamedTuple):
@@ -23,58 +22,103 @@ class Change(NamedTuple):
     covers: bool = False
 
 
+class _Met(NamedTuple):
+    """A path with what is shown there and what is below; `opaque` is of a directory that keeps no
+    name of what it has below."""
+
+    path: str
+    entry: Optional[Entry]
+    below: Optional[Entry]
+    opaque: bool = False
+
+
+class _Opened(NamedTuple):
+    """A directory that is shown, the one below it, and the names that are still to be met."""
+
+    here: Folder
+    below: Optional[Folder]
+    names: Iterator[str]
+
+
 class _Comparison:
-    """Compares a tree with the one below it."""
+    """Compares a tree with the one below it, directory by directory."""
 
     def __init__(self, lower: Tree, mounted: Tree) -> None:
         self._lower = lower
         self._mounted = mounted
-        self._below: Dict[str, Entry] = {entry.path: entry for entry in lower.entries()}
-        self._shown: Dict[str, Entry] = {entry.path: entry for entry in mounted.entries()}
+        self._below = lower.top() or Shelves(lower.entries()).top
+        self._shown = mounted.top() or _judged(mounted)
+        self._first: Dict[Hashable, str] = {}
 
-    def _read_trees(self) -> None:
-        """A path that isn't below a directory is none that a tree has."""
-        for path in self._shown:
-            above = self._shown.get(parent_of(path))
-            if above is None or path != "/" and above.kind != DIRECTORY:
-                raise Unsayable(f"{shown(path)}: what is above it is no directory")
-
-    def changes(self) -> List[Change]:
+    def changes(self) -> Iterator[Change]:
         """The names of the layer in the order of a tree."""
-        self._read_trees()
-        opaque = self._opaque()
-        gone = self._gone(opaque)
-        changed = {path for path, entry in self._shown.items() if self._differs(path, entry)}
-        changed |= opaque
-        self._add_other_names(changed)
-        needed = self._with_parents(changed | gone)
-        found = [Change(path) for path in gone]
-        for path in needed - gone:
-            found.append(Change(path, self._timed(path), path in opaque,
-                                is_same=path not in changed, covers=path in self._below))
-        return _linked(sorted(found, key=lambda change: key_of(change.path)))
+        objects = self._objects() if self._shown.has_several else set()
+        # directories that are as they are below, and in which nothing was written yet
+        waiting: List[Change] = []
+        for met in self._met():
+            while waiting and not _is_above(waiting[-1].path, met.path):
+                waiting.pop()
+            entry, below = met.entry, met.below
+            if entry is None:
+                change = Change(met.path)
+            elif met.opaque or (entry.same in objects if entry.same is not None
+                                else self._differs(entry, below)):
+                change = Change(met.path, self._timed(entry, below), met.opaque,
+                                self._earlier(entry), covers=below is not None)
+            elif entry.kind == DIRECTORY:
+                waiting.append(Change(met.path, entry, is_same=True, covers=True))
+                continue
+            else:
+                continue
+            yield from waiting
+            waiting.clear()
+            yield change
 
-    def _is_merged(self, path: str) -> bool:
-        """Whether a path is a directory in both trees."""
-        below, shown = self._below.get(path), self._shown.get(path)
-        return (below is not None and shown is not None
-                and below.kind == DIRECTORY == shown.kind)
+    def _objects(self) -> Set[Hashable]:
+        """The objects of several names of which one is written, so that all are: they are one
+        object then too."""
+        return {met.entry.same for met in self._met()
+                if met.entry is not None and met.entry.same is not None
+                and (met.opaque or self._differs(met.entry, met.below))}
 
-    def _opaque(self) -> Set[str]:
-        """The directories, other than the root, that keep no name of what they have below."""
-        had = {parent_of(path) for path in self._below if path != "/"}
-        keep = {parent_of(path) for path in self._below if path != "/" and path in self._shown}
-        return {path for path in had - keep if path != "/" and self._is_merged(path)}
+    def _met(self) -> Iterator[_Met]:
+        """Each path that is shown, and those below that need a whiteout."""
+        if self._shown.entry is None:
+            return
+        yield _Met("/", self._shown.entry, self._below.entry)
+        stack = [_Opened(self._shown, self._below, iter(self._names(self._shown, self._below)[0]))]
+        while stack:
+            here, below, names = stack[-1]
+            name = next(names, None)
+            if name is None:
+                stack.pop()
+                continue
+            found = here.at(name)
+            under = None if below is None else below.at(name)
+            entry, is_opaque = _entry_of(found), False
+            if isinstance(found, Folder):
+                folder = under if isinstance(under, Folder) else None
+                inside, is_opaque = self._names(found, folder)
+                stack.append(_Opened(found, folder, iter(inside)))
+            path = path_in(here.path, name) if entry is None else entry.path
+            yield _Met(path, entry, _entry_of(under), is_opaque)
 
-    def _gone(self, opaque: Set[str]) -> Set[str]:
-        """The names that need a whiteout."""
-        return {path for path in self._below
-                if path not in self._shown and self._is_merged(parent_of(path))
-                and parent_of(path) not in opaque}
+    @staticmethod
+    def _names(here: Folder, below: Optional[Folder]) -> Tuple[Sequence[str], bool]:
+        """The names in a directory, with those that need a whiteout; and whether it needs none
+        because it keeps none of them. The root isn't said to be so."""
+        if not (_is_directory(here) and below is not None and _is_directory(below)):
+            return here.names(), False
+        had = below.names()
+        gone = [name for name in had if not here.has(name)]
+        if not gone:
+            return here.names(), False
+        if len(gone) == len(had) and here.path != "/":
+            return here.names(), True
+        return sorted([*here.names(), *gone], key=raw_of), False
 
-    def _differs(self, path: str, entry: Entry) -> bool:
+    def _differs(self, entry: Entry, below: Optional[Entry]) -> bool:
         """Whether what is shown at a path isn't what is below."""
-        below = self._below.get(path)
         if below is None or below.kind != entry.kind:
             return True
         if (below.uid, below.gid, below.links) != (entry.uid, entry.gid, entry.links):
@@ -96,10 +140,9 @@ class _Comparison:
             return True
         return same_bytes(self._lower.pieces(below), self._mounted.pieces(entry))
 
-    def _timed(self, path: str) -> Entry:
+    def _timed(self, entry: Entry, below: Optional[Entry]) -> Entry:
         """What is shown at a path. A time that stands there word for word as below, where all else
         was changed, is that of a client that keeps no times, and so isn't known."""
-        entry, below = self._shown[path], self._below.get(path)
         if below is None or entry.told is None or entry.told != below.told:
             return entry
         if entry.kind not in (FILE, SYMLINK) or below.kind == entry.kind == SYMLINK \
@@ -110,23 +153,31 @@ class _Comparison:
             return entry
         return entry._replace(mtime=None)
 
-    def _add_other_names(self, changed: Set[str]) -> None:
-        """Where one name of an object is written, all its names are: they are one object then
-        too."""
-        objects = {self._shown[path].same for path in changed}
-        objects.discard(None)
-        changed.update(path for path, entry in self._shown.items() if entry.same in objects)
+    def _earlier(self, entry: Entry) -> Optional[str]:
+        """The first name of an object, where this is a further one."""
+        if entry.same is None or entry.kind == DIRECTORY:
+            return None
+        first = self._first.setdefault(entry.same, entry.path)
+        return None if first == entry.path else first
 
-    @staticmethod
-    def _with_parents(paths: Set[str]) -> Set[str]:
-        needed = set(paths)
-        for path in paths:
-            while path != "/":
-                path = parent_of(path)
-                if path in needed:
-                    break
-                needed.add(path)
-        return needed
+
+def _judged(tree: Tree) -> Folder:
+    """The root of a tree in which all is below directories."""
+    shelves = Shelves(tree.entries())
+    shelves.judge()
+    return shelves.top
+
+
+def _entry_of(found: Found) -> Optional[Entry]:
+    return found.entry if isinstance(found, Folder) else found
+
+
+def _is_directory(folder: Folder) -> bool:
+    return folder.entry is not None and folder.entry.kind == DIRECTORY
+
+
+def _is_above(directory: str, path: str) -> bool:
+    return directory == "/" or path.startswith(directory + "/")
 
 
 def same_bytes(one: Iterator[bytes], other: Iterator[bytes]) -> bool:
@@ -142,21 +193,13 @@ def same_bytes(one: Iterator[bytes], other: Iterator[bytes]) -> bool:
         left, right = left[count:], right[count:]
 
 
-def _linked(found: List[Change]) -> List[Change]:
-    """Leads further names of an object to its first one."""
-    first: Dict[Hashable, str] = {}
-    linked = []
-    for change in found:
-        entry = change.entry
-        if entry is not None and entry.same is not None and entry.kind != DIRECTORY:
-            there = first.setdefault(entry.same, change.path)
-            if there != change.path:
-                change = change._replace(link_to=there)
-        linked.append(change)
-    return linked
+def each_change(lower: Tree, mounted: Tree) -> Iterator[Change]:
+    """What a layer over `lower` says so that `mounted` is shown: each directory before what is in
+    it, names by their bytes. A directory that was moved is written whole. The trees are read
+    first; the bytes of files are compared as the changes are asked for."""
+    return _Comparison(lower, mounted).changes()
 
 
 def changes(lower: Tree, mounted: Tree) -> List[Change]:
-    """What a layer over `lower` says so that `mounted` is shown: each directory before what is in
-    it, names by their bytes. A directory that was moved is written whole."""
-    return _Comparison(lower, mounted).changes()
+    """The same changes, all at once."""
+    return list(each_change(lower, mounted))

@@ -3,7 +3,7 @@
 from typing import Dict, Optional, Tuple
 
 from ..importer.meta import LINKS, META, PRIVATE, read_links, read_meta, shown_by
-from .trees import DIRECTORY, FILE, SPECIAL, SYMLINK, Entry, parent_of
+from .trees import DIRECTORY, FILE, SPECIAL, SYMLINK, Entry, name_of, parent_of
 
 Attributes = Tuple[Tuple[str, bytes], ...]
 
@@ -20,14 +20,25 @@ def described(entry: Entry) -> Entry:
             plain.setdefault(*kept)
         elif name == META:
             told = value
-    entry = entry._replace(attrs=tuple(plain.items()))
+    attrs = tuple(plain.items())
     meta = None if told is None else read_meta(told.decode("utf-8", "replace"))
     if meta is None:
-        return entry
-    entry = entry._replace(mtime=meta.change, told=told)
+        return entry._replace(attrs=attrs)
     if entry.kind != FILE or meta.kind not in SPECIAL:
-        return entry
-    return entry._replace(kind=SPECIAL[meta.kind], device=meta.device, size=0)
+        return entry._replace(attrs=attrs, mtime=meta.change, told=told)
+    return entry._replace(attrs=attrs, mtime=meta.change, told=told, kind=SPECIAL[meta.kind],
+                          device=meta.device, size=0)
+
+
+def link_times_in(entry: Entry) -> Dict[str, int]:
+    """The times of symbolic links that the attributes of their directory say."""
+    return read_links((name, value.decode("utf-8", "replace"))
+                      for name, value in entry.attrs if name.startswith(LINKS))
+
+
+def timed(link: Entry, told: Optional[int]) -> Entry:
+    """The entry of a symbolic link with the time that its directory says."""
+    return link if told is None else link._replace(mtime=told, told=b"%d" % told)
 
 
 class LinkTimes:
@@ -37,16 +48,12 @@ class LinkTimes:
     def __init__(self) -> None:
         self._told: Dict[str, Dict[str, int]] = {}
 
-    def described(self, entry: Entry, mtime: Optional[int] = None) -> Entry:
-        """The entry as attributes of its own describe it, or its directory's. `mtime` is the time
-        of a symbolic link of which these say nothing."""
+    def described(self, entry: Entry) -> Entry:
+        """The entry as attributes of its own describe it, or its directory's."""
         if entry.kind == DIRECTORY:
-            found = read_links((name, value.decode("utf-8", "replace"))
-                               for name, value in entry.attrs if name.startswith(LINKS))
+            found = link_times_in(entry)
             if found:
                 self._told[entry.path] = found
         if entry.kind != SYMLINK:
             return described(entry)
-        above = self._told.get(parent_of(entry.path), {})
-        told = above.get(entry.path.rpartition("/")[2], mtime)
-        return entry if told is None else entry._replace(mtime=told, told=b"%d" % told)
+        return timed(entry, self._told.get(parent_of(entry.path), {}).get(name_of(entry.path)))

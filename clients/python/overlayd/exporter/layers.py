@@ -1,13 +1,13 @@
 """Changes as a layer of an OCI image."""
 
-import io
 import os
 import tarfile
-from typing import BinaryIO, Iterable, Iterator, Optional
+from typing import BinaryIO, Iterable, Iterator, List, Optional
 
 from ..importer.meta import SECOND
 from ..importer.telling import shown
 from .comparing import Change
+from .headers import header
 from .trees import (BLOCK, CHARACTER, DIRECTORY, FIFO, FILE, SOCKET, SYMLINK, Entry, Tree)
 from .unsayable import Unsayable, check_attributes, check_device
 
@@ -17,6 +17,8 @@ _TYPES = {DIRECTORY: tarfile.DIRTYPE, FILE: tarfile.REGTYPE, SYMLINK: tarfile.SY
           FIFO: tarfile.FIFOTYPE, CHARACTER: tarfile.CHRTYPE, BLOCK: tarfile.BLKTYPE}
 # What a header of 11 octal digits can say.
 _SECONDS_MOST = 8 ** 11
+# How many bytes are written at once.
+_WRITTEN = 1 << 16
 
 
 def write_layer(found: Iterable[Change], mounted: Tree, stream: BinaryIO,
@@ -25,20 +27,20 @@ def write_layer(found: Iterable[Change], mounted: Tree, stream: BinaryIO,
     `epoch`, in seconds since 1970, or else 0, and none is later than `epoch`. A socket, which no
     tar has, is left out. Raises `Unsayable` for a name, a device or an attribute that an image
     would read as a mark."""
-    with tarfile.open(fileobj=stream, mode="w|", format=tarfile.PAX_FORMAT, encoding="utf-8",
-                      errors="surrogateescape") as tar:
-        for change in found:
-            _write(tar, change, mounted, epoch)
+    tar = _Tar(stream)
+    for change in found:
+        _write(tar, change, mounted, epoch)
+    tar.end()
 
 
-def _write(tar: tarfile.TarFile, change: Change, mounted: Tree, epoch: Optional[int]) -> None:
+def _write(tar: "_Tar", change: Change, mounted: Tree, epoch: Optional[int]) -> None:
     above, _, name = change.path[1:].rpartition("/")
     inside = f"{above}/" if above else ""
     if name.startswith(_MARK):
         raise Unsayable(f"{shown(change.path)}: a layer of an image can't have a name that begins "
                         "with .wh.")
     if change.entry is None or change.entry.kind == SOCKET and change.covers:
-        tar.addfile(_timed(tarfile.TarInfo(f"{inside}{_MARK}{name}"), None, epoch))
+        tar.add(_timed(tarfile.TarInfo(f"{inside}{_MARK}{name}"), None, epoch))
         return
     if change.path == "/" and change.is_same or change.entry.kind == SOCKET:
         return
@@ -46,11 +48,11 @@ def _write(tar: tarfile.TarFile, change: Change, mounted: Tree, epoch: Optional[
     check_device(change.entry)
     info = _timed(_member(change, change.entry), change.entry.mtime, epoch)
     if change.entry.kind == FILE and change.link_to is None:
-        tar.addfile(info, _Pieces(mounted.pieces(change.entry)))
+        tar.add(info, mounted.pieces(change.entry))
     else:
-        tar.addfile(info)
+        tar.add(info)
     if change.opaque:
-        tar.addfile(_timed(tarfile.TarInfo(f"{change.path[1:]}/{_OPAQUE}"), None, epoch))
+        tar.add(_timed(tarfile.TarInfo(f"{change.path[1:]}/{_OPAQUE}"), None, epoch))
 
 
 def _timed(info: tarfile.TarInfo, mtime: Optional[int], epoch: Optional[int]) -> tarfile.TarInfo:
@@ -91,21 +93,42 @@ def _member(change: Change, entry: Entry) -> tarfile.TarInfo:
     return info
 
 
-class _Pieces(io.RawIOBase):
-    """A stream of pieces, as `tarfile` wants one."""
+class _Tar:
+    """Writes members one behind the other; unlike `tarfile` it keeps none of them."""
 
-    def __init__(self, pieces: Iterator[bytes]) -> None:
-        self._pieces = pieces
-        self._rest = b""
+    def __init__(self, stream: BinaryIO) -> None:
+        self._stream = stream
+        self._size = 0
+        self._parts: List[bytes] = []
+        self._waiting = 0
 
-    def read(self, size: int = -1) -> bytes:
-        """So many bytes, or fewer at the end."""
-        parts = []
-        while size > 0:
-            self._rest = self._rest or next(self._pieces, b"")
-            if not self._rest:
-                break
-            parts.append(self._rest[:size])
-            self._rest = self._rest[size:]
-            size -= len(parts[-1])
-        return b"".join(parts)
+    def add(self, info: tarfile.TarInfo, pieces: Iterator[bytes] = iter(())) -> None:
+        """Writes a member, and of the pieces as many bytes as it has."""
+        self._put(header(info))
+        left = info.size
+        while left:
+            piece = next(pieces, b"")[:left]
+            if not piece:
+                raise Unsayable(f"{shown(info.name)}: it has fewer bytes than it had before")
+            self._put(piece)
+            left -= len(piece)
+        self._put(bytes(-info.size % tarfile.BLOCKSIZE))
+
+    def end(self) -> None:
+        """Writes the end, up to a whole record."""
+        end = 2 * tarfile.BLOCKSIZE
+        self._put(bytes(end + -(self._size + end) % tarfile.RECORDSIZE))
+        self._flush()
+
+    def _put(self, data: bytes) -> None:
+        """Few bytes wait for more."""
+        self._parts.append(data)
+        self._size += len(data)
+        self._waiting += len(data)
+        if self._waiting >= _WRITTEN:
+            self._flush()
+
+    def _flush(self) -> None:
+        self._stream.write(b"".join(self._parts))
+        self._parts.clear()
+        self._waiting = 0

@@ -2,6 +2,7 @@
 Initiative, version 1.
 """
 
+import contextlib
 import gzip
 import hashlib
 import io
@@ -111,8 +112,21 @@ class _Layout:
 
     def put_layer(self, found: Iterable[Change], mounted: Tree,
                   epoch: Optional[int]) -> Tuple[str, int, str]:
-        """Writes a layer compressed by gzip: its digest and size, and the digest of its tar."""
+        """Writes a layer compressed by gzip: its digest and size, and the digest of its tar. Where
+        that fails, directories that were made for it go."""
+        made = [path for path in (self._blobs, os.path.dirname(self._blobs), self._folder)
+                if not os.path.isdir(path)]
         os.makedirs(self._blobs, exist_ok=True)
+        try:
+            return self._packed_layer(found, mounted, epoch)
+        except BaseException:
+            for path in made:
+                with contextlib.suppress(OSError):
+                    os.rmdir(path)
+            raise
+
+    def _packed_layer(self, found: Iterable[Change], mounted: Tree,
+                      epoch: Optional[int]) -> Tuple[str, int, str]:
         with tempfile.NamedTemporaryFile(dir=self._blobs, prefix=".layer.", delete=False) as part:
             try:
                 plain = hashlib.sha256()

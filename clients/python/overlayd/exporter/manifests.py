@@ -1,24 +1,24 @@
 """The layers that manifests describe, as trees."""
 
-from collections import Counter
-from typing import (Any, BinaryIO, Counter as Counts, Dict, Hashable, Iterable, Iterator, List,
-                    Optional, Tuple)
+from typing import Any, BinaryIO, Dict, Iterator, List, Optional, Sequence, Tuple
 
 from ..importer import objects
 from ..importer.limits import FILE_LIMIT
-from ..importer.lines import BYTES, ENTRY, Lines, OtherForm
-from ..importer.merging import TreeLayer, flatten
+from ..importer.lines import BYTES, ENTRY, Bytes, Lines, OtherForm
 from ..importer.meta import read_links
 from ..importer.objects import Part
 from ..importer.telling import shown
-from .described import LinkTimes
+from .described import described
 from .judging import judge, refusal
+from .layered import LayeredTree, PackedFile, Source, names_of
+from .shelves import packed
 from .stretches import Blobs
-from .trees import DIRECTORY, FILE, SYMLINK, Entry, Tree
+from .trees import FILE, Entry, name_of, parent_of
 from .unsayable import Unsayable
 
-_DEFAULTS = {"dir": 0o755, "file": 0o644}
-_LINKED = (objects.File, objects.Symlink)
+_DIRECTORY_MODE, _FILE_MODE = 0o755, 0o644
+_LINKED = (PackedFile, objects.Symlink)
+_NO_BYTES: Tuple[Any, Tuple[Any, ...]] = 0, ()
 
 
 class Manifest:
@@ -31,16 +31,18 @@ class Manifest:
 
     def __init__(self, path: str) -> None:
         self.path = path
-        self.links: Counts[int] = Counter()
+        # of objects with further names how many there are, by identity, for which they are kept
+        self.links: Dict[int, int] = {}
+        self._linked: List[objects.Object] = []
+        self._last: Tuple[Optional[objects.Directory], str, Optional[objects.Object]]
         try:
-            self._source: _Source = _OfLines(path)
-            self.layers = self._read(self._source)
+            self.source: Source = _OfLines(path)
+            self.layers = self._read(self.source)
         except OtherForm as fault:
-            self._source = _Whole(path, str(fault))
-            self.links.clear()
-            self.layers = self._read(self._source)
-        self.has_upper = self._source.has_upper
-        self.file_limit = self._source.file_limit
+            self.source = _Whole(path, str(fault))
+            self.layers = self._read(self.source)
+        self.has_upper = self.source.has_upper
+        self.file_limit = self.source.file_limit
 
     def lowers(self) -> List[objects.Directory]:
         """The lower layers, of a manifest of a mount."""
@@ -48,75 +50,47 @@ class Manifest:
             raise Unsayable(f"{shown(self.path)}: a manifest has two layers or more")
         return self.layers[1:] if self.has_upper else self.layers
 
-    def _read(self, source: "_Source") -> List[objects.Directory]:
+    def _read(self, source: "Source") -> List[objects.Directory]:
         layers: List[objects.Directory] = []
+        self.links.clear()
+        self._last = None, "", None
         for entry in source.entries():
             if entry is None:
                 layers.append(objects.Directory(0o755, 0, 0))
             elif layers:
-                self._place(layers[-1], entry, source)
+                self._place(layers[-1], entry)
             else:
                 raise OtherForm("an entry before the first layer")
         return layers
 
-    def _place(self, root: objects.Directory, entry: Dict[str, Any], source: "_Source") -> None:
+    def _place(self, root: objects.Directory, entry: Dict[str, Any]) -> None:
         """Puts what an entry describes into its layer."""
-        names = _names(entry["path"])
-        if not names:
-            if entry["kind"] != "dir":
+        path, kind = entry["path"], entry["kind"]
+        if path == "/":
+            if kind != "dir":
                 raise refusal(self.path, "/ is a directory")
             _describe(root, entry)
             return
-        parent = objects.at(root, names[:-1])
-        node = objects.at(root, _names(entry["to"])) if entry["kind"] == "link" else _node(entry)
+        parent, name = self._parent(root, parent_of(path)), name_of(path)
+        node = objects.at(root, names_of(entry["to"])) if kind == "link" else _node(entry)
         if node is None or not isinstance(parent, objects.Directory) \
-                or entry["kind"] == "link" and not isinstance(node, _LINKED):
-            raise refusal(self.path, shown(entry["path"]))
-        if isinstance(node, _LINKED):
-            self.links[id(node)] += 1
-        if isinstance(node, objects.File) and entry["kind"] != "link":
-            node.place = source, node.place
+                or kind == "link" and not isinstance(node, _LINKED):
+            raise refusal(self.path, shown(path))
+        if kind == "link":
+            self._linked.append(node)
+            self.links[id(node)] = self.links.get(id(node), 1) + 1
         if isinstance(node, objects.Symlink):
-            node.mtime = parent.links.get(names[-1], node.mtime)
-        parent.children[names[-1]] = node
+            node.mtime = parent.links.get(name, node.mtime)
+        if isinstance(node, objects.Directory) \
+                or isinstance(parent.children.get(name), objects.Directory):
+            self._last = None, "", None
+        parent.children[name] = node
 
-
-class LayeredTree(Tree):
-    """What layers of manifests show together, the highest first."""
-
-    def __init__(self, layers: List[objects.Directory], links: Counts[int]) -> None:
-        # kept, because links are counted by the identity of what stands in them
-        self._layers = layers
-        self._links = links
-        self._root = flatten([TreeLayer(layer) for layer in layers])
-
-    def entries(self) -> Iterator[Entry]:
-        times = LinkTimes()
-        for path, node in objects.walk(self._root):
-            assert isinstance(node, objects.Inode)
-            attrs = tuple((name, value.encode()) for name, value in node.attrs)
-            entry = Entry(path, DIRECTORY, node.mode, node.uid, node.gid, attrs)
-            if isinstance(node, _LINKED):
-                links = self._links[id(node)]
-                entry = entry._replace(links=links, same=id(node) if links > 1 else None)
-            if isinstance(node, objects.File):
-                entry = entry._replace(kind=FILE, size=node.size)
-            elif isinstance(node, objects.Symlink):
-                entry = entry._replace(kind=SYMLINK, target=node.target)
-            yield times.described(entry, node.mtime)
-
-    def read(self, entry: Entry) -> bytes:
-        return b"".join(self.pieces(entry))
-
-    def pieces(self, entry: Entry) -> Iterator[bytes]:
-        node = objects.at(self._root, _names(entry.path))
-        assert isinstance(node, objects.File) and isinstance(node.place, tuple)
-        source, place = node.place
-        if entry.kind == FILE:
-            yield from source.pieces(place)
-
-    def place(self, entry: Entry) -> Optional[Hashable]:
-        return id(objects.at(self._root, _names(entry.path)))
+    def _parent(self, root: objects.Directory, path: str) -> Optional[objects.Object]:
+        """What stands at the path of a directory; entries of one follow each other, mostly."""
+        if self._last[0] is not root or self._last[1] != path:
+            self._last = root, path, objects.at(root, names_of(path))
+        return self._last[2]
 
 
 class LowerTree(LayeredTree):
@@ -125,27 +99,25 @@ class LowerTree(LayeredTree):
     def __init__(self, path: str) -> None:
         self.manifest = Manifest(path)
         self.has_upper = self.manifest.has_upper
-        super().__init__(self.manifest.lowers(), self.manifest.links)
+        lowers = self.manifest.lowers()
+        super().__init__(lowers, [self.manifest.source] * len(lowers), self.manifest.links)
 
 
 class SavedTree(LayeredTree):
     """What a saved upper shows over lower layers. Its hard links are known."""
 
     def __init__(self, saved: Manifest, lower: LowerTree) -> None:
-        super().__init__([saved.layers[0], *lower.manifest.lowers()],
-                         saved.links + lower.manifest.links)
+        lowers = lower.manifest.lowers()
+        super().__init__([saved.layers[0], *lowers],
+                         [saved.source, *[lower.manifest.source] * len(lowers)],
+                         {**saved.links, **lower.manifest.links})
 
 
-def _names(path: str) -> objects.Names:
-    return tuple(name for name in path.split("/") if name)
-
-
-def _describe(node: objects.Inode, entry: Dict[str, Any]) -> None:
-    node.mode = entry.get("mode", _DEFAULTS.get(entry["kind"], 0o777))
+def _describe(node: objects.Directory, entry: Dict[str, Any]) -> None:
+    node.mode = entry.get("mode", _DIRECTORY_MODE)
     node.uid, node.gid = entry.get("uid", 0), entry.get("gid", 0)
     node.attrs = tuple((name, value) for name, value in entry.get("attrs", ()))
-    if isinstance(node, objects.Directory):
-        node.links = read_links(node.attrs)
+    node.links = read_links(node.attrs)
 
 
 def _node(entry: Dict[str, Any]) -> Optional[objects.Object]:
@@ -156,11 +128,7 @@ def _node(entry: Dict[str, Any]) -> Optional[objects.Object]:
     if kind == "symlink":
         return objects.Symlink(entry.get("uid", 0), entry.get("gid", 0), entry["target"])
     if kind == "file":
-        size, place = entry["bytes"]
-        file = objects.File(0, 0, 0, (), size)
-        file.place = place
-        _describe(file, entry)
-        return file
+        return _file(entry)
     if kind == "dir":
         directory = objects.Directory(0, 0, 0)
         directory.opaque = entry.get("opaque", False)
@@ -170,24 +138,16 @@ def _node(entry: Dict[str, Any]) -> Optional[objects.Object]:
     return None
 
 
-class _Source:
-    """Where entries come from: None begins a layer. A file's entry has `bytes`: how many, and their
-    place. The options are right when the first of them came."""
-
-    path = ""
-    has_upper = True
-    file_limit = FILE_LIMIT
-
-    def entries(self) -> Iterable[Optional[Dict[str, Any]]]:
-        """Layers and entries in their order."""
-        raise NotImplementedError
-
-    def pieces(self, place: Any) -> Iterator[bytes]:
-        """The bytes at a place."""
-        raise NotImplementedError
+def _file(entry: Dict[str, Any]) -> PackedFile:
+    """A file, in the few bytes that are kept of it."""
+    size, place = entry["bytes"]
+    attrs = tuple((name, value.encode("utf-8")) for name, value in entry.get("attrs", ()))
+    said = Entry("", FILE, entry.get("mode", _FILE_MODE), entry.get("uid", 0), entry.get("gid", 0),
+                 attrs, size)
+    return PackedFile(packed(described(said), place))
 
 
-class _OfLines(_Source):
+class _OfLines(Source):
     """A manifest of lines: headers of tables, and `key = value`."""
 
     def __init__(self, path: str) -> None:
@@ -202,32 +162,33 @@ class _OfLines(_Source):
 
     def entries(self) -> Iterator[Optional[Dict[str, Any]]]:
         entry: Optional[Dict[str, Any]] = None
+        data = _NO_BYTES
         for key, value in self._lines.all():
             if not key:
                 if entry is not None:
-                    yield self._checked(entry)
-                entry = {"bytes": (0, None)} if value == ENTRY else None
+                    yield self._checked(entry, data)
+                entry, data = ({}, _NO_BYTES) if value == ENTRY else (None, _NO_BYTES)
                 if entry is None:
                     yield None
             elif entry is None:
                 self._option(key, value)
             elif key in BYTES:
-                entry["bytes"] = value.size, value
+                data = value.size, (value.key, value.place)
             else:
                 entry[key] = value
         if entry is not None:
-            yield self._checked(entry)
+            yield self._checked(entry, data)
 
-    def _checked(self, entry: Dict[str, Any]) -> Dict[str, Any]:
+    def _checked(self, entry: Dict[str, Any], data: Tuple[Any, Tuple[Any, ...]]) -> Dict[str, Any]:
         """An entry with all its lines."""
-        data = entry.pop("bytes")
         judge(self.path, entry)
         part = self._blobs.part(entry)
         if part is not None:
-            data = part.size, part
+            data = part.size, ("blob", part.at, part.blob)
         if type(data[0]) is not int or data[0] < 0:
             raise refusal(self.path, f"{shown(entry['path'])}: its bytes")
-        return {**entry, "bytes": data}
+        entry["bytes"] = data
+        return entry
 
     def _option(self, key: str, value: Any) -> None:
         """A line before the first entry of a layer."""
@@ -240,17 +201,17 @@ class _OfLines(_Source):
         elif key not in ("redirect_dir", "metacopy", "history"):
             raise OtherForm(f"the key {key} before the first entry")
 
-    def pieces(self, place: Any) -> Iterator[bytes]:
-        if isinstance(place, Part):
-            yield from self._blobs.pieces(place)
-        elif place is not None:
+    def pieces(self, size: int, place: Sequence[Any]) -> Iterator[bytes]:
+        if place and place[0] == "blob":
+            yield from self._blobs.pieces(Part(place[2], place[1], size))
+        elif place:
             try:
-                yield from self._lines.pieces(place)
+                yield from self._lines.pieces(Bytes(size, *place))
             except OtherForm as fault:
                 raise refusal(self.path, str(fault)) from None
 
 
-class _Whole(_Source):
+class _Whole(Source):
     """Any manifest, read whole."""
 
     def __init__(self, path: str, why: str) -> None:
@@ -273,17 +234,13 @@ class _Whole(_Source):
         self._blobs = Blobs(path, names)
 
     def entries(self) -> Iterator[Optional[Dict[str, Any]]]:
-        for layer in self._listed(self._manifest, "layer"):
+        for number, layer in enumerate(self._listed(self._manifest, "layer")):
             yield None
-            for entry in self._listed(layer, "entry"):
+            for index, entry in enumerate(self._listed(layer, "entry")):
                 judge(self.path, entry)
                 part = self._blobs.part(entry)
-                key = next((key for key in BYTES if key in entry), None)
-                if part is not None:
-                    yield {**entry, "bytes": (part.size, part)}
-                else:
-                    value = entry[key] if key else ""
-                    yield {**entry, "bytes": (_count(key, value), (key or "text", value))}
+                size = _count(entry) if part is None else part.size
+                yield {**entry, "bytes": (size, (number, index))}
 
     def _listed(self, table: Any, key: str) -> List[Any]:
         """What stands at a key of a table, which is an array."""
@@ -292,26 +249,26 @@ class _Whole(_Source):
             raise refusal(self.path, f"{key}: an array of tables")
         return found
 
-    def pieces(self, place: Any) -> Iterator[bytes]:
-        if isinstance(place, Part):
-            yield from self._blobs.pieces(place)
+    def pieces(self, size: int, place: Sequence[Any]) -> Iterator[bytes]:
+        layer, index = place
+        entry = self._manifest["layer"][layer]["entry"][index]
+        part = self._blobs.part(entry)
+        if part is not None:
+            yield from self._blobs.pieces(part)
+        elif "text" in entry:
+            yield entry["text"].encode("utf-8")
+        elif "hex" in entry:
+            yield bytes.fromhex(entry["hex"])
         else:
-            yield from _bytes_of(*place)
+            yield from objects.zeros(size)
 
 
 def _are_texts(found: Any) -> bool:
     return isinstance(found, list) and all(isinstance(one, str) for one in found)
 
 
-def _count(key: Optional[str], value: Any) -> int:
-    """How many bytes a value says."""
-    if key == "zeros":
-        return int(value)
-    return len(value) // 2 if key == "hex" else len(value.encode("utf-8"))
-
-
-def _bytes_of(key: str, value: Any) -> Iterator[bytes]:
-    if key == "zeros":
-        yield from objects.zeros(value)
-    else:
-        yield bytes.fromhex(value) if key == "hex" else value.encode("utf-8")
+def _count(entry: Dict[str, Any]) -> int:
+    """How many bytes an entry says, of those that stand in the manifest."""
+    if "text" in entry:
+        return len(entry["text"].encode("utf-8"))
+    return len(entry["hex"]) // 2 if "hex" in entry else int(entry.get("zeros", 0))

@@ -2,7 +2,8 @@
 
 import os
 import stat
-from typing import Dict, Hashable, Iterable, Iterator, List, NamedTuple, Optional, Tuple
+from typing import (Dict, Hashable, Iterable, Iterator, List, NamedTuple, Optional, Sequence, Tuple,
+                    Union)
 
 DIRECTORY = "dir"
 FILE = "file"
@@ -57,6 +58,43 @@ def parent_of(path: str) -> str:
     return path.rpartition("/")[0] or "/"
 
 
+def name_of(path: str) -> str:
+    """The last name of a path."""
+    return path.rpartition("/")[2]
+
+
+def path_in(directory: str, name: str) -> str:
+    """The path of a name in a directory."""
+    return f"/{name}" if directory == "/" else f"{directory}/{name}"
+
+
+class Folder:
+    """A directory of a tree, by which its names are found; `entry` is what stands at its path.
+    `has_several` says of a root whether anything in the tree may have several names."""
+
+    __slots__ = ("path", "entry", "has_several")
+
+    def __init__(self, path: str, entry: Optional[Entry] = None) -> None:
+        self.path = path
+        self.entry = entry
+        self.has_several = False
+
+    def names(self) -> Sequence[str]:
+        """The names in it, by their bytes."""
+        raise NotImplementedError
+
+    def has(self, name: str) -> bool:
+        """Whether a name is in it."""
+        raise NotImplementedError
+
+    def at(self, name: str) -> "Found":
+        """What stands at a name."""
+        raise NotImplementedError
+
+
+Found = Union[Folder, Entry, None]
+
+
 class Tree:
     """A tree of directories, files and symbolic links."""
 
@@ -75,6 +113,11 @@ class Tree:
 
     def place(self, entry: Entry) -> Optional[Hashable]:
         """Where the bytes of a file are: the same place has the same ones. None says nothing."""
+        return None
+
+    def top(self) -> Optional[Folder]:
+        """The root, where directories lead from one to the next, so that few entries are held at
+        once; None where all have to be asked for."""
         return None
 
 

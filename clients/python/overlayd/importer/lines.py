@@ -9,7 +9,7 @@ import json
 import re
 from binascii import Error, unhexlify
 from codecs import getincrementaldecoder
-from typing import Any, BinaryIO, Iterator, NamedTuple, Tuple
+from typing import Any, BinaryIO, Iterator, NamedTuple, Optional, Tuple
 
 from .objects import zeros
 from .toml import Found, NotToml, read
@@ -107,7 +107,21 @@ class Lines:
         if data.key == "zeros":
             yield from zeros(data.size)
         elif data.size:
-            yield from _pieces(data.key, _Cursor(self._stream, data.place))
+            short = self._short(data) if data.size < _FIRST_READ else None
+            if short is None:
+                yield from _pieces(data.key, _Cursor(self._stream, data.place))
+            else:
+                yield short
+
+    def _short(self, data: Bytes) -> Optional[bytes]:
+        """The few bytes of a text of one line; None where it is of a seldom form."""
+        self._stream.seek(data.place)
+        value = self._stream.readline(_LINE_MOST).strip()
+        try:
+            found = None if value[:3] in _LONG_QUOTES else _said(data.key, value)
+        except (ValueError, OtherForm):
+            return None
+        return found if found is not None and len(found) == data.size else None
 
     def _pair(self, line: bytes, begin: int) -> Tuple[str, Any, int]:
         """The key of a line and its value, and where the next line begins."""
@@ -154,23 +168,38 @@ def _size(key: str, value: bytes) -> int:
     """How many bytes a value of one line says. Raises ValueError where it is of a seldom form."""
     if key == "zeros":
         return int(value.decode("ascii"), 0)
-    quotes = value[:1]
-    inside = value[1:-1]
-    if len(value) < 2 or value[-1:] != quotes or quotes not in _INSIDE:
-        raise ValueError
     if key == "hex":
-        if len(inside) % 2:
+        digits = _between_quotes(value)
+        if len(digits) % 2:
             raise ValueError
-        return len(inside) // 2
+        return len(digits) // 2
+    return len(_said(key, value))
+
+
+def _said(key: str, value: bytes) -> bytes:
+    """The bytes that a text or digits of one line say. Raises ValueError where it is of a seldom
+    form."""
+    inside = _between_quotes(value)
+    if key == "hex":
+        return unhexlify(inside)
+    if not inside.isascii():
+        inside.decode("utf-8")
+    quotes = value[:1]
     if b"\\" not in inside or quotes == b"'":
         if quotes in inside:
             raise ValueError
-        return len(inside) if inside.isascii() else len(inside.decode("utf-8").encode("utf-8"))
-    found = _INSIDE[quotes].fullmatch(inside)
-    if found is None:
+        return inside
+    if _INSIDE[quotes].fullmatch(inside) is None:
         raise ValueError
-    inside.decode("utf-8")
-    return len(_without_escapes(inside))
+    return _without_escapes(inside)
+
+
+def _between_quotes(value: bytes) -> bytes:
+    """What stands between the quotes of a value of one line."""
+    quotes = value[:1]
+    if len(value) < 2 or value[-1:] != quotes or quotes not in _INSIDE:
+        raise ValueError
+    return value[1:-1]
 
 
 def _value(value: bytes) -> Any:

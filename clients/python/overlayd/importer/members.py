@@ -87,8 +87,10 @@ def _number(field: bytes) -> int:
     return _octal(digits)
 
 
-# Modes, owners and times are the same again and again.
-_repeated_number = lru_cache(maxsize=4096)(_number)
+@lru_cache(maxsize=4096)
+def _mode_and_owner(fields: bytes) -> Tuple[int, int, int]:
+    """The mode, the owner and the group of a header, which are the same again and again."""
+    return _number(fields[:8]), _number(fields[8:16]), _number(fields[16:])
 
 
 def _octal(digits: bytes) -> int:
@@ -114,7 +116,8 @@ def _check_sum(block: bytes) -> None:
     bytes with or without a sign. The lower half of an Adler-32 is one more than the sum of up to
     256 bytes."""
     field = block[148:156]
-    told = _number(field)
+    is_usual = field[6:] == b"\0 " and field[:6].isdigit()
+    told = _number(field[:7] if is_usual else field)
     if (adler32(block[:256]) & 0xFFFF) + (adler32(block[256:]) & 0xFFFF) - 1 \
             - (adler32(field) & 0xFFFF) + _BLANKS_SUM == told:
         return
@@ -192,10 +195,8 @@ class _Reader:
         else:
             kind_of = kind
         member = Member(kind_of, name, size)
-        member.mode = _repeated_number(block[100:108])
-        member.uid = _repeated_number(block[108:116])
-        member.gid = _repeated_number(block[116:124])
-        member.mtime = _repeated_number(block[136:148]) * SECOND
+        member.mode, member.uid, member.gid = _mode_and_owner(block[100:124])
+        member.mtime = _number(block[136:148]) * SECOND
         if kind_of in (LINK, SYMLINK):
             member.linkname = text_of(block[157:257])
         elif kind_of in (CHARACTER, BLOCK_DEVICE):

@@ -2,7 +2,7 @@
 
 from typing import List, Optional, Sequence, Tuple, cast
 
-from .objects import Directory, File, Names, Object, Whiteout, link_times, walk
+from .objects import Directory, File, Names, Object, Whiteout, all_in, link_times
 
 Found = Tuple[int, Object]
 Place = Tuple[int, Directory]
@@ -21,7 +21,7 @@ class Layer:
 
     def largest(self) -> int:
         """How many bytes its largest file has; 0 where it has none."""
-        sizes = (node.size for _, node in walk(self.tree()) if isinstance(node, File))
+        sizes = (node.size for node in all_in(self.tree()) if isinstance(node, File))
         return max(sizes, default=0)
 
 
@@ -98,6 +98,14 @@ class Merge:
     def child(self, places: Sequence[Place], name: str) -> List[Found]:
         """What the layers have at a name of a merged directory: directories that are merged, the
         highest first, or one other object; nothing where there is none."""
+        for index, base in places:
+            first = base.children.get(name)
+            if isinstance(first, Directory):
+                break
+            if first is not None:
+                return [] if isinstance(first, Whiteout) else [(index, first)]
+        else:
+            return []
         found: List[Found] = []
         goal = _Goal(name)
         rest = list(places)

@@ -98,6 +98,9 @@ class Content:
         raise NotImplementedError
 
 
+_NOWHERE = Content()
+
+
 class File(Inode):
     """A file. `place` tells its source where the bytes are; `linked`, that it may have more names;
     `special`, the letter of a fifo, socket or device, and its number, of one that stands for it.
@@ -108,7 +111,7 @@ class File(Inode):
     def __init__(self, mode: int, uid: int, gid: int, attrs: Attributes, size: int) -> None:
         super().__init__(mode, uid, gid, attrs)
         self.size = size
-        self.source: Content = Content()
+        self.source: Content = _NOWHERE
         self.place: object = None
         self.linked = False
         self.special: Optional[Tuple[str, int]] = None
@@ -160,6 +163,16 @@ def at(root: Directory, names: Names) -> Optional[Object]:
 def path_text(names: Names) -> str:
     """The path of these names from the root."""
     return "/" + "/".join(names)
+
+
+def all_in(root: Directory) -> Iterator[Object]:
+    """What stands in a tree below its root, in any order."""
+    todo = [root]
+    while todo:
+        for node in todo.pop().children.values():
+            if isinstance(node, Directory):
+                todo.append(node)
+            yield node
 
 
 def walk(root: Directory) -> Iterator[Tuple[str, Object]]:

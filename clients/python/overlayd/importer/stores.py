@@ -2,7 +2,7 @@
 
 import os
 import tempfile
-from typing import BinaryIO, Callable, Set, Tuple, cast
+from typing import BinaryIO, Callable, Optional, Set, Tuple, cast
 
 from .objects import ZEROS, Data, Long, Part
 
@@ -29,14 +29,18 @@ class Store:
 
     def keep(self, data: Data) -> Data:
         """Where the bytes are then; those of a part stay where they are, and zeros are none."""
+        if isinstance(data, bytes):
+            return self.keep_bytes(data) or data
         if isinstance(data, Part):
             return data
-        if isinstance(data, bytes):
-            if not data.strip(b"\0"):
-                return data
-            self._stream.write(data)
-            return self._part(len(data))
         return self._keep_long(data) if data.copy is None else self._copy_long(data, data.copy)
+
+    def keep_bytes(self, data: bytes) -> Optional[Part]:
+        """Where the bytes are then; None of zeros, which aren't kept."""
+        if not data or not data[0] and not data.strip(b"\0"):
+            return None
+        self._stream.write(data)
+        return self._part(len(data))
 
     def _copy_long(self, data: Long, copy: Callable[[int, int], bool]) -> Data:
         """What the system itself copies."""

@@ -95,11 +95,11 @@ class _Reading:
         if parent is None:
             self._leave_out(member, LOST, "what is above it in this layer is no directory")
             return
-        node = self._object(member, names, parent.children.get(names[-1]))
+        there = parent.children.get(names[-1])
+        node = self._object(member, names, there)
         if node is None and self._layer.covers:
             node = WHITEOUT
         if node is not None:
-            there = parent.children.get(names[-1])
             if isinstance(there, Directory) or isinstance(node, Directory):
                 self._last = (), self._root
             parent.children[names[-1]] = node

@@ -7,7 +7,7 @@ from .blobs import Blob, reading, skip
 from .keeping import Keep
 from .members import Stretches
 from .merging import Layer, Merge
-from .objects import PIECE, Content, Data, Directory, File, Long, Object, Part, walk, zeros
+from .objects import PIECE, Content, Data, Directory, File, Long, Object, Part, all_in, zeros
 from .references import References
 from .tar_trees import read_tree
 from .telling import Report
@@ -37,7 +37,7 @@ class TarLayer(Content, Layer):
     def refer(self, references: References) -> None:
         """Has the bytes of its files referred to, where it is a file that can be, and has some."""
         in_file = self._blob.in_file()
-        if in_file is not None and any(self._refers_to(node) for _, node in walk(self.tree())):
+        if in_file is not None and any(map(self._refers_to, all_in(self.tree()))):
             self._number = references.number(in_file[0])
             self._begin = in_file[1]
 
@@ -45,7 +45,7 @@ class TarLayer(Content, Layer):
         """Whether it has bytes that aren't referred to."""
         return any(isinstance(node, File) and node.source is self and node.size > 0
                    and (self._number is None or not self._refers_to(node))
-                   for _, node in walk(self.tree()))
+                   for node in all_in(self.tree()))
 
     def _refers_to(self, node: Object) -> bool:
         return (isinstance(node, File) and node.source is self and node.size > 0
@@ -71,7 +71,8 @@ class TarLayer(Content, Layer):
                 if not file.size:
                     yield file, b""
                     continue
-                offset, stretches = _place(file)
+                place = file.place
+                offset, stretches = (place, None) if isinstance(place, int) else _place(file)
                 if self._number is not None and stretches is None:
                     yield file, self._part(offset, file.size)
                     continue
@@ -121,7 +122,10 @@ def _place(file: File) -> Tuple[int, Stretches]:
 
 
 def _offset(file: File) -> int:
-    return 0 if file.place is None else _place(file)[0]
+    place = file.place
+    if isinstance(place, int):
+        return place
+    return 0 if place is None else _place(file)[0]
 
 
 def _stored(size: int, stretches: Stretches) -> int:

@@ -221,8 +221,8 @@ class ManifestWriter:
 
     def plain_file(self, lines: bytes, data: bytes) -> None:
         """A file whose entry is there but for its bytes, and these."""
-        kept = data if self._store is None else self._store.keep(data)
-        self._out.write(lines + (part_lines(kept) if isinstance(kept, Part) else bytes_line(data)))
+        kept = None if self._store is None else self._store.keep_bytes(data)
+        self._out.write(lines + (bytes_line(data) if kept is None else part_lines(kept)))
         self.objects += 1
         self.bytes += len(data)
 

@@ -8,7 +8,7 @@ from typing import Iterator, List, Optional, Tuple
 
 from ..client import Client
 from ..command_line import parser_of
-from ..exporter import LowerTree, MountTree, Unsayable, changes
+from ..exporter import LowerTree, MountTree, Unsayable, each_change
 from ..importer.output import unwound_by_sigterm
 from ..importer.telling import shown
 
@@ -64,11 +64,12 @@ def counted(path: str) -> Iterator[Tuple[str, str]]:
 def upper(client: Client, manifest: str) -> Iterator[Tuple[str, str]]:
     """How large what a mount has over its lower layers is."""
     lower = LowerTree(manifest)
-    found = [change for change in changes(lower, MountTree(client, lower.manifest.file_limit))
-             if not change.is_same]
-    size = sum(change.entry.size for change in found
-               if change.entry is not None and change.link_to is None)
-    yield "upper_names", str(len(found))
+    names = size = 0
+    for change in each_change(lower, MountTree(client, lower.manifest.file_limit)):
+        names += not change.is_same
+        if change.entry is not None and change.link_to is None and not change.is_same:
+            size += change.entry.size
+    yield "upper_names", str(names)
     yield "upper_bytes", str(size)
 
 
