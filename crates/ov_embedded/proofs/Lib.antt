@@ -10,3 +10,4 @@ pub mod Moves
 pub mod Names
 pub mod Pieces
 pub mod Places
+pub mod Refusals

@@ -1,25 +1,32 @@
 -- The mount of what a manifest gave.
-use Rattle.std.proofs.Common.{◌≡◌, ℕ, Bool, not, List, ◌∷◌, Option, Some, None, IfSome, option_map, refl, sym, ap, subst, map, is_none, is_some}
+use Rattle.std.proofs.Common.{◌≡◌, ℕ, Bool, not, List, ◌∷◌, length, Option, Some, None, Result, Ok, Err, IfSome, option_map, refl, sym, ap, subst, map, is_none, is_some}
 use Rattle.std.proofs.lemmas.Option.{none-some}
 use Rattle.std.specs.Prelude.{unwrap_or}
-use Rattle.toml.specs.Data.{Data, Items, Members}
+use Rattle.toml.specs.Data.{Items, Members}
+use Rattle.ov_base.specs.declared.options.Options.{Options}
 use Rattle.toml.specs.Parse.{parse_document}
 use Rattle.layer_tree.specs.Tree.{Tree, layer_of, layers_given}
 use Rattle.merged_lookup.specs.declared.layers.Layers.{Layers}
 use Rattle.ov_wire.specs.ManifestLayers.{AreSpelled, IsTold, fault_of, manifest_of}
+use Rattle.ov_wire.specs.Manifests.{blob_names}
 use Rattle.ov_wire.specs.declared.manifest.fault.ManifestFault.{ManifestFault}
 use Rattle.ov_wire.specs.declared.manifest.fault.ManifestFault.TheVariants as manifest
 use Rattle.ov_server.specs.GoingOn.{going_on, layer_alone}
 use Rattle.overlay_core.specs.declared.mounted.Core.{Core}
 use Rattle.watch_table.specs.declared.hook.Callback.{Ghosts as Callback}
 use Rattle.watch_table.specs.declared.hook.Rule.{Ghosts as Rule}
-use Rattle.ov_embedded.specs.Mounting.{IsMountOf, IsMounted, IsMountedOn, IsUnmountable, layers_told, of_manifest, pieces_of}
+use Rattle.ov_embedded.specs.Mounting.{Fits, IsMountOf, IsMounted, IsMountedOn, IsUnmountable, layers_told, of_manifest, pieces_of}
 
 -- what something was made of
-mapped : {A B : Type 0} (f : A → B) (o : Option A) (y : B) → option_map f o ≡ Some y →
+pub mapped : {A B : Type 0} (f : A → B) (o : Option A) (y : B) → option_map f o ≡ Some y →
     (x : A) × (o ≡ Some x) × (f x ≡ y)
 mapped f None y e = absurd (none-some y e)
 mapped f (Some x) y e = (x, refl, ap (λ o. unwrap_or o y) e)
+
+-- a fault that is told is the one that there is
+fault_told : (r : Result Options ManifestFault) {f : ManifestFault} → fault_of r ≡ Some f → r ≡ Err f
+fault_told (Ok x) {f} e = absurd (none-some f e)
+fault_told (Err g) {f} e = ap (λ o. Err (unwrap_or o g)) e
 
 -- a fault of the layers is one of the manifest, or memory ran out
 pub told_fault : (blobs : List (List ℕ)) (m : Members) (f : ManifestFault) →
@@ -28,7 +35,7 @@ told_fault blobs m f =
     elim f as (λ x.
     IsTold (fault_of (manifest_of blobs m)) x → IsUnmountable blobs m (of_manifest x)) [
       | manifest.Memory e ↦ λ told. tt
-      | _ ↦ λ told. told
+      | _ ↦ λ told. fault_told (manifest_of blobs m) told
     ]
 
 -- a mount is read-only where it is given no upper
@@ -56,29 +63,32 @@ held_by limit blobs (Some u) lowers l b items above below has spelled =
 module _ {F G : Type 0} {asks : Callback F} {rule : Rule G} (all lengths : List ℕ)
     (blobs : List (List ℕ)) (core made : Core F G asks rule) where
   -- so of the bytes of the manifest and of its blobs'
-  pub mounted_of : (bytes : List ℕ) (m : Members) → parse_document bytes ≡ Some m →
-      blobs ≡ pieces_of lengths all → IsMountOf blobs m core → made ≡ core →
-      IsMounted bytes all lengths made
-  mounted_of bytes m document parts mount is = (
+  pub mounted_of : (bytes : List ℕ) (m : Members) (count : ℕ) → parse_document bytes ≡ Some m →
+      blobs ≡ pieces_of lengths all → count ≡ length (blob_names m) → Fits lengths all count →
+      IsMountOf blobs m core → made ≡ core → IsMounted bytes all lengths made
+  mounted_of bytes m count document parts counted fits mount is = (
     m,
     document,
+    subst (λ n. Fits lengths all n) counted fits,
     subst (λ c. IsMountOf (pieces_of lengths all) m c) (sym is)
         (subst (λ b. IsMountOf b m core) parts mount),
   )
 
   -- and of those of a saved upper, with which it goes on
-  pub goes_on : (saved bytes : List ℕ) (s m joined : Members) → parse_document saved ≡ Some s →
+  pub goes_on : (saved bytes : List ℕ) (s m joined : Members) (count : ℕ) →
+      parse_document saved ≡ Some s →
       parse_document bytes ≡ Some m →
       option_map (λ upper. going_on upper m) (layer_alone s) ≡ Some joined →
-      blobs ≡ pieces_of lengths all → IsMountOf blobs joined core → made ≡ core →
-      IsMountedOn saved bytes all lengths made
-  goes_on saved bytes s m joined upper document over parts mount is =
+      blobs ≡ pieces_of lengths all → count ≡ length (blob_names m) → Fits lengths all count →
+      IsMountOf blobs joined core → made ≡ core → IsMountedOn saved bytes all lengths made
+  goes_on saved bytes s m joined count upper document over parts counted fits mount is =
       let it = mapped (λ d. going_on d m) (layer_alone s) joined over in (
         s,
         m,
         it.0,
         upper,
         document,
+        subst (λ n. Fits lengths all n) counted fits,
         it.1,
         subst (λ j. IsMountOf (pieces_of lengths all) j made) (sym it.2)
             (subst (λ c. IsMountOf (pieces_of lengths all) joined c) (sym is)

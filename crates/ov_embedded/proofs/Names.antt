@@ -1,5 +1,5 @@
 -- The names of blobs, one behind the other.
-use Rattle.std.proofs.Common.{◌≡◌, ℕ, ◌+◌, ◌<◌, ◌≤◌, List, [], ◌∷◌, ◌++◌, length, get_or, map, drop, Some, Result, Ok, Err, IsErr, IsOk, IsSome, IsUtf8, inl, inr, refl, subst, sym, ap, ◌∙◌}
+use Rattle.std.proofs.Common.{◌≡◌, ℕ, ◌+◌, ◌<◌, ◌≤◌, List, [], ◌∷◌, ◌++◌, length, get_or, map, drop, Some, IsOk, IsSome, IsUtf8, inl, inr, refl, subst, sym, ap, ◌∙◌}
 use Rattle.std.proofs.lemmas.List.{append-nil, append_assoc, drop_all, drop_more, length-map}
 use Rattle.toml.specs.Data.{Members}
 use Rattle.toml.specs.Parse.{parse_document}
@@ -7,6 +7,7 @@ use Rattle.ov_wire.specs.Manifests.{IsMemory, blob_names, whole_of}
 use Rattle.ov_wire.specs.declared.manifest.fault.ManifestFault.{ManifestFault}
 use Rattle.ov_wire.specs.declared.manifest.fault.ManifestFault.TheVariants as fault
 use Rattle.ov_embedded.specs.Mounting.{IsToldAs, of_manifest}
+use Rattle.ov_embedded.proofs.Refusals.{not_ok}
 use Rattle.ov_embedded.specs.Naming.{AreNames, IsNameless, TellsNames, names_text}
 use Rattle.ov_embedded.specs.declared.manifest.Unmountable.{Unmountable}
 use Rattle.ov_embedded.specs.declared.manifest.Unmountable.TheVariants as unmountable
@@ -48,11 +49,6 @@ module _ {A : Type 0} (view : A → List ℕ) (names : List A) where
     counted ∙ (sym (length-map names view) ∙ ap length same),
   )
 
--- what isn't well is a fault
-not_ok : {T E : Type 0} (r : Result T E) → (IsOk r → ⊥) → IsErr r
-not_ok (Ok x) h = absurd (h refl)
-not_ok (Err e) h = refl
-
 -- no names come of bytes that are no TOML
 pub nameless_bytes : (manifest : List ℕ) (f : ManifestFault) →
     (IsUtf8 manifest → IsSome (parse_document manifest) → IsMemory f) →
@@ -85,6 +81,5 @@ tells_none manifest before after unmountable.Memory result told none (inl e) =
     subst (λ r. TellsNames manifest before after r told 0) (sym e) refl
 tells_none manifest before after (unmountable.Upper f) result told none e = absurd none
 tells_none manifest before after (unmountable.Blob n) result told none e = absurd none
-tells_none manifest before after unmountable.Layers result told none e = absurd none
 tells_none manifest before after why result told none (inr e) =
     subst (λ r. TellsNames manifest before after r told 0) (sym e) refl

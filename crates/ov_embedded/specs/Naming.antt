@@ -1,10 +1,11 @@
 -- The names of a manifest's blobs.
-use Rattle.std.specs.Prelude.{◌≡◌, ℕ, List, [], ◌∷◌, ◌++◌, length, Some, IsErr, IsSome, IsUtf8, ◌⊎◌}
+use Rattle.std.specs.Prelude.{◌≡◌, ℕ, List, [], ◌∷◌, ◌++◌, length, Some}
 use Rattle.std.specs.List.{flat_map}
 use Rattle.toml.specs.Data.{Members}
 use Rattle.toml.specs.Parse.{parse_document}
-use Rattle.ov_wire.specs.Manifests.{blob_names, whole_of}
+use Rattle.ov_wire.specs.Manifests.{blob_names}
 use Rattle.ov_embedded.specs.Calling.{IsCopied}
+use Rattle.ov_embedded.specs.Mounting.{IsNoManifest}
 use Rattle.ov_embedded.specs.declared.manifest.Unmountable.{Unmountable}
 use Rattle.ov_embedded.specs.declared.manifest.Unmountable.TheVariants as unmountable
 use Rattle.ov_embedded.specs.declared.outcome.Outcome.{Outcome}
@@ -20,15 +21,9 @@ AreNames manifest text count =
     (m : Members) × (parse_document manifest ≡ Some m) × (text ≡ names_text (blob_names m))
     × (count ≡ length (blob_names m))
 
--- why a manifest has none: it is no TOML, or its whole is at fault
-abbrev pub HasNoNames : List ℕ → Type 0
-HasNoNames manifest =
-    (IsUtf8 manifest → IsSome (parse_document manifest) → ⊥)
-    ⊎ ((m : Members) × (parse_document manifest ≡ Some m) × IsErr (whole_of m))
-
--- this is why none are told
+-- this is why none are told: there is no manifest, or memory ran out
 abbrev pub IsNameless : List ℕ → Unmountable → Type 0
-IsNameless manifest (unmountable.Manifest f) = HasNoNames manifest
+IsNameless manifest (unmountable.Manifest f) = IsNoManifest manifest
 IsNameless manifest unmountable.Memory = Unit {0}
 IsNameless manifest _ = ⊥
 
@@ -36,6 +31,6 @@ IsNameless manifest _ = ⊥
 abbrev pub TellsNames : List ℕ → List ℕ → List ℕ → Outcome → ℕ → ℕ → Type 0
 TellsNames manifest before after outcome.Done told count =
     (text : List ℕ) × AreNames manifest text count × IsCopied text before after told
-TellsNames manifest before after outcome.Fault told count = HasNoNames manifest × (count ≡ 0)
+TellsNames manifest before after outcome.Fault told count = IsNoManifest manifest × (count ≡ 0)
 TellsNames manifest before after outcome.NoMemory told count = count ≡ 0
 TellsNames manifest before after _ told count = ⊥

@@ -1,6 +1,8 @@
 // A mount that goes on with a saved upper.
-ghost use Rattle.std.specs.Prelude.{IfOk};
-ghost use Rattle.ov_embedded.specs.Mounting.{IsFresh, IsMountedOn};
+ghost use Rattle.std.specs.Prelude.{◌≡◌, IfErr, IfOk};
+ghost use Rattle.toml.specs.View.{table_view};
+ghost use Rattle.ov_embedded.specs.Mounting as mounting;
+ghost use Rattle.ov_embedded.specs.Mounting.{Blames, GoesNowhere, HasNoWhole, IsFresh, IsMountedOn};
 
 use crate::manifest::{Unmountable, blobs_in, core_of};
 use crate::mounted::Mounted;
@@ -11,7 +13,9 @@ use std::hash::RandomState;
 use toml::{Table, Value};
 
 // How a fault of a saved upper is told.
-fn of_upper(fault: ManifestFault) -> Unmountable {
+fn of_upper(fault: ManifestFault) -> Unmountable
+    ensures { result ≡ mounting.of_upper fault }
+{
     match fault {
         ManifestFault::Memory(_) => Unmountable::Memory,
         fault => Unmountable::Upper(fault),
@@ -20,7 +24,9 @@ fn of_upper(fault: ManifestFault) -> Unmountable {
 
 // The fault of a manifest's whole that came by its new upper. A key that is at fault then is the
 // upper's.
-fn judge(alloc: Global, joined: &Table) -> Result<(), Unmountable> {
+fn judge(alloc: Global, joined: &Table) -> Result<(), Unmountable>
+    ensures { IfErr result (HasNoWhole (table_view joined.now)) }
+{
     match blobs_of(alloc, joined) {
         Ok(_) => Ok(()),
         Err(ManifestFault::Key) => Err(Unmountable::Upper(ManifestFault::Key)),
@@ -30,7 +36,9 @@ fn judge(alloc: Global, joined: &Table) -> Result<(), Unmountable> {
 
 // Whose fault it is: layer 0 is the upper's, and the others count the manifest's own layers, of
 // which there are so many less above.
-fn whose(fault: Unmountable, less: usize) -> Unmountable {
+fn whose(fault: Unmountable, less: usize) -> Unmountable
+    ensures { Blames fault result }
+{
     match fault {
         Unmountable::Manifest(
             ManifestFault::Entry {
@@ -71,6 +79,8 @@ impl Mounted {
         ensures mounted { IfOk result (λ m.
             IsMountedOn saved.now manifest.now blobs.now lengths.now m.core) }
         ensures fresh { IfOk result IsFresh }
+        ensures refused { IfErr result
+            (GoesNowhere saved.now manifest.now blobs.now lengths.now) }
     {
         let upper = match table_of(alloc, saved) {
             Ok(upper) => upper,

@@ -1,8 +1,8 @@
 // A mount of a manifest and the bytes of its blobs.
-ghost use Rattle.std.specs.Prelude.{◌≡◌, IfErr, IfOk};
+ghost use Rattle.std.specs.Prelude.{◌≡◌, IfErr, IfOk, OnOk};
 ghost use Rattle.toml.specs.View.{table_view};
 ghost use Rattle.ov_embedded.specs.Mounting as mounting;
-ghost use Rattle.ov_embedded.specs.Mounting.{IsFresh, IsMountOf, IsMounted, IsUnmountable, outcome_of, pieces_of};
+ghost use Rattle.ov_embedded.specs.Mounting.{Fits, HasNoMount, IsFresh, IsMountOf, IsMounted, IsUnfit, IsUnmountable, outcome_of, pieces_of};
 ghost use Rattle.ov_embedded.specs.declared.manifest.Unmountable.TheVariants as unmountable;
 
 use crate::mounted::Mounted;
@@ -24,12 +24,10 @@ pub(crate) enum Unmountable {
     /// The bytes are not those of the blobs that the manifest names: this one, counted from 0,
     /// lacks some, or they are more than those of so many.
     Blob(usize),
-    /// What the manifest tells is no mount.
-    Layers,
     Memory,
 }
 
-#[tactic(auto, using(crate::proofs::Pieces::pieces_more, crate::proofs::Pieces::pieces_all))]
+#[tactic(auto, using(crate::proofs::Pieces::pieces_more, crate::proofs::Pieces::pieces_all, crate::proofs::Pieces::sum_more, crate::proofs::Pieces::sum_all, crate::proofs::Pieces::too_long, crate::proofs::Pieces::too_many))]
 // The parts of some bytes that have these lengths, which are all of them, and are to be so many.
 pub(crate) fn blobs_in(
     alloc: Global,
@@ -37,7 +35,9 @@ pub(crate) fn blobs_in(
     lengths: &[usize],
     count: usize,
 ) -> Result<Vec<Blob>, Unmountable>
-    ensures { IfOk result (λ blobs. blobs.items ≡ pieces_of lengths.now bytes.now) }
+    ensures blobs { IfOk result (λ blobs. blobs.items ≡ pieces_of lengths.now bytes.now) }
+    ensures fits { OnOk result (Fits lengths.now bytes.now count) }
+    ensures unfit { IfErr result (IsUnfit lengths.now bytes.now count) }
 {
     if lengths.len() != count {
         return Err(Unmountable::Blob(count.min(lengths.len())));
@@ -74,7 +74,7 @@ pub(crate) fn core_of(
     match Core::mount(alloc, keys, upper, lowers, options) {
         Ok(core) => Ok(core),
         Err(Unmounted { fault: None, .. }) => Err(Unmountable::Memory),
-        Err(Unmounted { fault: Some(_), .. }) => Err(Unmountable::Layers),
+        Err(Unmounted { fault: Some(_), .. }) => unreachable!(),
     }
 }
 
@@ -92,6 +92,7 @@ impl Mounted {
         ensures mounted { IfOk result (λ m.
             IsMounted manifest.now blobs.now lengths.now m.core) }
         ensures fresh { IfOk result IsFresh }
+        ensures refused { IfErr result (HasNoMount manifest.now blobs.now lengths.now) }
     {
         let table = table_of(alloc, manifest)?;
         let count = blobs_of(alloc, &table)?.len();
@@ -109,9 +110,7 @@ impl Unmountable {
         match self {
             Unmountable::Memory => Outcome::NoMemory,
             Unmountable::Upper(_) => Outcome::Upper,
-            Unmountable::Manifest(_) | Unmountable::Blob(_) | Unmountable::Layers => {
-                Outcome::Fault
-            }
+            Unmountable::Manifest(_) | Unmountable::Blob(_) => Outcome::Fault,
         }
     }
 
@@ -122,7 +121,6 @@ impl Unmountable {
                 format!(in alloc; "{fault}")
             }
             Unmountable::Blob(blob) => format!(in alloc; "cannot read blob {blob}"),
-            Unmountable::Layers => format!(in alloc; "the layers are no mount"),
             Unmountable::Memory => format!(in alloc; "out of memory"),
         }
     }
@@ -148,6 +146,8 @@ impl From<AllocError> for Unmountable {
 }
 
 impl<T: Drop> From<AllocFailed<T>> for Unmountable {
+    ghost from_gives = { λ error why. why ≡ unmountable.Memory };
+
     fn from(_fault: AllocFailed<T>) -> Unmountable {
         Unmountable::Memory
     }

@@ -1,9 +1,9 @@
 // What is asked of what a handle holds.
-ghost use Rattle.std.specs.Prelude.{◌≡◌, Err, IfOk};
+ghost use Rattle.std.specs.Prelude.{◌≡◌, Err, IfErr, IfOk};
 ghost use Rattle.std.specs.declared.option.Option.TheVariants.{None};
 ghost use Rattle.ov_embedded.specs.Attending.{Attends, Departs};
 ghost use Rattle.ov_embedded.specs.Calling.{Comes, IsAgain, IsShown};
-ghost use Rattle.ov_embedded.specs.Mounting.{IsFresh, IsMounted, IsRefusal, IsToldAs, MountsAs, MountsInto};
+ghost use Rattle.ov_embedded.specs.Mounting.{HasNoMount, IsFresh, IsMounted, IsToldAs, MountsAs, MountsInto};
 ghost use Rattle.ov_embedded.specs.Through.{Through};
 ghost use Rattle.ov_embedded.specs.declared.outcome.Outcome.TheVariants as outcome;
 
@@ -28,6 +28,7 @@ fn boxed(
     ensures mounted { IfOk result (λ m.
         IsMounted manifest.now blobs.now lengths.now m.value.core) }
     ensures fresh { IfOk result (λ m. IsFresh m.value) }
+    ensures refused { IfErr result (HasNoMount manifest.now blobs.now lengths.now) }
 {
     let Ok(keys) = keys_of(keys) else {
         return Err(Unmountable::Memory);
@@ -38,8 +39,7 @@ fn boxed(
 
 /// Tells why there is no mount, with a text in some room, as far as that goes.
 pub(crate) fn told(alloc: Global, why: &Unmountable, room: &mut [u8]) -> (Outcome, usize)
-    ensures refusal { IsRefusal result.0 }
-    ensures told { IsToldAs why.now result.0 }
+    ensures { IsToldAs why.now result.0 }
 {
     match why.text(alloc) {
         Ok(text) => (why.outcome(), copy_into(text.as_bytes(), room)),
@@ -83,7 +83,8 @@ pub fn mount_core_through(
     handle: &mut Handle,
     core: Core<ByTag, ProgramRule>,
 ) -> Outcome
-    ensures { MountsAs (λ m. m.core ≡ core) handle.old.mounted handle.new.mounted result }
+    ensures { MountsAs (λ m. m.core ≡ core) (λ why. ⊥) handle.old.mounted handle.new.mounted
+        result }
 {
     if let Some(mounted) = handle.take(alloc) {
         *handle = Handle::of(mounted);

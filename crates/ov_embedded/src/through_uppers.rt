@@ -1,7 +1,7 @@
 // A mount through a handle that goes on with a saved upper, and what is saved of one.
-ghost use Rattle.std.specs.Prelude.{◌≡◌, Err, IfOk};
+ghost use Rattle.std.specs.Prelude.{◌≡◌, Err, IfErr, IfOk};
 ghost use Rattle.std.specs.declared.option.Option.TheVariants.{None};
-ghost use Rattle.ov_embedded.specs.Mounting.{IsFresh, IsMountedOn, MountsOnInto};
+ghost use Rattle.ov_embedded.specs.Mounting.{GoesNowhere, IsFresh, IsMountedOn, MountsOnInto};
 ghost use Rattle.ov_embedded.specs.Saving.{ListsLayer, Recalls, Saves};
 ghost use Rattle.ov_embedded.specs.Through.{Through};
 ghost use Rattle.ov_embedded.specs.declared.outcome.Outcome.TheVariants as outcome;
@@ -27,6 +27,8 @@ fn boxed(
     ensures mounted { IfOk result (λ m.
         IsMountedOn saved.now manifest.now blobs.now lengths.now m.value.core) }
     ensures fresh { IfOk result (λ m. IsFresh m.value) }
+    ensures refused { IfErr result
+        (GoesNowhere saved.now manifest.now blobs.now lengths.now) }
 {
     let Ok(keys) = keys_of(keys) else {
         return Err(Unmountable::Memory);

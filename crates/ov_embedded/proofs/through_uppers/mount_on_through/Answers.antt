@@ -1,0 +1,13 @@
+use Rattle.std.proofs.Common.{◌≡◌, rules}
+use Rattle.std.specs.declared.option.Option.TheVariants.{None, Some}
+use Rattle.ov_embedded.proofs.Handled.{goes_on_made}
+use Rattle.ov_embedded.proofs.through_uppers.mount_on_through.Goals as goal
+
+pub returns-in-Ok : goal.returns-in-Ok
+returns-in-Ok c =
+    let m = c.in-Ok.mounted.value in
+    let gone : c.args.handle.now.mounted ≡ None = search rules in
+    let holds : c.of-in-Ok.result.mounted ≡ Some m = search rules in
+    goes_on_made c.args.manifest.now c.args.blobs.now c.args.lengths.now
+    c.args.handle.now.mounted c.of-in-Ok.result.mounted c.args.saved.now m gone holds
+    c.in-Ok.ensures.mounted c.in-Ok.ensures.fresh
