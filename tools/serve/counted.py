@@ -1,5 +1,4 @@
 """Tests of the file that has, second by second, what a server counts."""
-import contextlib
 import os
 import subprocess
 import threading
@@ -8,13 +7,13 @@ import time
 from ends import UNTIL_EOF, close_input
 from refusing import REFUSE, turned_away
 from servers import (DETACH, DONE, EINVAL, MANIFEST, NOT_MADE, SECONDS, SHOWN_ROOT, STAT_NO_PATH,
-                     STAT_ROOT, Wrong, expect, runs, serving)
-from overlayd import Client  # noqa: E402
+                     STAT_ROOT, Wrong, expect, frames, runs, serving)
+from overlayd.frames import Op  # noqa: E402
 
 STATUS = ["--status", "status"]
 
-# How many files are copied up at most until a temp is seen, and by how many clients.
-COPIES, COPIERS = 5_000, 4
+# How many files are copied up until a temp is seen, and how many bytes the replies of one have.
+COPIES, ANSWERED = 40_000, 17 + 13 + 13
 
 
 def lines_of(path):
@@ -85,8 +84,8 @@ def without_a_history(program):
 
 
 def files_that_are_copied_up(program):
-    """While clients have one file after the other copied up in steps, temps are seen, and none
-    stands where they only wait, or are gone."""
+    """While a client has one file after the other copied up in steps, a temp is seen, and none
+    stands where it only waits, or is gone."""
     size = 256 << 20
     links = "".join(f'{{ path = "/{name}", kind = "link", to = "/0" }},\n'
                     for name in range(1, COPIES))
@@ -97,32 +96,33 @@ file_limit = {size}
 entry = [{{ path = "/0", kind = "file", zeros = {size} }},
 {links}]
 """
-    with serving(program, COPIERS, 1, more=["--no-history", *STATUS],
-                 manifest=manifest) as server:
+    with serving(program, 1, 1, more=["--no-history", *STATUS], manifest=manifest) as server:
         path = server.socket.parent / "status"
         wait_for(path, state="serves", temps=0)
-        names = iter(range(COPIES))
-        with contextlib.ExitStack() as ends:
-            clients = [ends.enter_context(Client(str(server.socket))) for _ in range(COPIERS)]
-            copying = [threading.Thread(target=copy_up, args=(client, names))
-                       for client in clients]
+        with server.peer() as client:
+            copying = [threading.Thread(target=client.send, args=(copies(),)),
+                       threading.Thread(target=pass_over, args=(client, COPIES * ANSWERED))]
             for thread in copying:
                 thread.start()
             wait_while(lambda: lines_of(path)["temps"] == "0", "no temp is seen")
-            for _ in names:
-                pass
             for thread in copying:
                 thread.join()
-            wait_for(path, clients=COPIERS, temps=0)
+            wait_for(path, clients=1, temps=0)
+            client.ask(DETACH, DONE, b"", "detach")
         expect(server.end(), "", "standard error")
         wait_for(path, state="ended", temps=0)
 
 
-def copy_up(client, names):
-    """Has one name's file after the other copied up, until none is left, and removes the copy."""
-    for name in names:
-        client.open(f"/{name}", os.O_WRONLY).close()
-        client.unlink(f"/{name}")
+def copies():
+    """Requests that have the file of each name copied up, and remove the copy."""
+    return b"".join(frames.request(Op.OPEN, 1, 0, b"/%d" % name) + frames.request(Op.CLOSE, 0)
+                    + frames.request(Op.UNLINK, b"/%d" % name) for name in range(COPIES))
+
+
+def pass_over(client, size):
+    """Takes so many bytes of replies."""
+    while size > 0:
+        size -= len(client.take(min(size, 1 << 12)))
 
 
 def a_status_that_cannot_be_written(program):

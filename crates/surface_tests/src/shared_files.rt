@@ -34,38 +34,9 @@ impl Pair {
         }
     }
 
-    // One change of both.
-    fn change(&mut self, rt: &impl Abort, alloc: Global, dice: &mut Dice) {
-        match dice.roll(4) {
-            0 => self.write(rt, alloc, dice, (MOST, 65_537)),
-            1 => self.write(rt, alloc, dice, (self.plain.len(), 5_000)),
-            2 => self.resize(rt, dice.place(MOST)),
-            _ => self.share(rt, dice.place(self.plain.len())),
-        }
-    }
-
-    fn resize(&mut self, rt: &impl Abort, size: usize) {
-        self.file.resize(size).expect(rt, "memory");
-        self.plain.resize(size, 0).expect(rt, "memory");
-    }
-
     fn share(&mut self, rt: &impl Abort, count: usize) {
         self.file = self.file.share(count).expect(rt, "memory");
         self.plain.truncate(count);
-    }
-
-    // A write somewhere in so many bytes, of fewer than so many.
-    fn write(
-        &mut self,
-        rt: &impl Abort,
-        alloc: Global,
-        dice: &mut Dice,
-        (within, most): (usize, usize),
-    ) {
-        let start = dice.place(within);
-        let count = dice.place(most);
-        let bytes = some_bytes(rt, alloc, dice, count);
-        self.lay(rt, start, &bytes);
     }
 
     // These bytes laid over both.
@@ -116,27 +87,6 @@ fn all_of(rt: &impl Abort, alloc: Global, file: &FileBytes, step: usize) -> Vec<
 }
 
 #[test]
-fn files_do_what_vectors_do(rt: HostRuntime) {
-    let mut dice = Dice::new(1);
-    for _ in 0..4 {
-        changes_leave_the_lower(&rt, rt.alloc(), &mut dice);
-    }
-}
-
-// A file that begins as a lower one is changed; the lower one stays.
-fn changes_leave_the_lower(rt: &impl Abort, alloc: Global, dice: &mut Dice) {
-    let size = dice.place(MOST);
-    let lower = Pair::of(rt, alloc, some_bytes(rt, alloc, dice, size));
-    let mut copy = lower.copy(rt);
-    for _ in 0..16 {
-        copy.change(rt, alloc, dice);
-    }
-    let step = dice.place(100_000).wrapping_add(1);
-    holds(rt, copy.agree(rt, alloc, step), "what was changed");
-    holds(rt, lower.agree(rt, alloc, 65_536), "the lower file");
-}
-
-#[test]
 fn copies_are_changed_apart(rt: HostRuntime) {
     let alloc = rt.alloc();
     let mut dice = Dice::new(2);
@@ -174,19 +124,6 @@ fn stretches(rt: &impl Abort, alloc: Global, bytes: &[u8]) -> (FileBytes, FileBy
     let other = Arc::try_clone(&blob).expect(rt, "memory");
     let few = FileBytes::from_blob(alloc, other, 4, 3);
     (few, FileBytes::from_blob(alloc, blob, 4, 9))
-}
-
-#[test]
-fn room_is_filled_as_far_as_bytes_go(rt: HostRuntime) {
-    let mut file = FileBytes::new(rt.alloc());
-    file.resize(65_536).expect(&rt, "memory");
-    file.lay_over(65_534, b"abcd").expect(&rt, "memory");
-    let mut room = [7u8; 6];
-    assert_eq!(rt; file.read_into(65_533, &mut room), 5);
-    assert!(rt; &room[..] == &b"\0abcd\x07"[..]);
-    assert_eq!(rt; file.read_into(65_536, &mut room[..1]), 1);
-    assert!(rt; &room[..] == &b"cabcd\x07"[..]);
-    assert_eq!(rt; file.read_into(65_538, &mut room), 0);
 }
 
 // Where an allocation fails, the file is as it was.
