@@ -299,14 +299,15 @@ class Memory(unittest.TestCase):
             with self.assertRaises(OSError) as refused:
                 for number in range(100):
                     with c.open(f"/e/{number}", os.O_WRONLY | os.O_CREAT) as file:
-                        file.truncate(1_048_576)
+                        for written in range(16):
+                            file.write(bytes(65_536))
             self.assertEqual((refused.exception.errno, refused.exception.place),
                              (errno.ENOMEM, None))
-            self.assertEqual(c.stat(f"/e/{number}").st_size, 0)
+            self.assertEqual(c.stat(f"/e/{number}").st_size, written * 65_536)
             resource.prlimit(server.process.pid, resource.RLIMIT_AS, before)
-            with c.open(f"/e/{number}", os.O_WRONLY) as file:
-                file.truncate(1_048_576)
-                self.assertEqual(file.fstat().st_size, 1_048_576)
+            with c.open(f"/e/{number}", os.O_WRONLY | os.O_APPEND) as file:
+                file.write(bytes(65_536))
+                self.assertEqual(file.fstat().st_size, (written + 1) * 65_536)
 
 
 class Example(unittest.TestCase):
