@@ -8,7 +8,7 @@ from servers import (DONE, SECONDS, SHOWN_ROOT, STAT_ROOT, WORKED, Wrong, expect
 from overlayd.frames import Op
 
 # Names of a file of a lower layer, each of which is copied up for itself, in 257 steps.
-FILES = 64
+FILES = 5_000
 LARGE = "[[layer]]\n[[layer]]\n" + "".join(
     f'[[layer.entry]]\npath = "/{number}"\n' + (
         'kind = "link"\nto = "/0"\n' if number else 'kind = "file"\nzeros = 1048576\n')
@@ -84,7 +84,7 @@ def replies_before_the_end(program):
     with serving(program, 2, None, manifest=LARGE, more=UNTIL_EOF, stdin=subprocess.PIPE) as server:
         with server.peer() as client, server.peer() as other:
             client.send(b"".join(frames.request(Op.OPEN, 1, 0, b"/%d" % number)
-                                 for number in range(FILES)))
+                                 + frames.request(Op.CLOSE, 0) for number in range(FILES)))
             wait_for_a_copy(other)
             close_input(server)
             count = replies_in(all_that_comes(client.link))
@@ -95,7 +95,7 @@ def replies_before_the_end(program):
 def calls_on_their_way(program):
     """A call is stopped at its next step: each reply that comes is whole, and the last ones don't
     come, unless all were made before the end was seen."""
-    if all(replies_before_the_end(program) == FILES for _ in range(5)):
+    if all(replies_before_the_end(program) == 2 * FILES for _ in range(5)):
         raise Wrong("all calls are made")
 
 
