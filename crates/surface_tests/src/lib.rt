@@ -36,8 +36,6 @@ mod sessions;
 #[cfg(test)]
 mod shared_bytes;
 #[cfg(test)]
-mod shared_files;
-#[cfg(test)]
 mod streams;
 #[cfg(test)]
 mod whole_runs;
