@@ -1,4 +1,9 @@
 // What a client does again and again, by the words of the command line.
+use crate::trees::BLOCK;
+
+/// How many bytes a long read or write has: the most that one call may.
+pub const LONG: u32 = 65_536;
+
 /// What a client does with what stands at depth 4, where nothing else is said, by one or more calls.
 #[derive(Clone, Copy)]
 pub enum Deed {
@@ -28,6 +33,14 @@ pub enum Deed {
     Copy(u32),
     /// The same by another name of one lower file each time, and removing it, so that a copy takes the memory of the one before.
     CopyAgain(u32),
+    /// The same of a file that is a hole.
+    CopyHole(u32),
+    /// Opening a file of so many bytes for writing, writing 4,096 bytes and closing it, each time another one.
+    Touch(u32),
+    /// Reading 65,536 bytes of an open file of 1 MiB, each time the first.
+    ReadLong,
+    /// Writing 65,536 bytes over those of such a file of the upper.
+    WriteLong,
     /// Giving a file of the upper a further name and removing that.
     Link,
     /// Renaming a file of the upper, to and fro.
@@ -62,6 +75,14 @@ impl Deed {
         }
     }
 
+    /// How many bytes each of its reads is to give.
+    pub fn bytes_read(self) -> u32 {
+        match self {
+            Deed::ReadLong => LONG,
+            _ => BLOCK,
+        }
+    }
+
     /// Whether its calls are for names that aren't there.
     pub fn is_for_absent_names(self) -> bool {
         matches!(self, Deed::Absent | Deed::AbsentNew)
@@ -76,6 +97,7 @@ fn asking(word: &str) -> Option<Deed> {
         "absent" => Some(Deed::Absent),
         "absent_new" => Some(Deed::AbsentNew),
         "open_read" => Some(Deed::Read),
+        "read_64k" => Some(Deed::ReadLong),
         "list" => Some(Deed::List),
         "list_10k" => Some(Deed::ListWide),
         _ => None,
@@ -94,6 +116,9 @@ fn changing(word: &str) -> Option<Deed> {
         "copy_64m" => Some(Deed::Copy(67_108_864)),
         "copy_64k_again" => Some(Deed::CopyAgain(65_536)),
         "copy_1m_again" => Some(Deed::CopyAgain(1_048_576)),
+        "copy_64m_hole" => Some(Deed::CopyHole(67_108_864)),
+        "touch_1m" => Some(Deed::Touch(1_048_576)),
+        "write_64k" => Some(Deed::WriteLong),
         "link" => Some(Deed::Link),
         "rename" => Some(Deed::Rename),
         "setattr" => Some(Deed::SetAttribute),

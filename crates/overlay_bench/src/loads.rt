@@ -3,7 +3,7 @@ use crate::deeds::Deed;
 use crate::manifests::ManifestText;
 use crate::mounts::{Pace, attached, made, mounted_alone, unmount};
 use crate::operations::{before, operations};
-use crate::trees::{BLOCK, OBJECTS, copied, copied_again, deep, served};
+use crate::trees::{OBJECTS, copied, copied_again, deep, hollow, served};
 use crate::watchers::tell_on;
 use ov_base::{Call, Errno, Reply};
 use overlay_core::Core;
@@ -93,6 +93,9 @@ fn layers_of(
         Deed::Chmod { size, .. } => copied(alloc, lowers, count, size),
         Deed::Copy(size) => copied(alloc, lowers, count, size),
         Deed::CopyAgain(size) => copied_again(alloc, lowers, count, size),
+        Deed::CopyHole(size) => hollow(alloc, lowers, count, size),
+        Deed::Touch(size) => copied(alloc, lowers, count, size),
+        Deed::ReadLong | Deed::WriteLong => copied(alloc, lowers, 1, 1_048_576),
         Deed::Mkdir => deep(alloc, lowers.saturating_add(1)),
         _ => served(alloc, lowers),
     }
@@ -152,7 +155,7 @@ fn is_fine(deed: Deed, reply: &Reply) -> bool {
     match reply {
         Reply::Refused(Errno::ENOENT) => deed.is_for_absent_names(),
         Reply::Refused(_) => false,
-        Reply::Read(bytes) => bytes.as_slice().len() == BLOCK as usize,
+        Reply::Read(bytes) => bytes.as_slice().len() == deed.bytes_read() as usize,
         _ => true,
     }
 }

@@ -1,29 +1,39 @@
 // Manifests, written entry by entry.
+use ov_wire::Blob;
 use std::alloc::{AllocError, Global};
 
-/// The text of a manifest, which grows.
+/// The text of a manifest, which grows, and how many zero bytes its blob has.
 #[derive(Drop)]
 pub struct ManifestText {
     text: String,
+    zeros: usize,
 }
 
 impl ManifestText {
-    /// No layer yet, of a mount whose files may have 64 MiB.
+    /// No layer yet, of a mount whose files may have 64 MiB. Its blob is empty.
     pub fn new(alloc: Global) -> Result<ManifestText, AllocError> {
-        let text = String::from_str(alloc, "file_limit = 67108864\n")?;
-        Ok(ManifestText { text })
+        let text = String::from_str(alloc, "blobs = [\"zeros\"]\nfile_limit = 67108864\n")?;
+        Ok(ManifestText { text, zeros: 0 })
     }
 
     /// The same text, on a mount that copies files up without their bytes.
     pub fn with_metacopy(&self, alloc: Global) -> Result<ManifestText, AllocError> {
         let mut text = String::from_str(alloc, "redirect_dir = \"on\"\nmetacopy = \"on\"\n")?;
         text.push_str(self.text.as_str())?;
-        Ok(ManifestText { text })
+        let zeros = self.zeros;
+        Ok(ManifestText { text, zeros })
     }
 
     /// The text so far.
     pub fn as_bytes(&self) -> &[u8] {
         self.text.as_bytes()
+    }
+
+    /// Its blob: as many zero bytes as its longest file takes of it.
+    pub fn blob(&self, alloc: Global) -> Result<Blob, AllocError> {
+        let mut bytes = Vec::new(alloc);
+        bytes.resize(self.zeros, 0)?;
+        Blob::from_vec(alloc, bytes)
     }
 
     /// Begins the next layer, the upper first.
@@ -40,6 +50,13 @@ impl ManifestText {
     pub fn zeros(&mut self, path: &str, count: u32) -> Result<(), AllocError> {
         self.file(path)?;
         writeln!(self.text, "zeros = {count}")
+    }
+
+    /// A file of so many bytes of the blob.
+    pub fn part(&mut self, path: &str, count: u32) -> Result<(), AllocError> {
+        self.zeros = self.zeros.max(count as usize);
+        self.file(path)?;
+        writeln!(self.text, "blob = 0\nsize = {count}")
     }
 
     /// Another name of a file that stands earlier.

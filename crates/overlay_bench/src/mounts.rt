@@ -5,7 +5,7 @@ ghost use Rattle.overlay_core.specs.Views.{core_finished, has_client};
 
 use crate::manifests::{ManifestText, child};
 use ov_base::{Call, Event, Notice, Path, Reply};
-use ov_wire::manifest_of;
+use ov_wire::{layers_of, table_of};
 use overlay_core::{Core, Job, Standing, Turn};
 use std::alloc::{AllocError, Global};
 use std::hash::RandomState;
@@ -48,7 +48,11 @@ pub fn mounted_alone<F: Callback + Copy, R: Rule>(
     keys: RandomState,
     manifest: &ManifestText,
 ) -> Result<Core<F, R>, AllocError> {
-    let Ok((upper, lowers, options)) = manifest_of(alloc, keys, manifest.as_bytes()) else {
+    let Ok(table) = table_of(alloc, manifest.as_bytes()) else {
+        return Err(AllocError);
+    };
+    let blobs = [manifest.blob(alloc)?];
+    let Ok((upper, lowers, options)) = layers_of(alloc, keys, &table, &blobs) else {
         return Err(AllocError);
     };
     Core::mount(alloc, keys, upper, lowers, options).map_err(|_| AllocError)

@@ -1,5 +1,5 @@
 // The calls of operations.
-use crate::deeds::Deed;
+use crate::deeds::{Deed, LONG};
 use crate::manifests::nested;
 use crate::mounts::{path_of, path_to};
 use crate::trees::{BLOCK, DIRECTORIES, FILES, MERGED, OBJECTS, WIDE};
@@ -17,6 +17,7 @@ pub fn before(alloc: Global, deed: Deed) -> Result<Vec<Call>, AllocError> {
     let mut calls = Vec::new(alloc);
     match deed {
         Deed::Link | Deed::Rename => opened_in(alloc, &mut calls, deed, 0)?,
+        Deed::ReadLong | Deed::WriteLong => calls.push(opening(alloc, deed, 0)?)?,
         Deed::SetAttribute => calls.push(setting(alloc, path_for(alloc, deed, 0)?)?)?,
         Deed::StatChanged { .. } | Deed::ReadChanged { .. } => {
             calls.push(changing(path_for(alloc, deed, 0)?))?;
@@ -52,10 +53,13 @@ fn operation_in(
             let path = path_for(alloc, deed, number)?;
             calls.push(Call::Stat { path })?;
         }
-        Deed::Read | Deed::ReadChanged { .. } | Deed::Create | Deed::Copy(_) | Deed::CopyAgain(_) =>
-            {
-                opened_in(alloc, calls, deed, number)?;
-            }
+        Deed::Read | Deed::ReadChanged { .. } | Deed::Create => {
+            opened_in(alloc, calls, deed, number)?;
+        }
+        Deed::Copy(_) | Deed::CopyAgain(_) | Deed::CopyHole(_) | Deed::Touch(_) => {
+            opened_in(alloc, calls, deed, number)?;
+        }
+        Deed::ReadLong | Deed::WriteLong => long_in(alloc, calls, deed)?,
         Deed::List => listed_in(alloc, calls, MERGED, FILES)?,
         Deed::ListWide => listed_in(alloc, calls, WIDE, OBJECTS)?,
         _ => named_in(alloc, calls, deed, number)?,
@@ -125,11 +129,41 @@ fn opened_in(
         let count = BLOCK;
         calls.push(Call::Read { descriptor, count })?;
     }
+    if matches!(deed, Deed::Touch(_)) {
+        calls.push(writing(alloc, BLOCK)?)?;
+    }
     calls.push(Call::Close { descriptor })?;
     if matches!(deed, Deed::Create | Deed::CopyAgain(_)) {
         unlinked_in(alloc, calls, deed, number)?;
     }
     Ok(())
+}
+
+// The calls that go to the beginning of an open file and read or write it there.
+fn long_in(alloc: Global, calls: &mut Vec<Call>, deed: Deed) -> Result<(), AllocError> {
+    calls.push(Call::Seek {
+        descriptor: DESCRIPTOR,
+        offset: 0,
+        whence: 0,
+    })?;
+    calls.push(match deed {
+        Deed::ReadLong => Call::Read {
+            descriptor: DESCRIPTOR,
+            count: LONG,
+        },
+        _ => writing(alloc, LONG)?,
+    })?;
+    Ok(())
+}
+
+// The call that writes so many bytes.
+fn writing(alloc: Global, count: u32) -> Result<Call, AllocError> {
+    let mut bytes = Vec::new(alloc);
+    bytes.resize(count as usize, b'w')?;
+    Ok(Call::Write {
+        descriptor: DESCRIPTOR,
+        bytes: Bytes::from_vec(bytes),
+    })
 }
 
 // The call that removes the file of an operation.
@@ -169,7 +203,9 @@ fn name_for(deed: Deed, number: u32) -> (&'static str, u32) {
         Deed::AbsentNew => ("none-", number),
         Deed::Create | Deed::Link | Deed::Rename => ("made-", 0),
         Deed::Symlink | Deed::Mkdir => ("made-", 0),
-        Deed::Copy(_) | Deed::CopyAgain(_) | Deed::Chmod { .. } => ("copy-", number),
+        Deed::Copy(_) | Deed::CopyAgain(_) | Deed::Touch(_) => ("copy-", number),
+        Deed::CopyHole(_) | Deed::Chmod { .. } => ("copy-", number),
+        Deed::ReadLong | Deed::WriteLong => ("copy-", 0),
         _ => ("name-", 0),
     }
 }
@@ -201,7 +237,10 @@ fn renaming_back(alloc: Global, path: Path, number: u32) -> Result<Call, AllocEr
 
 // The call that opens the file.
 fn opening(alloc: Global, deed: Deed, number: u32) -> Result<Call, AllocError> {
-    let reads = matches!(&deed, Deed::Read | Deed::ReadChanged { .. });
+    let reads = matches!(
+        &deed,
+        Deed::Read | Deed::ReadLong | Deed::ReadChanged { .. }
+    );
     let creates = matches!(&deed, Deed::Create | Deed::Link | Deed::Rename);
     Ok(Call::Open {
         path: path_for(alloc, deed, number)?,

@@ -51,8 +51,24 @@ pub fn served(alloc: Global, lowers: u32) -> Result<ManifestText, AllocError> {
     Ok(manifest)
 }
 
-/// `served`, with so many files of so many bytes to be copied up, beside those that are looked up.
+/// `served`, with so many files of so many bytes of one blob to be copied up, beside those that are
+/// looked up.
 pub fn copied(
+    alloc: Global,
+    lowers: u32,
+    files: u32,
+    size: u32,
+) -> Result<ManifestText, AllocError> {
+    let mut manifest = served(alloc, lowers)?;
+    let last = nested(alloc, DIRECTORIES)?;
+    for number in 0..files {
+        manifest.part(child(alloc, last.as_str(), "copy-", number)?.as_str(), size)?;
+    }
+    Ok(manifest)
+}
+
+/// The same, where each is a hole of so many bytes.
+pub fn hollow(
     alloc: Global,
     lowers: u32,
     files: u32,
