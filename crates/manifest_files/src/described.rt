@@ -3,8 +3,9 @@ ghost use Rattle.std.specs.Prelude.{◌≤◌, IfOk, length};
 
 use crate::failure::Failure;
 use crate::reading::{Unread, bytes_of, cannot_read, taken};
+use command_line::Source;
 use ov_script::Escaped;
-use ov_server::{Fault, Source, going_on};
+use ov_server::{Fault, going_on};
 use ov_wire::{Blob, ManifestFault, blobs_of, table_of};
 use std::alloc::Global;
 use std::fs::Files;

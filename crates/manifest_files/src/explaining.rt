@@ -1,7 +1,8 @@
 // What is told of a fault: one line, and where that is asked for a second one for a person.
 use crate::bad_manifest::place_of;
 use crate::failure::Failure;
-use ov_server::{Fault, Source};
+use command_line::Source;
+use ov_server::Fault;
 use ov_wire::{EntryFault, ManifestFault};
 use std::fs::Files;
 use std::io::Eprint;

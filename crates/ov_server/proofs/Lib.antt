@@ -1,4 +1,3 @@
-pub mod Added
 pub mod Clients
 pub mod GoingOn
 pub mod Histories
@@ -7,4 +6,3 @@ pub mod Manifests
 pub mod Mountable
 pub mod Scripts
 pub mod Stages
-pub mod Told

@@ -1,5 +1,4 @@
 pub mod Answers
-pub mod Arguments
 pub mod Devices
 pub mod Faults
 pub mod GoingOn

@@ -10,7 +10,7 @@ use Rattle.ov_wire.specs.Manifests.{file_limit_of, has_upper}
 use Rattle.ov_wire.specs.ManifestLayers.{AreSpelled, layer_items, manifest_of}
 use Rattle.overlay_core.specs.Views.{core_layers, core_options, core_read_only}
 use Rattle.overlay_core.specs.declared.mounted.Core.{Core}
-use Rattle.ov_server.specs.declared.history_length.HistoryLength.{HistoryLength}
+use Rattle.history_length.specs.declared.HistoryLength.{HistoryLength}
 use Rattle.watch_table.specs.declared.hook.Callback.{Ghosts as Callback}
 use Rattle.watch_table.specs.declared.hook.Rule.{Ghosts as Rule}
 

@@ -2,12 +2,9 @@
 #![tactic(auto)]
 
 mod answers;
-mod arguments;
 mod commands;
 mod devices;
 mod fault;
-mod help_texts;
-mod history_length;
 mod joining;
 mod object_lines;
 mod play;
@@ -20,11 +17,9 @@ mod show;
 mod stage;
 mod stepping;
 
-pub use arguments::{Invocation, Playing, Serving, Source, command_line};
 pub use commands::has_layer;
 pub use devices::Output;
 pub use fault::{DeviceFault, Fault};
-pub use history_length::HistoryLength;
 pub use joining::going_on;
 pub use play::{core_of, play_run, play_run_keeping};
 pub use print_tree::write_layer;

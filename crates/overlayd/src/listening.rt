@@ -1,6 +1,7 @@
 // The socket on which connections are waited for.
+use command_line::Serving;
 use manifest_files::Failure;
-use ov_server::{Fault, Serving};
+use ov_server::Fault;
 use socket_server::Acceptor;
 use std::alloc::Global;
 use std::fs::Files;

@@ -5,8 +5,9 @@ ghost use Rattle.ov_server.specs.Mounts.{IsMountOf};
 ghost use Rattle.overlay_core.specs.Views.{core_options};
 ghost use Rattle.overlayd.specs.Mounting.{core_in, is_endless};
 
+use command_line::Serving;
 use manifest_files::Described;
-use ov_server::{Fault, Serving, core_of};
+use ov_server::{Fault, core_of};
 use overlay_core::Core;
 use std::alloc::Global;
 use std::hash::RandomState;

@@ -1,10 +1,11 @@
 // The file to which the upper of a served mount is written at the end.
 use crate::replacing::{Part, What, part_of, put_in_place};
+use command_line::Serving;
 use manifest_files::Failure;
 use merged_lookup::Layers;
 use ov_devices::CountedWriter;
 use ov_script::Escaped;
-use ov_server::{DeviceFault, Fault, LeftOut, Output, Serving, save_upper};
+use ov_server::{DeviceFault, Fault, LeftOut, Output, save_upper};
 use overlay_core::Core;
 use socket_server::Keeper;
 use std::fs;

@@ -1,0 +1,11 @@
+use Rattle.std.proofs.Common.{◌∙◌, ap, ap₂}
+use Rattle.std.proofs.lemmas.Result.{IfOk-weaker}
+use Rattle.clap.specs.Simple.{App, with_subcommand}
+use Rattle.command_line.proofs.arguments.showing.Goals as goal
+
+pub returns : goal.returns
+returns c =
+    IfOk-weaker c.subcommand-2.result _ _
+    (λ r added. added.shape c.in_ok-show.ensures.local
+    ∙ ap₂ with_subcommand c.bare.ensures (ap (λ (a : App). a.top) c.in_ok-show.ensures.app))
+    c.subcommand-2.ensures
