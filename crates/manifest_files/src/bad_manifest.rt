@@ -3,8 +3,8 @@
 use crate::described::STANDARD_INPUT;
 use crate::lines::{line_of_key, line_of_text};
 use crate::reading::bytes_of;
-use ov_script::Escaped;
 use command_line::Source;
+use ov_script::Escaped;
 use ov_wire::{EntryFault, ManifestFault, blobs_of, layers_of, table_of};
 use std::alloc::{AllocError, Global};
 use std::fs::Files;

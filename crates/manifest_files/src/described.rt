@@ -65,7 +65,7 @@ fn read_own<R: Files + Input + AllocGlobal>(
         Err(fault) => return Err(no_table(
             rt.alloc(),
             Fault::from(fault),
-            path,
+            shown(path),
             manifest.as_slice(),
         )),
     };
@@ -137,8 +137,17 @@ fn fault_of_upper(fault: ManifestFault) -> Fault {
     }
 }
 
+// What a person calls the file of a manifest.
+fn shown(path: &str) -> &str {
+    if path == STANDARD_INPUT {
+        "standard input"
+    } else {
+        path
+    }
+}
+
 // Bytes that are no TOML: in which line, and why.
-fn no_table(alloc: Global, fault: Fault, path: &str, bytes: &[u8]) -> Failure {
+fn no_table(alloc: Global, fault: Fault, file: &str, bytes: &[u8]) -> Failure {
     let Err(error) = toml::table_from_slice(alloc, bytes) else {
         return Failure::from(fault);
     };
@@ -147,7 +156,7 @@ fn no_table(alloc: Global, fault: Fault, path: &str, bytes: &[u8]) -> Failure {
     };
     let line = line_of(bytes, place.start);
     let message = error.message();
-    Failure::because(alloc, fault, format_args!("{path}, line {line}: {message}"))
+    Failure::because(alloc, fault, format_args!("{file}, line {line}: {message}"))
 }
 
 // The line of a place, counted from 1.

@@ -17,23 +17,22 @@ pub fn tell<R: Files + RandomSource + Eprint + AllocGlobal>(
     failure: &Failure,
 ) -> io::Result<()> {
     let fault = &failure.fault;
-    let file = file_at_fault(source, fault);
-    if file == source.manifest {
-        eprintln!(rt; "overlayd: {fault}")?;
-    } else {
-        eprintln!(rt; "overlayd: {file}: {fault}")?;
+    let upper = upper_at_fault(source, fault);
+    match upper {
+        Some(upper) => eprintln!(rt; "overlayd: {upper}: {fault}")?,
+        None => eprintln!(rt; "overlayd: {fault}")?,
     }
     if explain {
-        explained(rt, source, file, failure)?;
+        explained(rt, source, upper.unwrap_or(source.manifest), failure)?;
     }
     Ok(())
 }
 
-// The file that a fault is of: the saved upper's, or else the manifest's.
-fn file_at_fault<'a>(source: &Source<'a>, fault: &Fault) -> &'a str {
-    match (fault, source.upper) {
-        (Fault::CannotReadUpper | Fault::Upper(_), Some(upper)) => upper,
-        _ => source.manifest,
+// The file of the saved upper, where a fault is of that.
+fn upper_at_fault<'a>(source: &Source<'a>, fault: &Fault) -> Option<&'a str> {
+    match fault {
+        Fault::CannotReadUpper | Fault::Upper(_) => source.upper,
+        _ => None,
     }
 }
 

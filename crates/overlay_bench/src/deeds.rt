@@ -41,6 +41,8 @@ pub enum Deed {
     ReadLong,
     /// Writing 65,536 bytes over those of such a file of the upper.
     WriteLong,
+    /// Writing 4,096 bytes there.
+    WriteBlock,
     /// Giving a file of the upper a further name and removing that.
     Link,
     /// Renaming a file of the upper, to and fro.
@@ -119,6 +121,7 @@ fn changing(word: &str) -> Option<Deed> {
         "copy_64m_hole" => Some(Deed::CopyHole(67_108_864)),
         "touch_1m" => Some(Deed::Touch(1_048_576)),
         "write_64k" => Some(Deed::WriteLong),
+        "write_4k" => Some(Deed::WriteBlock),
         "link" => Some(Deed::Link),
         "rename" => Some(Deed::Rename),
         "setattr" => Some(Deed::SetAttribute),

@@ -3,6 +3,7 @@ use crate::deeds::Deed;
 use crate::manifests::ManifestText;
 use crate::mounts::{Pace, attached, made, mounted_alone, unmount};
 use crate::operations::{before, operations};
+use crate::texts::stat_on;
 use crate::trees::{OBJECTS, copied, copied_again, deep, hollow, served};
 use crate::watchers::tell_on;
 use ov_base::{Call, Errno, Reply};
@@ -24,6 +25,8 @@ pub enum Load {
     Deed(Deed, Pace),
     /// What so many clients that watch a directory are told.
     Notices(u32),
+    /// `stat` of one file whose path is read each time.
+    StatRead,
 }
 
 impl Load {
@@ -32,6 +35,7 @@ impl Load {
         match word {
             "notify_1" => Some(Load::Notices(1)),
             "notify_64" => Some(Load::Notices(64)),
+            "stat_read" => Some(Load::StatRead),
             _ => deed_named(word),
         }
     }
@@ -60,6 +64,7 @@ pub fn measure<C: Clock, F: Callback + Copy, R: Rule>(
     let measured = match load {
         Load::Deed(deed, pace) => do_on(clock, alloc, &mut core, deed, pace, count),
         Load::Notices(watchers) => tell_on(clock, alloc, &mut core, hook, watchers, count),
+        Load::StatRead => stat_on(clock, alloc, &mut core, count),
     };
     unmount(core);
     measured
@@ -95,7 +100,7 @@ fn layers_of(
         Deed::CopyAgain(size) => copied_again(alloc, lowers, count, size),
         Deed::CopyHole(size) => hollow(alloc, lowers, count, size),
         Deed::Touch(size) => copied(alloc, lowers, count, size),
-        Deed::ReadLong | Deed::WriteLong => copied(alloc, lowers, 1, 1_048_576),
+        Deed::ReadLong | Deed::WriteLong | Deed::WriteBlock => copied(alloc, lowers, 1, 1_048_576),
         Deed::Mkdir => deep(alloc, lowers.saturating_add(1)),
         _ => served(alloc, lowers),
     }

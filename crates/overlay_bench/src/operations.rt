@@ -17,7 +17,9 @@ pub fn before(alloc: Global, deed: Deed) -> Result<Vec<Call>, AllocError> {
     let mut calls = Vec::new(alloc);
     match deed {
         Deed::Link | Deed::Rename => opened_in(alloc, &mut calls, deed, 0)?,
-        Deed::ReadLong | Deed::WriteLong => calls.push(opening(alloc, deed, 0)?)?,
+        Deed::ReadLong | Deed::WriteLong | Deed::WriteBlock => calls.push(opening(
+            alloc, deed, 0,
+        )?)?,
         Deed::SetAttribute => calls.push(setting(alloc, path_for(alloc, deed, 0)?)?)?,
         Deed::StatChanged { .. } | Deed::ReadChanged { .. } => {
             calls.push(changing(path_for(alloc, deed, 0)?))?;
@@ -59,7 +61,7 @@ fn operation_in(
         Deed::Copy(_) | Deed::CopyAgain(_) | Deed::CopyHole(_) | Deed::Touch(_) => {
             opened_in(alloc, calls, deed, number)?;
         }
-        Deed::ReadLong | Deed::WriteLong => long_in(alloc, calls, deed)?,
+        Deed::ReadLong | Deed::WriteLong | Deed::WriteBlock => moved_in(alloc, calls, deed)?,
         Deed::List => listed_in(alloc, calls, MERGED, FILES)?,
         Deed::ListWide => listed_in(alloc, calls, WIDE, OBJECTS)?,
         _ => named_in(alloc, calls, deed, number)?,
@@ -140,7 +142,7 @@ fn opened_in(
 }
 
 // The calls that go to the beginning of an open file and read or write it there.
-fn long_in(alloc: Global, calls: &mut Vec<Call>, deed: Deed) -> Result<(), AllocError> {
+fn moved_in(alloc: Global, calls: &mut Vec<Call>, deed: Deed) -> Result<(), AllocError> {
     calls.push(Call::Seek {
         descriptor: DESCRIPTOR,
         offset: 0,
@@ -151,7 +153,8 @@ fn long_in(alloc: Global, calls: &mut Vec<Call>, deed: Deed) -> Result<(), Alloc
             descriptor: DESCRIPTOR,
             count: LONG,
         },
-        _ => writing(alloc, LONG)?,
+        Deed::WriteLong => writing(alloc, LONG)?,
+        _ => writing(alloc, BLOCK)?,
     })?;
     Ok(())
 }
@@ -205,7 +208,7 @@ fn name_for(deed: Deed, number: u32) -> (&'static str, u32) {
         Deed::Symlink | Deed::Mkdir => ("made-", 0),
         Deed::Copy(_) | Deed::CopyAgain(_) | Deed::Touch(_) => ("copy-", number),
         Deed::CopyHole(_) | Deed::Chmod { .. } => ("copy-", number),
-        Deed::ReadLong | Deed::WriteLong => ("copy-", 0),
+        Deed::ReadLong | Deed::WriteLong | Deed::WriteBlock => ("copy-", 0),
         _ => ("name-", 0),
     }
 }

@@ -62,7 +62,7 @@ pub(crate) fn part_of<R: Files + AllocGlobal>(
             Err(error) => return Err(what.unwritten(rt, name.as_str(), &error)),
         }
     }
-    let why = format_args!("{path}.part and {NAMES_MOST} further names are taken");
+    let why = format_args!("{NAMES_MOST} names are taken, from {path}.part on");
     Err(Failure::because(rt.alloc(), what.fault(), why))
 }
 

@@ -1,7 +1,7 @@
 // The file to which it is written while a server serves what it counts.
 use crate::replacing::{Part, What, part_of, put_in_place};
-use manifest_files::Failure;
 use command_line::Serving;
+use manifest_files::Failure;
 use socket_server::{Counted, Counts};
 use std::alloc::Global;
 use std::fs::Files;
