@@ -72,6 +72,72 @@ class DoubtTest(unittest.TestCase):
         self.assertIn("warnings: 1", errors.getvalue())
 
 
+BASE = "[[layer]]\n[[layer]]\n" + ENTRY.format("/etc", "dir")
+# Files of one layer, and what overlayd says of each with --upper.
+UPPERS = [
+    ("[[layer]]\n", None),
+    ("layer = [{}]\n", None),
+    ("[[layer]]\n" + ENTRY.format("/f", "file") + "zeros = 1048577\n", "layer 0 entry 0: value"),
+    ("[[layer]]\n" + ENTRY.format("/a", "dir") + ENTRY.format("/a", "dir")
+     + ENTRY.format("/b", "dri"), "layer 0 entry 1: exists"),
+    ("[[layer]]\nentri = []\n" + ENTRY.format("/a", "dri"), "manifest: key"),
+]
+
+
+class SavedUpperTest(unittest.TestCase):
+    """One layer and nothing else is no manifest, and may be an upper that --save has left."""
+
+    def test_faults(self) -> None:
+        """The fault of the whole, and what is said of the layer itself."""
+        for text, said in UPPERS:
+            with self.subTest(text):
+                found = check(text.encode())
+                self.assertTrue(found.is_upper)
+                self.assertEqual(found.first, "manifest: key" if said == "manifest: key"
+                                 else "manifest: layers")
+                # how large its files may be is what the manifest says that it goes on with
+                self.assertEqual(found.first_above, None if "zeros" in text else said)
+
+    def test_others(self) -> None:
+        """What is no saved upper: another key beside it, no layer, more than one."""
+        for text in ("history = 5\n[[layer]]\n", "layer = []\n", "", BASE, "layer = 1\n"):
+            with self.subTest(text):
+                found = check(text.encode())
+                self.assertEqual((found.is_upper, found.first_above), (False, None))
+
+    def test_in_the_program(self) -> None:
+        """It says the same of each of them."""
+        program = tools.overlayd()
+        if program is None:
+            tools.skip(self.id(), "no overlayd was built (environment variable OVERLAYD)")
+        with tempfile.TemporaryDirectory() as folder:
+            base, saved = Path(folder, "m.toml"), Path(folder, "saved.toml")
+            base.write_text(BASE)
+            for text, said in UPPERS:
+                saved.write_text(text)
+                done = subprocess.run([program, "show", str(base), "--upper", str(saved)],
+                                      check=False, capture_output=True, text=True)
+                with self.subTest(text):
+                    self.assertEqual((done.returncode, done.stderr),
+                                     (1, f"overlayd: {saved}: {said}\n") if said else (0, ""))
+
+    def test_command(self) -> None:
+        """The line of the layer's own fault, and both in the last line."""
+        with tempfile.TemporaryDirectory() as folder:
+            path = Path(folder, "saved.toml")
+            path.write_text("[[layer]]\n" + ENTRY.format("/a", "dir") + "mode = 4096\n")
+            out, errors = io.StringIO(), io.StringIO()
+            with contextlib.redirect_stdout(out), contextlib.redirect_stderr(errors):
+                self.assertEqual(main(["--check", str(path)]), 1)
+        first, second = out.getvalue().splitlines()
+        self.assertTrue(first.startswith(f"{path}:1: layer: "), first)
+        self.assertIn("--upper", first)
+        self.assertEqual(second, f"{path}:5: layer 0 entry 0: /a: mode: from 0 to 0o7777, "
+                         "and not 4096")
+        self.assertEqual(errors.getvalue(), f"overlayd-import: {path}: 2 faults; overlayd says "
+                         "`manifest: layers`, with --upper `layer 0 entry 0: value`\n")
+
+
 # Lines, and whether one of them is a bad command of a client 0 that is attached.
 LINES = [
     ("0 stat /", True), ("0 stat", False), ("0 stat / /", False), ("0 open r /f", True),

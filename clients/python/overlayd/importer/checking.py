@@ -40,13 +40,16 @@ class Fault(NamedTuple):
 
 class Checked(NamedTuple):
     """What a check came to: the faults by their lines, what overlayd says, if anything, and what
-    is no fault and likely a mistake."""
+    is no fault and likely a mistake. Of a saved upper also what overlayd says with --upper, if
+    anything."""
 
     faults: List[Fault]
     first: Optional[str]
     layers: int = 0
     entries: int = 0
     doubts: Sequence[Doubt] = ()
+    is_upper: bool = False
+    first_above: Optional[str] = None
 
 
 def check(data: bytes, folder: str = "") -> Checked:
@@ -101,21 +104,35 @@ class _Check:
         names = self.blob_names(top)
         given, before = top.members.get("layer"), len(self.faults)
         layers = self.tables(given, "layer")
-        most = limits.LOWERS_MOST + has_upper
-        if len(self.faults) == before and not limits.LAYERS_LEAST <= len(layers) <= most:
-            wanted = ("2 to 17 layers, the upper and then 1 to 16 lower ones from the top"
-                      if has_upper else "2 to 16 layers, all lower ones, from the top")
-            self.tell(given.line if given else 1, "layer", "layers",
-                      f"{wanted}, and not {len(layers)}")
+        is_upper = len(layers) == 1 and set(top.members) == {"layer"}
+        if len(self.faults) == before:
+            self.count_layers(given, len(layers), has_upper, is_upper)
+        if is_upper:
+            # whose bounds are those of the manifest that it will go on with
+            self.file_limit, self.blobs = limits.FILE_LIMIT_MOST, None
         whole = sorted(self.faults, key=lambda fault: _TOP.index(fault.word))
         firsts = [f"manifest: {fault.word}" for fault in whole]
         firsts += self.read_blobs(names)
+        above = len(firsts)
         for number, layer in enumerate(layers):
             firsts += self.layer(number, layer)
+        first_above = firsts[above] if is_upper and len(firsts) > above else None
         # the keys of layers are of the whole too, and come before all entries
         firsts.sort(key=lambda first: first != "manifest: key")
         faults = sorted(self.faults, key=lambda fault: fault.line)
-        return Checked(faults, firsts[0] if firsts else None, len(layers), self.entries)
+        return Checked(faults, firsts[0] if firsts else None, len(layers), self.entries,
+                       is_upper=is_upper, first_above=first_above)
+
+    def count_layers(self, given: Optional[Found], count: int, has_upper: bool,
+                     is_upper: bool) -> None:
+        """Tells where there are too few or too many."""
+        if limits.LAYERS_LEAST <= count <= limits.LOWERS_MOST + has_upper:
+            return
+        wanted = ("2 to 17 layers, the upper and then 1 to 16 lower ones from the top"
+                  if has_upper else "2 to 16 layers, all lower ones, from the top")
+        saved = "; one alone is a saved upper, which --upper of overlayd takes" if is_upper else ""
+        self.tell(given.line if given else 1, "layer", "layers",
+                  f"{wanted}, and not {count}{saved}")
 
     def tell(self, line: int, key: str, word: str, what: str) -> None:
         """Keeps a fault."""

@@ -88,7 +88,9 @@ faults: file, line, layer and entry, path, key, and what is allowed. What overla
 is the first fault alone and in one word, stands in the last line, on standard error. The status is
 1 where there is a fault. Where there is none, warnings tell what is likely a mistake: a decimal
 mode that reads as an octal one, layers without entries, a redirect that leads to nothing, an
-attribute that makes a device.
+attribute that makes a device. A file of one layer and nothing else is a fault, too, and likely a
+saved upper: the last line has also what overlayd says of it with --upper. Its blobs and how large
+its files are aren't looked at then: that counts by the manifest that it goes on with.
 
 checking a script: --check-script FILE reads commands of `overlayd play` and prints a line for each
 that is none: file, line, the word and what is allowed.
@@ -206,6 +208,9 @@ def check_manifest(path: str) -> int:
         told = f"no fault; layers: {found.layers}, entries: {found.entries}{warned}"
     else:
         told = f"{count} fault{'s' * (count > 1)}; overlayd says `{found.first}`"
+    if found.is_upper:
+        above = f"`{found.first_above}`" if found.first_above else "nothing"
+        told += f", with --upper {above}"
     print(f"{PROGRAM}: {name}: {told}", file=sys.stderr)
     return 0 if found.first is None else 1
 
