@@ -24,8 +24,6 @@ for that moment; of --upper two calls or more for each name.
   upper_names N       how many names are other ones than in the lower layers, or have gone
   upper_bytes N       how many bytes the files among them have, those of several names once
 
-A temp is told nowhere: it stands beside the layers while its call is made, and goes with that.
-
 exit status: 0 the server answers; 1 it doesn't, or a file can't be read, with one line on standard
 error; 2 wrong usage.
 """
