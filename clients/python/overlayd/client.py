@@ -53,7 +53,8 @@ class Client(Habits):
 
         With a timeout, a server that doesn't go on for so many seconds is `NoReply`, which is a
         `TimeoutError` too; else the client waits. A server whose workers all have a client waits
-        with a further one's calls until a worker is free; with --refuse the first one is EBUSY.
+        with a further one's calls until a worker is free, of which a `RuntimeWarning` tells who
+        has no timeout; with --refuse the first one is EBUSY.
         """
         if timeout is not None and timeout <= 0:
             raise ValueError("a timeout is more than 0 seconds")

@@ -7,6 +7,7 @@ import os
 import select
 import socket
 import struct
+import warnings
 from typing import Iterator, Optional
 
 from . import frames
@@ -48,11 +49,15 @@ def connected(path: Path, timeout: Optional[float]) -> socket.socket:
 class Stream:
     """The frames of one connected socket, which is the stream's own from then on."""
 
+    patience = 5.0
+    """How many seconds nothing may come before who has no timeout is warned, once."""
+
     def __init__(self, link: socket.socket, timeout: Optional[float]) -> None:
         link.setblocking(False)
         self._link = link
         self._timeout = timeout
         self._input = frames.Splitter()
+        self._is_new = True
 
     def close(self) -> None:
         """Closes the socket."""
@@ -98,10 +103,17 @@ class Stream:
             piece = b""
         if not piece:
             raise Disconnected("the server went away")
+        self._is_new = False
         self._input.feed(piece)
 
     def _wait(self, events: int) -> None:
         poll = select.poll()
         poll.register(self._link, events)
+        if self._is_new and self._timeout is None:
+            if poll.poll(self.patience * 1000):
+                return
+            self._is_new = False
+            warnings.warn(f"no reply came within {self.patience:g} seconds; {NO_WORKER}; it is "
+                          "waited for further", RuntimeWarning, stacklevel=2)
         if not poll.poll(None if self._timeout is None else self._timeout * 1000):
             raise NoReply(f"no reply came within {self._timeout:g} seconds")

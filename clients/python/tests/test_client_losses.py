@@ -6,6 +6,7 @@ import socket
 import tempfile
 import threading
 import unittest
+import warnings
 
 from overlayd import BadReply, Client, Disconnected, Mask, NoReply, calls
 
@@ -141,6 +142,31 @@ class Silent(ScriptedCase):
                              "(`overlayd serve --workers N`); it was being asked: stat('/')")
             self.assertTrue(c.closed)
             self.assertEqual(take(far, 9), h("00000004 01 0001 2f"))
+
+    def test_who_has_no_timeout_is_warned_and_waits(self):
+        near, far = socket.socketpair()
+        warned = threading.Event()
+
+        def answer():
+            warned.wait(WAIT)
+            far.sendall(DONE)
+
+        with far, Client.from_socket(near) as c, warnings.catch_warnings():
+            warnings.simplefilter("always")
+            told = []
+            warnings.showwarning = lambda message, *_: (told.append(message), warned.set())
+            c._stream.patience = 0.05
+            answers = threading.Thread(target=answer)
+            answers.start()
+            c.unlink("/f")
+            answers.join(WAIT)
+            self.assertEqual([type(message) for message in told], [RuntimeWarning])
+            self.assertRegex(str(told[0]), "within 0.05 seconds; the server may have no free worker")
+            warned.clear()
+            threading.Timer(0.2, far.sendall, (DONE,)).start()
+            c.unlink("/f")
+            self.assertFalse(warned.is_set())
+            far.close()
 
     def test_a_server_that_has_answered_has_a_worker(self):
         near, far = socket.socketpair()

@@ -1,9 +1,11 @@
 """The command `overlayd-export`."""
 
 import argparse
+import contextlib
 import errno
 import os
 import sys
+import warnings
 from typing import Iterable, Iterator, List, Optional
 
 from ..client import Client
@@ -156,8 +158,17 @@ def _export(words: argparse.Namespace, epoch: Optional[int]) -> None:
             raise Unsayable(f"{shown(saved.path)}: it has no layer")
         _write(words, lower, SavedTree(saved, lower), epoch)
         return
-    with Client(words.socket) as client:
+    with _warnings_told(), Client(words.socket) as client:
         _write(words, lower, MountTree(client, lower.manifest.file_limit), epoch)
+
+
+@contextlib.contextmanager
+def _warnings_told() -> Iterator[None]:
+    """Has what a client warns of told as a line, as that the server may have no free worker."""
+    with warnings.catch_warnings():
+        warnings.simplefilter("always", RuntimeWarning)
+        warnings.showwarning = lambda message, *_: _say(str(message))
+        yield
 
 
 def _write(words: argparse.Namespace, lower: LowerTree, mounted: Tree,
