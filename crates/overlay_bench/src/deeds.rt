@@ -37,6 +37,8 @@ pub enum Deed {
     CopyHole(u32),
     /// Opening a file of so many bytes for writing, writing 4,096 bytes and closing it, each time another one.
     Touch(u32),
+    /// The same by another name of one lower file each time, and removing it.
+    TouchAgain(u32),
     /// Reading 65,536 bytes of an open file of 1 MiB, each time the first.
     ReadLong,
     /// Writing 65,536 bytes over those of such a file of the upper.
@@ -120,6 +122,7 @@ fn changing(word: &str) -> Option<Deed> {
         "copy_1m_again" => Some(Deed::CopyAgain(1_048_576)),
         "copy_64m_hole" => Some(Deed::CopyHole(67_108_864)),
         "touch_1m" => Some(Deed::Touch(1_048_576)),
+        "touch_1m_again" => Some(Deed::TouchAgain(1_048_576)),
         "write_64k" => Some(Deed::WriteLong),
         "write_4k" => Some(Deed::WriteBlock),
         "link" => Some(Deed::Link),

@@ -97,7 +97,7 @@ fn layers_of(
     match deed {
         Deed::Chmod { size, .. } => copied(alloc, lowers, count, size),
         Deed::Copy(size) => copied(alloc, lowers, count, size),
-        Deed::CopyAgain(size) => copied_again(alloc, lowers, count, size),
+        Deed::CopyAgain(size) | Deed::TouchAgain(size) => copied_again(alloc, lowers, count, size),
         Deed::CopyHole(size) => hollow(alloc, lowers, count, size),
         Deed::Touch(size) => copied(alloc, lowers, count, size),
         Deed::ReadLong | Deed::WriteLong | Deed::WriteBlock => copied(alloc, lowers, 1, 1_048_576),

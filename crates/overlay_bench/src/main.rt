@@ -25,7 +25,7 @@ use std::{env, io};
 
 const USAGE: &str = "usage: overlay_bench LOAD COUNT [LOWERS]
 calls of a client over LOWERS lower layers, 16 if not given: stat stat_read (its path is read) stat_many absent absent_new list list_10k symlink mkdir whiteout rename setattr
-several calls an operation, over as many: open_read (open, read, close) create (open, close, unlink) copy_64k copy_1m copy_64m copy_64m_hole (open, close) copy_64k_again copy_1m_again (open, close, unlink) touch_1m (open, write of 4,096 bytes, close) read_64k write_64k write_4k (seek, read or write) link (link, unlink)
+several calls an operation, over as many: open_read (open, read, close) create (open, close, unlink) copy_64k copy_1m copy_64m copy_64m_hole (open, close) copy_64k_again copy_1m_again (open, close, unlink) touch_1m (open, write of 4,096 bytes, close) touch_1m_again (and unlink) read_64k write_64k write_4k (seek, read or write) link (link, unlink)
 each of these with _steps behind its word: every call is made step by step, not at once
 a mode changed of a lower file, for which no bytes are copied or all are: chmod_empty chmod_1m chmod_1m_copied; what is done with a file whose mode was changed so: stat_marked open_read_marked, stat_copied open_read_copied
 notify_1 notify_64: COUNT files made and removed in a directory that so many clients watch; an operation is a notice that was read

@@ -58,7 +58,11 @@ fn operation_in(
         Deed::Read | Deed::ReadChanged { .. } | Deed::Create => {
             opened_in(alloc, calls, deed, number)?;
         }
-        Deed::Copy(_) | Deed::CopyAgain(_) | Deed::CopyHole(_) | Deed::Touch(_) => {
+        Deed::Copy(_)
+        | Deed::CopyAgain(_)
+        | Deed::CopyHole(_)
+        | Deed::Touch(_)
+        | Deed::TouchAgain(_) => {
             opened_in(alloc, calls, deed, number)?;
         }
         Deed::ReadLong | Deed::WriteLong | Deed::WriteBlock => moved_in(alloc, calls, deed)?,
@@ -131,11 +135,14 @@ fn opened_in(
         let count = BLOCK;
         calls.push(Call::Read { descriptor, count })?;
     }
-    if matches!(deed, Deed::Touch(_)) {
+    if matches!(deed, Deed::Touch(_) | Deed::TouchAgain(_)) {
         calls.push(writing(alloc, BLOCK)?)?;
     }
     calls.push(Call::Close { descriptor })?;
-    if matches!(deed, Deed::Create | Deed::CopyAgain(_)) {
+    if matches!(
+        deed,
+        Deed::Create | Deed::CopyAgain(_) | Deed::TouchAgain(_)
+    ) {
         unlinked_in(alloc, calls, deed, number)?;
     }
     Ok(())
@@ -206,7 +213,8 @@ fn name_for(deed: Deed, number: u32) -> (&'static str, u32) {
         Deed::AbsentNew => ("none-", number),
         Deed::Create | Deed::Link | Deed::Rename => ("made-", 0),
         Deed::Symlink | Deed::Mkdir => ("made-", 0),
-        Deed::Copy(_) | Deed::CopyAgain(_) | Deed::Touch(_) => ("copy-", number),
+        Deed::Copy(_) | Deed::CopyAgain(_) => ("copy-", number),
+        Deed::Touch(_) | Deed::TouchAgain(_) => ("copy-", number),
         Deed::CopyHole(_) | Deed::Chmod { .. } => ("copy-", number),
         Deed::ReadLong | Deed::WriteLong | Deed::WriteBlock => ("copy-", 0),
         _ => ("name-", 0),
