@@ -447,6 +447,13 @@ class Lies(unittest.TestCase):
         self.assertEqual(self.shown(b"5.000000006/l" + b"/" * 1012, key), LONG_AGO)
         self.assertEqual(self.shown(b"5.000000006/l" + b"/x" * 20000, key), LONG_AGO)
 
+    def test_numbers(self):
+        """Of the attributes, which an export reads within the same bounds."""
+        for number in ("", "00", "01", "48", "100", "-1", "x"):
+            key = (LINKS + number).encode()
+            self.assertEqual(self.shown(b"5.000000006/l", key), LONG_AGO, number)
+        self.assertEqual(self.shown(b"5.000000006/l", (LINKS + "47").encode()), (5, 6))
+
 
 class Saved(EngineCase):
     def setUp(self):

@@ -48,7 +48,17 @@ class FormTest(unittest.TestCase):
         for value in ("", "1.5/a", "x", "1.000000000", "/a", "\u0661.000000000/a",
                       f"{1 << 63}.000000000/a"):
             self.assertEqual(read_links([("user.overlayd.links.0", value)]), {}, value)
-        self.assertEqual(read_links([("user.overlayd.linkx", "1.000000000/a")]), {})
+
+    def test_numbers(self) -> None:
+        """Attributes from 0 to 47 count, in this order; others, as to the bridge, say nothing."""
+        for name in ("linkx", "links", "links.", "links.x", "links.00", "links.01", "links.+1",
+                     "links.-1", "links.48", "links.100", "links.1 ", "links.1\n", "links.\u0661"):
+            self.assertEqual(read_links([(f"user.overlayd.{name}", "1.000000000/a")]), {}, name)
+        twice = [("user.overlayd.links.47", "3.000000000/a"),
+                 ("user.overlayd.links.10", "2.000000000/a/b"),
+                 ("user.overlayd.links.2", "1.000000000/a/b/c")]
+        self.assertEqual(read_links(twice),
+                         {"a": 3_000_000_000, "b": 2_000_000_000, "c": 1_000_000_000})
 
 
 class LinkCase(unittest.TestCase):

@@ -17,6 +17,7 @@ KINDS = {"p": "a fifo", "s": "a socket", "c": "a character device", "b": "a bloc
 DEVICES = "cb"
 _META = re.compile(r"1 ([-pscb]) (\d{1,20}) " + " ".join([r"(-?\d{1,19})\.(\d{9})"] * 3))
 _TIME = re.compile(r"(-?\d{1,19})\.(\d{9})")
+_LINKS = re.compile(re.escape(LINKS) + "(0|[1-9][0-9]?)")
 _HEX = re.compile(rb"(?:[0-9a-f]{2})*")
 _TIME_MOST = 1 << 63
 _DEVICE_MOST = 1 << 64
@@ -75,10 +76,16 @@ def links_texts(times: Dict[str, int], most: int, room: int) -> Tuple[List[str],
 
 
 def read_links(pairs: Iterable[Tuple[str, str]]) -> Dict[str, int]:
-    """The times of symbolic links that the attributes of their directory say."""
-    found: Dict[str, int] = {}
+    """The times of symbolic links that the attributes of their directory say. Of a name that stands
+    twice the later value counts, by the attributes' numbers."""
+    values: Dict[int, str] = {}
     for key, value in pairs:
-        for part in value.split("//") if key.startswith(LINKS) else ():
+        told = _LINKS.fullmatch(key)
+        if told is not None and int(told[1]) < LINKS_MOST:
+            values[int(told[1])] = value
+    found: Dict[str, int] = {}
+    for _, value in sorted(values.items()):
+        for part in value.split("//"):
             time, *names = part.split("/")
             told = _TIME.fullmatch(time)
             if told is not None and time.isascii() and is_time(int(told[1]) * SECOND):
