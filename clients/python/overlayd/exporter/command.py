@@ -42,9 +42,10 @@ own, as overlayd-import --upper writes it.
 
 Times, devices, fifos, sockets and attributes outside of user. are those that the attributes
 user.overlayd. say, as overlayd-import and the bridge to FUSE write them; these are never written
-themselves. A layer has 0 where no time is known; with the environment variable SOURCE_DATE_EPOCH
-that many seconds, which then is the latest time too. A file with other bytes and with the time of
-the file below, word for word, was changed by a client that keeps no times: its time isn't known.
+themselves. The time of a symbolic link is in those of its directory. A layer has 0 where no time is
+known; with the environment variable SOURCE_DATE_EPOCH that many seconds, which then is the latest
+time too. A file with other bytes and with the time of the file below, word for word, was changed by
+a client that keeps no times: its time isn't known. Neither is that of a link that leads elsewhere.
 
 A mount without an upper layer (upper = false) can't be changed: there is nothing to export of it,
 which is refused.
@@ -60,6 +61,9 @@ over the manifest's file_limit, ends the export.
 
 The manifest is read as a stream where it has one `key = value` on each line, as overlayd-import
 writes it. Others are read whole, from Python 3.11 on.
+
+memory: some 250 bytes for each object, more for directories and for files that have several names,
+and a MiB of one file at a time. What was written isn't kept.
 
 exit status: 0 done; 1 refused or failed, with one line on standard error; 2 wrong usage.
 """

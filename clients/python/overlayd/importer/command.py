@@ -44,9 +44,9 @@ else mode 0755 and owner 0:0. A hard link to a file of a lower layer makes a cop
 file whose bytes are in a lower layer (metacopy) is written with its own attributes and these bytes.
 
 times: the time of the last change of each file and directory is kept in its user attribute
-user.overlayd.meta, from which the bridge to FUSE (--times) and overlayd-export take it, and that of
-each symbolic link in the attributes user.overlayd.links.0 and so on of its directory, from which
-overlayd-export takes it. --no-times leaves them out.
+user.overlayd.meta, and that of each symbolic link in the attributes user.overlayd.links.0 and so on
+of its directory. The bridge to FUSE (--times) and overlayd-export take them from there. --no-times
+leaves them out.
 
 left out, each in one line on standard error (--quiet: not), with a sum at the end:
   fifos, sockets and devices (--devices keeps them, by the same attribute); attributes other than
