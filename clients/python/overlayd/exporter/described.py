@@ -10,17 +10,14 @@ Attributes = Tuple[Tuple[str, bytes], ...]
 
 def described(entry: Entry) -> Entry:
     """The entry as these attributes describe it, and without them."""
-    if not any(name.startswith(PRIVATE) for name, _ in entry.attrs):
-        return entry
-    plain = {name: value for name, value in entry.attrs if not name.startswith(PRIVATE)}
+    attrs: Attributes = entry.attrs
     told: Optional[bytes] = None
-    for name, value in entry.attrs:
-        kept = shown_by(name, value)
-        if kept is not None:
-            plain.setdefault(*kept)
-        elif name == META:
-            told = value
-    attrs = tuple(plain.items())
+    if len(attrs) == 1 and attrs[0][0] == META:  # as of most objects
+        attrs, told = (), attrs[0][1]
+    elif any(name.startswith(PRIVATE) for name, _ in attrs):
+        attrs, told = _parted(attrs)
+    else:
+        return entry
     meta = None if told is None else read_meta(told.decode("utf-8", "replace"))
     if meta is None:
         return entry._replace(attrs=attrs)
@@ -28,6 +25,19 @@ def described(entry: Entry) -> Entry:
         return entry._replace(attrs=attrs, mtime=meta.change, told=told)
     return entry._replace(attrs=attrs, mtime=meta.change, told=told, kind=SPECIAL[meta.kind],
                           device=meta.device, size=0)
+
+
+def _parted(attrs: Attributes) -> Tuple[Attributes, Optional[bytes]]:
+    """The attributes that an object has by these, and the one that tells of its kind and times."""
+    plain = {name: value for name, value in attrs if not name.startswith(PRIVATE)}
+    told: Optional[bytes] = None
+    for name, value in attrs:
+        kept = shown_by(name, value)
+        if kept is not None:
+            plain.setdefault(*kept)
+        elif name == META:
+            told = value
+    return tuple(plain.items()), told
 
 
 def link_times_in(entry: Entry) -> Dict[str, int]:

@@ -37,6 +37,9 @@ _BETWEEN = re.compile(rb"[^\"'\[\]#]*")
 _ESCAPES = [(b"\\n", b"\n"), (b'\\"', b'"'), (b"\\t", b"\t"), (b"\\r", b"\r"), (b"\\b", b"\b"),
             (b"\\f", b"\f"), (b"\\e", b"\x1b")]
 _CODE = re.compile(rb"\\(?:x([0-9A-Fa-f]{2})|u([0-9A-Fa-f]{4})|U([0-9A-Fa-f]{8}))")
+# A text that says what it has between its quotes.
+_PLAIN = re.compile(rb'"([ !#-\[\]-~]*)"')
+_of_json = json.JSONDecoder().decode
 _UTF8 = getincrementaldecoder("utf-8")
 
 
@@ -128,8 +131,8 @@ class Lines:
         found = _KEY.match(line)
         if found is None:
             raise OtherForm("a line that is no `key = value`")
-        key, place = found[1].decode("ascii"), begin + found.end()
-        value = line[found.end():].strip()
+        key, end = found[1].decode("ascii"), found.end()
+        place, value = begin + end, line[end:].strip()
         if len(line) < _LINE_MOST and value[:3] not in _LONG_QUOTES:
             try:
                 data = _size(key, value) if key in BYTES else _value(value)
@@ -205,10 +208,13 @@ def _between_quotes(value: bytes) -> bytes:
 def _value(value: bytes) -> Any:
     """The value of a line; texts of TOML on one line are written as JSON has them, mostly. Raises
     ValueError where it is of a seldom form."""
+    plain = _PLAIN.fullmatch(value)
+    if plain is not None:
+        return plain[1].decode("ascii")
     if value[:1] in (b'"', b"["):
         if b"\\u" in value:
             raise ValueError
-        return json.loads(value.decode("utf-8"))
+        return _of_json(value.decode("utf-8"))
     if value in (b"true", b"false"):
         return value == b"true"
     return int(value.decode("ascii"), 0)
