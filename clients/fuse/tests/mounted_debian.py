@@ -9,6 +9,7 @@ import hashlib
 import io
 import os
 import pathlib
+import shutil
 import subprocess
 import unittest
 
@@ -59,9 +60,9 @@ def imported(output, *sources):
     return pathlib.Path(output).read_text("utf-8")
 
 
-def changed(root):
-    """When the bytes or names of each object but links were changed."""
-    return {path: change for path, (change, _) in times(root, links=False).items()}
+def changed(root, links=False):
+    """When the bytes or names of each object were changed; of links, where that is asked for."""
+    return {path: change for path, (change, _) in times(root, links=links).items()}
 
 
 class Root(Mounted):
@@ -189,17 +190,53 @@ class Debian(unittest.TestCase):
     @of_sockets
     def test_the_export_over_the_import_is_the_same_tree(self):
         self.root.run(self.CHANGES)
-        subprocess.run(["sync", "-f", self.root.here], check=True)
-        again = self.over(self.root.server.path)
+        again = self.over(*self.changes())
         self.assertEqual(tree(again.here), tree(self.root.here))
         self.assertEqual(changed(again.here), changed(self.root.here))
+
+    @unittest.skipUnless(shutil.which("umoci"), "no umoci")
+    def test_umoci_over_the_base_is_the_same_tree(self):
+        """A package comes onto the mount; what umoci makes of the root and the layer over it is as
+        the mount is, with times, owners, links and devices."""
+        self.package()
+        self.root.run("""
+            dpkg -i /srv/packages/hello.deb
+            rm -r /usr/share/doc/apt /usr/bin/yes; mv /usr/share/pam /usr/share/pam.moved
+            mknod /root/null c 1 3; mkfifo -m 600 /root/fifo; chown 7:8 /root/null
+            ln /usr/bin/env /usr/bin/env.too; ln -s env.too /usr/bin/env.link
+            touch -h -d @1.123456789 /usr/bin/env.link /etc/issue; chown -h 7:8 /etc/issue""")
+        layout, manifest = self.root.path("layout"), self.root.path("mount.toml")
+        head, _, base = pathlib.Path(manifest).read_text("utf-8").split("[[layer]]", 2)
+        whole, nothing = self.root.path("whole.toml"), self.root.path("nothing.toml")
+        pathlib.Path(whole).write_text(f"{head}[[layer]]{base}", "utf-8")
+        pathlib.Path(nothing).write_text("[[layer]]\n[[layer]]\n")
+        self.export(nothing, "--manifest", whole, "--image-out", f"{layout}:base")
+        self.export(manifest, *self.changes(), "--image-out", f"{layout}:base", "--as", "new")
+        subprocess.run(["umoci", "unpack", "--image", f"{layout}:new", self.root.path("bundle")],
+                       check=True, capture_output=True)
+        found, wanted = os.path.join(self.root.path("bundle"), "rootfs"), self.root.here
+        self.assertEqual(os.lstat(found + "/usr/bin/env.link").st_mtime_ns, 1_123_456_789)
+        self.assertEqual(os.lstat(found + "/root/null").st_rdev, os.makedev(1, 3))
+        self.assertEqual(tree(found), tree(wanted))
+        self.assertEqual(changed(found, links=True), changed(wanted, links=True))
+
+    def changes(self):
+        """The words by which an export reads what was changed."""
+        if INSIDE:
+            self.root.remount()
+            return "--manifest", self.root.path("saved.toml")
+        subprocess.run(["sync", "-f", self.root.here], check=True)
+        return (self.root.server.path,)
+
+    def export(self, *words):
+        with contextlib.redirect_stderr(io.StringIO()) as told:
+            status = export_command([*words])
+        self.assertEqual(status, 0, told.getvalue())
 
     def over(self, *source):
         """A mount of the layer of what was changed, over the root."""
         layer = self.root.path("change.tar")
-        with contextlib.redirect_stderr(io.StringIO()) as told:
-            status = export_command([self.root.path("mount.toml"), *source, "--layer", layer])
-        self.assertEqual(status, 0, told.getvalue())
+        self.export(self.root.path("mount.toml"), *source, "--layer", layer)
         again = Root(layer, DEBIAN)
         self.addCleanup(again.end)
         return again
