@@ -17,7 +17,7 @@ DOCS = Path(__file__).resolve().parent.parent / "docs"
 TABLE, PICTURE = DOCS / "PERFORMANCE.md", DOCS / "performance.svg"
 SERIES = [("two layers", "#4878a8"), ("17 layers", "#88b4d8"), ("kernel", "#b0b0b0")]
 LEFT, WIDTH, BAR, GAP, TOP = 150, 620, 10, 8, 46
-LEAST, MOST = 100, 1_000_000
+LEAST, MOST = 10, 10_000_000
 
 
 def table():
