@@ -101,6 +101,10 @@ def _fault(words: argparse.Namespace) -> Optional[str]:
     return None
 
 
+_FULL = ("the server's history is full, and with it no call is answered: have the server save the "
+         "upper as it ends (--until-eof --save FILE), and export that with --manifest FILE")
+
+
 def main(arguments: Optional[List[str]] = None) -> int:
     """Runs the command; the exit status."""
     command = parser()
@@ -163,7 +167,12 @@ def _export(words: argparse.Namespace, epoch: Optional[int]) -> None:
         _write(words, lower, SavedTree(saved, lower), epoch)
         return
     with _warnings_told(), Client(words.socket) as client:
-        _write(words, lower, MountTree(client, lower.manifest.file_limit), epoch)
+        try:
+            _write(words, lower, MountTree(client, lower.manifest.file_limit), epoch)
+        except OSError as error:
+            if error.errno == errno.ENOSPC and client.last_place is None:
+                raise Unsayable(_FULL) from error
+            raise
 
 
 @contextlib.contextmanager
