@@ -12,6 +12,7 @@ being with the file system (`sync -f`). What is printed is a table, in seconds, 
 machine.
 """
 
+import contextlib
 import os
 import shlex
 import shutil
@@ -216,31 +217,43 @@ def table(kinds, times):
               + "".join(f" | {least[ours] / least[kind]:.1f}" for kind in rest) + " |")
 
 
-def main(words):
+def kinds_of(words, usage):
+    """What is measured, by the words of a command line."""
     if not 1 <= len(words) <= 2 or os.geteuid() != 0:
-        sys.exit(__doc__)
+        sys.exit(usage)
     Bridge.overlayd = os.path.abspath(words[0])
     Bridge.bridge = os.path.abspath((words + ["out/overlayd-fuse"])[1])
-    kinds = [Bridge, *([Inside, Polling] if has_engine(Bridge.bridge) else []), Kernel,
-             *([FuseOverlayfs] if shutil.which("fuse-overlayfs") else []),
-             *([Memory] if Memory.program else [])]
+    return [Bridge, *([Inside, Polling] if has_engine(Bridge.bridge) else []), Kernel,
+            *([FuseOverlayfs] if shutil.which("fuse-overlayfs") else []),
+            *([Memory] if Memory.program else [])]
+
+
+@contextlib.contextmanager
+def on_a_tmpfs(fill_lower):
+    """A folder of its own, with a lower layer and its manifest; the machine's load in the end."""
     folder = tempfile.mkdtemp()
     subprocess.run(["mount", "-t", "tmpfs", "tmpfs", folder], check=True)
     try:
         lower = os.path.join(folder, "lower")
         os.mkdir(lower)
-        fill(lower)
+        fill_lower(lower)
         Bridge.manifest = imported(lower, folder)
+        yield folder, lower
+        print("load of the machine: %.1f %.1f %.1f" % os.getloadavg())
+    finally:
+        subprocess.run(["umount", folder], check=True)
+        os.rmdir(folder)
+
+
+def main(words):
+    kinds = kinds_of(words, __doc__)
+    with on_a_tmpfs(fill) as (folder, lower):
         times = {(load, kind): [] for load in LOADS for kind in kinds}
         for _ in range(ROUNDS):
             for load in LOADS:
                 for kind in kinds:
                     times[load, kind].append(measured(kind, lower, load, folder))
         table(kinds, times)
-        print("load of the machine: %.1f %.1f %.1f" % os.getloadavg())
-    finally:
-        subprocess.run(["umount", folder], check=True)
-        os.rmdir(folder)
 
 
 if __name__ == "__main__":
