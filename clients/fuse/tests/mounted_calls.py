@@ -7,13 +7,28 @@ import random
 import stat
 import unittest
 
-from .mounts import MountedCase, tree
+from .bridges import INSIDE
+from .mounts import MountedCase, is_of_overlay, tree
 
 SEEDS = int(os.environ.get("SEEDS", "10"))
 CALLS = 2000
 NAMES = ["a", "b", "c", "d", "e", "lower", "link"]
 NO_FILE = 1 << 20  # a descriptor that nobody has
 SIZES = [0, 1, 7, 100, 4095, 4096, 4097, 9000, 65536, 70000]
+ATTRIBUTES = ["user.a", "user.b", "trusted.t", "security.s", "security.capability", "system.s",
+              "trusted_.x"]
+VALUE_SIZES = [0, 1, 50, 500, 512, 513, 1000, 1024, 1025, 4096, 65536, 65537]
+CAPABILITY = bytes.fromhex("0100000200040000000000000000000000000000")
+SETS = {"setxattr": ("getxattr", "removexattr"), "fsetxattr": ("fgetxattr", "fremovexattr")}
+
+
+def fits(name, value):
+    """Whether an attribute's value is one that a mount of the bridge takes."""
+    try:
+        is_text = value.decode("utf-8") is not None
+    except UnicodeDecodeError:
+        is_text = False
+    return len(value) <= (1024 if name.startswith("user.") and (is_text or not INSIDE) else 512)
 
 
 class Caller:
@@ -88,8 +103,15 @@ class Caller:
     def getxattr(self, path, name):
         return os.getxattr(self.at(path), name)
 
+    def listxattr(self, path):
+        return self.names(self.at(path))
+
     def removexattr(self, path, name):
         os.removexattr(self.at(path), name)
+
+    @staticmethod
+    def names(of):
+        return sorted(name for name in os.listxattr(of) if not is_of_overlay(name))
 
     def fsetxattr(self, slot, name, value, flags):
         os.setxattr(self.number(slot), name, value, flags)
@@ -98,8 +120,7 @@ class Caller:
         return os.getxattr(self.number(slot), name)
 
     def flistxattr(self, slot):
-        return sorted(name for name in os.listxattr(self.number(slot))
-                      if not name.startswith("trusted.overlay."))
+        return self.names(self.number(slot))
 
     def fremovexattr(self, slot, name):
         os.removexattr(self.number(slot), name)
@@ -167,6 +188,13 @@ class Calls:
     def data(self):
         return bytes(self.random.choices(range(256), k=8)) * (self.random.choice(SIZES) // 8 + 1)
 
+    def value(self, name):
+        if name == "security.capability" and self.random.random() < 0.8:
+            return CAPABILITY
+        size = self.random.choice(VALUE_SIZES)
+        piece = self.random.choice((b"text. ", self.data()[:8]))
+        return (piece * (size // len(piece) + 1))[:size]
+
     def slot(self):
         return self.random.randrange(6)
 
@@ -183,7 +211,7 @@ class Calls:
     def next(self):
         pick = self.random
         size, place = pick.choice(SIZES), pick.choice(SIZES)
-        name = pick.choice(("user.a", "user.b", "trusted.t", "trusted_.x"))
+        name, at, flags = pick.choice(ATTRIBUTES), self.path(), pick.choice((0, 0, 0, 1, 2))
         choices = [
             (4, "stat", self.path()), (2, "follow", self.path()), (2, "readlink", self.path()),
             (3, "listing", self.path()), (2, "chmod", self.path(), self.mode()),
@@ -192,9 +220,9 @@ class Calls:
             (8, "mkdir", self.path(), self.mode()), (2, "rmdir", self.path()),
             (3, "unlink", self.path()), (2, "symlink", self.path(), self.path()),
             (3, "link", self.path(), self.path()), (5, "rename", self.path(), self.path()),
-            (1, "setxattr", self.path(), name, self.data()[:50], pick.choice((0, 0, 1, 2))),
-            (1, "getxattr", self.path(), name), (1, "removexattr", self.path(), name),
-            (2, "fsetxattr", self.slot(), name, self.data()[:500], pick.choice((0, 0, 1, 2))),
+            (3, "setxattr", at, name, self.value(name), flags), (2, "getxattr", at, name),
+            (1, "listxattr", at), (1, "removexattr", at, name),
+            (3, "fsetxattr", self.slot(), name, self.value(name), flags),
             (2, "fgetxattr", self.slot(), name), (2, "flistxattr", self.slot()),
             (1, "fremovexattr", self.slot(), name),
             (1, "fchown", self.slot(), pick.choice((-1, 0, 5)), pick.choice((-1, 0, 6))),
@@ -257,10 +285,28 @@ class RandomCalls(MountedCase):
         made = 0
         for number in range(CALLS):
             name, *words = calls.next()
-            one, other = here.call(name, *words), there.call(name, *words)
+            if name in SETS and not fits(*words[1:3]):
+                one, other = self.too_large(name, words, here, there)
+            else:
+                one, other = here.call(name, *words), there.call(name, *words)
             self.assertEqual(one, other, f"call {number}: {name} {words!r}"[:300])
             made += one not in errno.errorcode.values()
         return made
+
+    @staticmethod
+    def too_large(name, words, here, there):
+        """What the bridge has no room for is as it was on the other, which may have room."""
+        get, remove = SETS[name]
+        slot, attribute = words[:2]
+        before = there.call(get, slot, attribute)
+        one, other = here.call(name, *words), there.call(name, *words)
+        if one != "ENOSPC":
+            return one, other
+        if other is None and isinstance(before, bytes):
+            there.call(name, slot, attribute, before, 0)
+        elif other is None:
+            there.call(remove, slot, attribute)
+        return (one, one) if other in (None, "ENOSPC", "EEXIST", "ENODATA") else (one, other)
 
 
 class RandomCallsShared(RandomCalls):

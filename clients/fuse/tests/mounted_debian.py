@@ -2,6 +2,10 @@
 out as a layer. The variable DEBIAN names the root, as debootstrap has made it:
 
     debootstrap --variant=minbase --include=gcc,libc6-dev bookworm DIRECTORY
+
+With the variable SOURCE, which names a source package of the archive that the root is of, a
+compiler is installed from there, and the package is built and tested: for a mount with the engine
+inside, and a machine with a network.
 """
 
 import contextlib
@@ -21,7 +25,7 @@ from .bridges import INSIDE, of_sockets
 from .kernel import WAIT
 from .mounts import Mounted, times, tree, why_not
 
-DEBIAN = os.environ.get("DEBIAN")
+DEBIAN, SOURCE = os.environ.get("DEBIAN"), os.environ.get("SOURCE")
 PATIENCE = WAIT * 30
 FILES_GROW_TO = 1 << 28
 ENTER = """set -eu
@@ -35,6 +39,15 @@ Version: 1.0
 Architecture: all
 Maintainer: nobody <nobody@example.org>
 Description: a script
+"""
+BUILD = """
+    sed 's/^deb /deb-src /' /etc/apt/sources.list > /etc/apt/sources.list.d/sources.list
+    apt-get -q update
+    apt-get -q install -y --no-install-recommends build-essential
+    apt-get -q build-dep -y --no-install-recommends "$SOURCE"
+    mkdir /srv/build; cd /srv/build; apt-get -q source "$SOURCE"
+    cd "$SOURCE"-*/; dpkg-buildpackage -us -uc -b
+    dpkg --audit
 """
 PACKAGES = """{control}Filename: ./hello.deb
 Size: {size}
@@ -186,6 +199,21 @@ class Debian(unittest.TestCase):
         again = self.over("--manifest", self.root.path("saved.toml"))
         self.assertEqual(tree(again.here, link_owners=False), before[0])
         self.assertEqual(changed(again.here), changed(self.root.here))
+
+    @unittest.skipUnless(INSIDE and SOURCE, "SOURCE names no package to build inside")
+    def test_a_source_package_is_built_and_tested(self):
+        """What was saved is the same tree on a new mount, with its times."""
+        built = Root(DEBIAN)
+        self.addCleanup(built.end)
+        told = built.run(f"SOURCE={SOURCE}\n{BUILD}")
+        self.assertRegex(told, r"(?m)^# FAIL: +0$")
+        self.assertTrue(list(pathlib.Path(built.here, "srv", "build").glob("*.deb")), told[-999:])
+        before = tree(built.here, link_owners=False), times(built.here)
+        built.remount()
+        after = tree(built.here, link_owners=False), times(built.here)
+        for here, there in zip(before, after):
+            self.assertEqual(sorted(here), sorted(there))
+            self.assertEqual([path for path in here if here[path] != there[path]], [])
 
     @of_sockets
     def test_the_export_over_the_import_is_the_same_tree(self):

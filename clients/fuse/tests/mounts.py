@@ -1,6 +1,7 @@
 """Mounts of this machine: one through the bridge, and the kernel's overlayfs beside it."""
 
 import contextlib
+import hashlib
 import io
 import os
 import pathlib
@@ -18,6 +19,7 @@ from .bridges import ENGINE, ENVIRONMENT, INSIDE, NO_SERVER, PATIENCE, PROGRAM, 
 from .kernel import WAIT
 
 FUSE = "/dev/fuse"
+LARGE = 1 << 16
 OVERLAY = "redirect_dir=on,index=off,xino=off,metacopy=off"
 
 
@@ -141,10 +143,21 @@ def trips(told):
     return int(words[words.index("round") - 1])
 
 
+def is_of_overlay(name):
+    """Whether the kernel's overlayfs keeps something for itself in an attribute."""
+    return name.startswith("trusted.overlay.")
+
+
 def attributes(path):
     return sorted((name, os.getxattr(path, name, follow_symlinks=False))
                   for name in os.listxattr(path, follow_symlinks=False)
-                  if name.startswith("user."))
+                  if not is_of_overlay(name))
+
+
+def bytes_of(path, root):
+    """A file's bytes, but for where it is; of a large one their sum."""
+    data = pathlib.Path(path).read_bytes().replace(os.fsencode(root), b"ROOT")
+    return data if len(data) <= LARGE else hashlib.sha256(data).hexdigest()
 
 
 def described(path, root, with_bytes=True):
@@ -158,7 +171,7 @@ def described(path, root, with_bytes=True):
     elif stat.S_ISREG(found.st_mode) or stat.S_ISDIR(found.st_mode):
         told.append(attributes(path))
     if stat.S_ISREG(found.st_mode) and with_bytes:
-        told.append(pathlib.Path(path).read_bytes().replace(os.fsencode(root), b"ROOT"))
+        told.append(bytes_of(path, root))
     return told
 
 
