@@ -440,6 +440,8 @@ void untold_leave(struct bridge *bridge, struct opened *opened);
 /* Whether a change of bytes, as it is asked for, takes set-user-ID bits; and taking them. */
 bool takes_bits(const struct bridge *bridge);
 int take_bits(struct bridge *bridge, struct node *node);
+/* Asks with a change of bytes that a capability goes; its refusal says nothing. */
+void ask_no_capability(struct bridge *bridge, struct node *node);
 uint32_t without_bits(uint32_t mode);
 
 /* kept.c */
@@ -454,6 +456,8 @@ const char *kept_next(const struct kept *kept, size_t *at);
 /* xattrs.c */
 /* UTF-8 as a manifest has it. */
 bool is_utf8(const char *bytes, size_t length);
+/* Whether it is known that there is no attribute to be shown, so that nobody has to be asked. */
+bool is_bare(const struct bridge *bridge, const struct node *node);
 
 /* ahead.c */
 void ask_ahead(struct bridge *bridge, struct node *node, uint32_t descriptor);

@@ -18,6 +18,8 @@ static int open_on_server(struct bridge *bridge, struct handle *handle, unsigned
     if (fault)
         return fault;
     size_t open = ask_opening(bridge, flags, 0, bridge->path, &descriptor);
+    if (flags & OPEN_EMPTY)
+        ask_no_capability(bridge, node);
     if (flags == OPEN_READ && !bridge->transport->is_near)
         ask_ahead(bridge, node, descriptor);
     fault = ask_end(bridge);
@@ -42,6 +44,7 @@ static int share(struct bridge *bridge, struct handle *handle, struct opened *op
         if (fault)
             return fault;
         size_t truncate = ask_truncate(&bridge->batch, opened->descriptor, 0);
+        ask_no_capability(bridge, handle->node);
         fault = ask_end(bridge);
         if (!fault)
             fault = refused(bridge, truncate);
@@ -282,12 +285,14 @@ static size_t write_at_once(struct bridge *bridge, struct opened *opened, const 
 }
 
 /* All pieces in one go; how much was written, and why no more was. */
-static size_t write_pieces(struct bridge *bridge, struct opened *opened, const char *bytes,
-                           size_t size, uint64_t place, int *fault)
+static size_t write_pieces(struct bridge *bridge, struct node *node, struct opened *opened,
+                           const char *bytes, size_t size, uint64_t place, int *fault)
 {
     *fault = ask_opened(bridge, opened);
     if (*fault)
         return 0;
+    if (bridge->options.shared)
+        ask_no_capability(bridge, node);
     if (!opened->appends)
         ask_place(bridge, opened, place);
     size_t first = bridge->batch.count;
@@ -341,7 +346,7 @@ static void do_write(fuse_req_t request, fuse_ino_t number, const char *bytes, s
         fault = may_write(bridge, node, place + size, info->writepage);
     size_t total = fault ? 0 : bridge->transport->write
         ? write_at_once(bridge, opened, bytes, size, place, &fault)
-        : write_pieces(bridge, opened, bytes, size, place, &fault);
+        : write_pieces(bridge, node, opened, bytes, size, place, &fault);
     if (fault && total == 0) {
         refuse_write(request, bridge, info->writepage, fault);
         return;

@@ -85,13 +85,13 @@ static int read_values(struct bridge *bridge, const char *path, struct link_time
 static struct link_times *read_all(struct bridge *bridge, const struct node *directory)
 {
     char path[PATH_BYTES];
-    bool is_bare = directory->bare == bridge->epoch && is_sure(bridge, directory);
+    bool has_none = is_bare(bridge, directory);
     unsigned epoch = bridge->epoch;
     struct link_times *times = calloc(1, sizeof *times);
     int fault = times ? path_of(directory, path) : ENOMEM;
-    if (!fault && !is_bare)
+    if (!fault && !has_none)
         fault = read_keys(bridge, path, times);
-    if (!fault && !is_bare)
+    if (!fault && !has_none)
         fault = read_values(bridge, path, times);
     if (fault) {
         link_times_free(times);

@@ -78,3 +78,15 @@ int take_bits(struct bridge *bridge, struct node *node)
     fuse_lowlevel_notify_inval_inode(bridge->session, node->number, -1, 0);
     return 0;
 }
+
+/* A capability goes with the bytes, whoever changes them, root too. The kernel takes it away before
+   it changes bytes that it keeps; else that goes with the requests of the change, of which it is
+   one. Mostly there is none, which is no refusal of the change. */
+void ask_no_capability(struct bridge *bridge, struct node *node)
+{
+    char path[PATH_BYTES];
+    if (!node->names)
+        kept_remove(node, CAPABILITY);
+    else if (!is_bare(bridge, node) && path_of(node, path) == 0)
+        ask_two(&bridge->batch, OP_DELATTR, path, CAPABILITY);
+}

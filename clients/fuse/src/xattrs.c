@@ -113,8 +113,7 @@ static bool twin_of(const struct bridge *bridge, const struct asked *asked, stru
     return true;
 }
 
-/* Whether it is known that there is nothing to be shown, so that nobody has to be asked. */
-static bool is_bare(const struct bridge *bridge, const struct node *node)
+bool is_bare(const struct bridge *bridge, const struct node *node)
 {
     return node->bare == bridge->epoch && is_sure(bridge, node);
 }

@@ -5,10 +5,17 @@ import errno
 import os
 import socket
 import struct
+import time
 from typing import NamedTuple
 
 WAIT = 120.0
 ROOT = 1
+CLOCK_REALTIME_COARSE = 5
+
+
+def tick():
+    """The time of the last tick, as the bridge has it, in whole seconds."""
+    return int(time.clock_gettime(CLOCK_REALTIME_COARSE))
 
 
 class Op(enum.IntEnum):

@@ -1,6 +1,7 @@
 """Mounts of this machine: one through the bridge, and the kernel's overlayfs beside it."""
 
 import contextlib
+import errno
 import hashlib
 import io
 import os
@@ -148,8 +149,16 @@ def is_of_overlay(name):
     return name.startswith("trusted.overlay.")
 
 
+def value_of(path, name):
+    """An attribute's value, or why the kernel gives none, as of a capability that is empty."""
+    try:
+        return os.getxattr(path, name, follow_symlinks=False)
+    except OSError as error:
+        return errno.errorcode[error.errno]
+
+
 def attributes(path):
-    return sorted((name, os.getxattr(path, name, follow_symlinks=False))
+    return sorted((name, value_of(path, name))
                   for name in os.listxattr(path, follow_symlinks=False)
                   if not is_of_overlay(name))
 

@@ -93,8 +93,22 @@ class Privileges(HostileCase):
             node = kernel.lookup(ROOT, "f").nodeid
             kernel.uid = NOBODY
             told = self.asked_by(kernel.open, node, os.O_WRONLY | os.O_TRUNC, OPEN_KILLS)
-            self.assertEqual([op for op, _ in told], [played.CHMOD, played.OPEN])
+            self.assertEqual([op for op, _ in told], [played.CHMOD, played.OPEN, played.DELATTR])
             self.assertEqual(told[0][1], 0o711)
+
+    def test_a_capability_goes_with_what_root_changes(self):
+        """Where the kernel doesn't take it: what it doesn't keep, and an open that empties."""
+        kernel = self.begun(CAPABLE, "--shared")
+        node = kernel.lookup(ROOT, "f").nodeid
+        fh = kernel.open(node, os.O_RDWR).fh
+        ops = [op for op, _ in self.asked_by(kernel.write, node, fh, 0, b"more")]
+        self.assertLess(ops.index(played.DELATTR), ops.index(played.WRITE))
+        for options in ((), ("--shared",)):
+            kernel = self.begun(CAPABLE, *options)
+            node = kernel.lookup(ROOT, "f").nodeid
+            for expected in (played.OPEN, played.TRUNCATE if not options else played.OPEN):
+                told = self.asked_by(kernel.open, node, os.O_WRONLY | os.O_TRUNC)
+                self.assertEqual([op for op, _ in told], [expected, played.DELATTR])
 
     def test_who_may_keep_them(self):
         """Root, what the kernel writes back, and whom the kernel lets keep them."""

@@ -10,7 +10,8 @@ import time
 import unittest
 
 from .bridges import ENGINE, ENVIRONMENT, Bridge, of_engine, why_no_engine
-from .kernel import (CAPABLE, ROOT, SET_ATIME, SET_GID, SET_MODE, SET_MTIME, SET_UID, WAIT, Flag)
+from .kernel import (CAPABLE, ROOT, SET_ATIME, SET_GID, SET_MODE, SET_MTIME, SET_UID, WAIT, Flag,
+                     tick)
 
 NO_ENGINE = why_no_engine()
 NO_OPENS = 1 << 17  # of INIT: the kernel can do without telling opens
@@ -275,7 +276,7 @@ class Times(EngineCase):
         self.assertEqual(kernel.walk("/h").attr.mtime, 315532800)
 
     def test_without_them_all_is_as_new_as_the_mount(self):
-        before = int(time.time())
+        before = tick()
         found = self.bridge("--no-times").kernel.walk("/d/f").attr
         self.assertTrue(before <= found.mtime <= time.time())
 

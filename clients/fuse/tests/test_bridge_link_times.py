@@ -9,7 +9,7 @@ import unittest
 from overlayd.exporter.command import main as export
 
 from .bridges import Bridge, ServerCase, of_sockets
-from .kernel import ROOT, SET_ATIME, SET_MTIME, SET_UID
+from .kernel import ROOT, SET_ATIME, SET_MTIME, SET_UID, tick
 from .played import ATTRS, GETATTR, LINK, STAT, Played, attr, made, refused, texts
 from .test_bridge_inside import EngineCase
 
@@ -105,7 +105,7 @@ class Shows(Case):
         self.assertEqual(changed(listed[-1].entry.attr), (9, 0))
 
     def test_without_them_all_is_as_new_as_the_mount(self):
-        before = int(time.time())
+        before = tick()
         with Bridge(self.served().path) as kernel:
             for name in ("awk", "none", "file"):
                 found = times(kernel.lookup(ROOT, name).attr)
@@ -179,7 +179,7 @@ class Keeps(Case):
         return node
 
     def test_a_link_that_is_made(self):
-        before = int(time.time())
+        before = tick()
         made = changed(self.kernel.symlink(self.folder("/e"), "new", "x").attr)
         self.assertTrue(before <= made[0] <= time.time())
         self.assertEqual(self.values(self.other, "/e"), {0: b"%d.%09d/new" % made})
