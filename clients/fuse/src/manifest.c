@@ -20,6 +20,12 @@ static bool tell(const char *what, const char *name, const char *why)
     return false;
 }
 
+static const char *reason_of(int fault)
+{
+    return fault == EFBIG ? "File too large; --manifest-limit says how large it may be"
+        : strerror(fault);
+}
+
 /* Bytes that grow as they are read. */
 struct bytes {
     char *at;
@@ -71,7 +77,7 @@ static bool read_text(const char *path, uint64_t limit, char **text, size_t *len
     int fault = read_all(AT_FDCWD, path, limit, &bytes);
     *text = bytes.at;
     *length = bytes.length;
-    return !fault || tell("", path, strerror(fault));
+    return !fault || tell("", path, reason_of(fault));
 }
 
 static bool add_blob(struct manifest *manifest, size_t length)
@@ -93,7 +99,7 @@ static bool read_blob(int folder, const char *name, uint64_t limit, struct manif
     int fault = limit < before ? EFBIG : read_all(folder, name, limit - before, bytes);
     if (!fault && !add_blob(manifest, bytes->length - before))
         fault = ENOMEM;
-    return !fault || tell(what, name, strerror(fault));
+    return !fault || tell(what, name, reason_of(fault));
 }
 
 /* The names have a NUL behind each; one that has more of them is no file's. */

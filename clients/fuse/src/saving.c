@@ -166,6 +166,9 @@ bool save(struct bridge *bridge)
         cannot_save(bridge, reason_of(fault));
         put_elsewhere(bridge, length);
     }
+    if (length > bridge->options.manifest_limit)
+        tell(bridge, "what was saved has %zu bytes: --upper takes it with --manifest-limit %zu",
+             length, length);
     if (left_out)
         tell(bridge, "not saved, since no manifest can say them: %llu objects",
              (unsigned long long)left_out);

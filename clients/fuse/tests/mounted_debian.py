@@ -84,7 +84,7 @@ class Root(Mounted):
     def __init__(self, *sources):
         self.sources = sources
         super().__init__(lambda base: None, "--times", "--devices", "-o", "dev,suid",
-                         overlay=False)
+                         "--manifest-limit", str(1 << 33), overlay=False)
 
     def serve(self, base):
         text = imported(self.path("mount.toml"), *self.sources)

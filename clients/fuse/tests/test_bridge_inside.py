@@ -133,6 +133,20 @@ class Saving(EngineCase):
         bridge.end()
         self.compare(self.bridge(*words).kernel)
 
+    def test_what_is_too_large_to_go_on_with_is_told(self):
+        few = str(len(MANIFEST) + 9)
+        bridge = self.bridge("--save", str(self.saved), "--manifest-limit", few)
+        self.written(bridge.kernel, ROOT, "new", b"text" * 999)
+        told = bridge.end()
+        enough = str(self.saved.stat().st_size)
+        self.assertIn(f"--upper takes it with --manifest-limit {enough}\n", told)
+        words = ("--manifest", "m.toml", "--upper", str(self.saved), "--manifest-limit")
+        done = self.run_it(*words, few, "--kernel", "0")
+        self.assertEqual(done.returncode, 1)
+        self.assertIn(f"{self.saved}: File too large; --manifest-limit ", done.stderr)
+        kernel = self.bridge("--upper", str(self.saved), "--manifest-limit", enough).kernel
+        self.assertEqual(self.bytes_of(kernel, "/new"), b"text" * 999)
+
     def test_nothing_is_saved_that_is_not_asked_for(self):
         bridge = self.bridge()
         self.change(bridge.kernel)
