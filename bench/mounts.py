@@ -214,7 +214,7 @@ def table(kinds, times):
     for load in LOADS:
         least = {kind: min(times[load, kind]) for kind in kinds}
         print(f"| `{load}` | " + " | ".join(f"{least[kind]:.3f}" for kind in kinds)
-              + "".join(f" | {least[ours] / least[kind]:.1f}" for kind in rest) + " |")
+              + "".join(f" | {least[ours] / least[kind]:.2f}" for kind in rest) + " |")
 
 
 def kinds_of(words, usage):

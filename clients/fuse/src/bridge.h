@@ -203,6 +203,7 @@ struct kernel {
     int64_t next_care;          /* when connections are looked after next, in milliseconds */
     int64_t next_turn;          /* when signals are looked at, though requests come */
     pid_t syncer;               /* a process that has the kernel write all that it holds, or 0 */
+    bool sleeps;                /* it waits in the read of a request */
     bool drains, unsaved, in_background;
     int64_t last;               /* when it ends, though the kernel still asks, in milliseconds */
 };
@@ -435,6 +436,12 @@ void untold_new(struct bridge *bridge, struct node *node, struct opened *opened)
 /* Before the last name of a node goes. */
 int untold_hold(struct bridge *bridge, struct node *node);
 void untold_leave(struct bridge *bridge, struct opened *opened);
+
+/* asleep.c */
+/* From now on the read of a request waits for it, until a signal comes. */
+void asleep_begin(struct bridge *bridge, int descriptor);
+/* The read; EINTR where a signal has ended the waiting. */
+ssize_t read_asleep(struct bridge *bridge, int descriptor, void *buffer, size_t room);
 
 /* privileges.c */
 /* Whether a change of bytes, as it is asked for, takes set-user-ID bits; and taking them. */

@@ -244,7 +244,9 @@ static ssize_t read_request(int descriptor, void *buffer, size_t room, void *use
     while (!fuse_session_exited(bridge->session)) {
         ssize_t got = -1;
         errno = EAGAIN;
-        if (polls && !bridge->kernel.drains)
+        if (bridge->kernel.sleeps)
+            got = read_asleep(bridge, descriptor, buffer, room);
+        else if (polls && !bridge->kernel.drains)
             got = read_soon(bridge, descriptor, buffer, room);
         if (got < 0 && errno == EAGAIN) {
             if (!is_asked(bridge, descriptor))
@@ -325,8 +327,11 @@ bool kernel_begin(struct bridge *bridge)
         descriptor = fuse_session_fd(bridge->session);
         fcntl(descriptor, F_SETFL, fcntl(descriptor, F_GETFL) | O_NONBLOCK);
     }
-    return hear_signals(bridge)
-        && fuse_session_custom_io(bridge->session, &io, descriptor) == 0;
+    if (!hear_signals(bridge))
+        return false;
+    if (bridge->options.kernel < 0 && !bridge->options.keep && !bridge->options.poll)
+        asleep_begin(bridge, descriptor);
+    return fuse_session_custom_io(bridge->session, &io, descriptor) == 0;
 }
 
 void kernel_end(struct bridge *bridge)

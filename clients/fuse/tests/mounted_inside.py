@@ -225,6 +225,21 @@ class Inside(unittest.TestCase):
         self.assertEqual((done.returncode, done.stdout, done.stderr), (0, "new 0:0\nd/f 0:0\n", ""))
         self.assertIn('"/new"', pathlib.Path(place, "saved.toml").read_text())
 
+    def test_a_signal_at_any_moment(self):
+        """Between two requests, while one is made, and while none comes."""
+        for number in range(24):
+            process = self.begun()
+            busy = subprocess.Popen(["sh", "-c", "while stat -f . > /dev/null; do :; done"],
+                                    cwd=self.mount, stderr=subprocess.DEVNULL)
+            time.sleep(number % 8 / 500)
+            if number % 3 == 0:
+                busy.kill()
+                busy.wait()
+            process.send_signal((signal.SIGTERM, signal.SIGINT, signal.SIGHUP)[number % 3])
+            self.assertEqual(process.wait(WAIT), 0, process.stderr.read())
+            busy.kill()
+            busy.wait()
+
     def test_polling(self):
         """It is served, and hears signals, also while requests come all the time."""
         process = self.begun("--poll", "100", "--save", self.saved)
