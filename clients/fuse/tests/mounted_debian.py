@@ -14,6 +14,7 @@ import io
 import os
 import pathlib
 import shutil
+import stat
 import subprocess
 import unittest
 
@@ -246,8 +247,22 @@ class Debian(unittest.TestCase):
         found, wanted = os.path.join(self.root.path("bundle"), "rootfs"), self.root.here
         self.assertEqual(os.lstat(found + "/usr/bin/env.link").st_mtime_ns, 1_123_456_789)
         self.assertEqual(os.lstat(found + "/root/null").st_rdev, os.makedev(1, 3))
-        self.assertEqual(tree(found), tree(wanted))
+        self.assertTrue(os.path.samefile(found + "/usr/bin/env", found + "/usr/bin/env.too"))
+        self.same_but_for_counts(tree(found), tree(wanted))
         self.assertEqual(changed(found, links=True), changed(wanted, links=True))
+
+    def same_but_for_counts(self, found, wanted):
+        """On the mount a name of the root's keeps the count of its file when another name of that
+        was copied up, as on overlayfs; what umoci makes has as many as there are."""
+        def counted(row):
+            return row[5] if stat.S_ISREG(int(row[0], 0)) else 0
+
+        def others(row):
+            return [*row[:5], *row[6:]] if counted(row) else row
+        self.assertEqual(found.keys(), wanted.keys())
+        for path, row in found.items():
+            self.assertEqual(others(row), others(wanted[path]), path)
+            self.assertLessEqual(counted(row), counted(wanted[path]), path)
 
     def changes(self):
         """The words by which an export reads what was changed."""
