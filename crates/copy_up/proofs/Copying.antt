@@ -20,7 +20,7 @@ use Rattle.layer_tree.specs.declared.node.Object.TheVariants as object
 use Rattle.layer_tree.specs.Nameless.{KeepsObjects}
 use Rattle.layer_tree.proofs.Nameless.{keeps_then, vacant_before}
 use Rattle.merged_lookup.specs.declared.layers.Layers.{Layers}
-use Rattle.merged_lookup.specs.declared.stack.Place.{Place}
+use Rattle.ov_base.specs.declared.place.Place.{Place}
 use Rattle.merged_lookup.specs.declared.stack.Stack.{Stack}
 use Rattle.merged_lookup.specs.Merged.{top_of, upper_of, layers_of, lowers_of, IsStackOf}
 use Rattle.copy_up.specs.Showing.{is_object, ShowsSame, StaysLayers, StaysThin, HasPlace, KeepsPath, GainsParents}

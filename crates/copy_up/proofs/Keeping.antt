@@ -15,7 +15,7 @@ use Rattle.plain_model.proofs.Uppers.{AgreeTo, agree-where, through-agree, under
 use Rattle.slab.specs.Slab.{get}
 use Rattle.layer_tree.specs.Nameless.{KeepsObjects}
 use Rattle.layer_tree.specs.Tree.{Tree, layer_of, inode_at, SetsPath, SameObjects}
-use Rattle.merged_lookup.specs.declared.stack.Place.{Place}
+use Rattle.ov_base.specs.declared.place.Place.{Place}
 use Rattle.merged_lookup.specs.declared.stack.Stack.{Stack}
 use Rattle.merged_lookup.specs.declared.layers.Layers.{Layers}
 use Rattle.merged_lookup.specs.Merged.{level, unless_cut, places_at, top_of, upper_of, lowers_of, layers_of, or_else, fault, way_fault, IsStackOf, ShowsDirectory}

@@ -17,7 +17,7 @@ use Rattle.layer_tree.proofs.Changing.{directory_is_present}
 use Rattle.merged_lookup.specs.declared.found.Topmost.{Topmost}
 use Rattle.merged_lookup.specs.declared.found.Topmost.TheVariants as topmost
 use Rattle.merged_lookup.specs.declared.layers.Layers.{Layers}
-use Rattle.merged_lookup.specs.declared.stack.Place.{Place}
+use Rattle.ov_base.specs.declared.place.Place.{Place}
 use Rattle.merged_lookup.specs.Descent.{place_shown}
 use Rattle.merged_lookup.specs.Locating.{place_of}
 use Rattle.merged_lookup.specs.Merged.{upper_of, layers_of, lowers_of, fill_at, trees, IsTopmost, ShowsInode}

@@ -9,7 +9,7 @@ use Rattle.plain_model.proofs.Uppers.{agree-where}
 use Rattle.layer_tree.specs.ContentChange.{SetsBytes}
 use Rattle.layer_tree.specs.Tree.{Tree, layer_of, inode_at, file_bytes, bytes_at, mark_at}
 use Rattle.merged_lookup.specs.declared.layers.Layers.{Layers}
-use Rattle.merged_lookup.specs.declared.stack.Place.{Place}
+use Rattle.ov_base.specs.declared.place.Place.{Place}
 use Rattle.merged_lookup.specs.Locating.{place_of}
 use Rattle.merged_lookup.specs.Lower.{lower_inode, lower_bytes}
 use Rattle.merged_lookup.specs.Marking.{file_content, place_if, file_place}

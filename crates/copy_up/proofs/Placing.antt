@@ -9,7 +9,7 @@ use Rattle.plain_model.proofs.LookUp.{hides, hides-cuts}
 use Rattle.plain_model.proofs.Paths.{paths_tell}
 use Rattle.plain_model.proofs.Uppers.{meld, merged-meld, AgreeTo, agree-step, through-agree, merged-agree, dead-step}
 use Rattle.layer_tree.specs.Tree.{Tree, layer_of, SetsPath}
-use Rattle.merged_lookup.specs.declared.stack.Place.{Place}
+use Rattle.ov_base.specs.declared.place.Place.{Place}
 use Rattle.merged_lookup.specs.declared.layers.Layers.{Layers}
 use Rattle.merged_lookup.specs.Merged.{upper_of, lowers_of, layers_of, level, top_of}
 use Rattle.merged_lookup.proofs.Descending.{parent-held}

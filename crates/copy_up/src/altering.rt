@@ -16,8 +16,8 @@ ghost use Rattle.copy_up.specs.Texts.{KeepsTexts};
 
 use crate::leaves::{all_at_once, mark_of, place_meta};
 use crate::parents::{place_parent, place_parents, placed_or};
-use merged_lookup::{Layers, Place, Stack, Topmost};
-use ov_base::{AttributeChange, Attributes, Name, Path};
+use merged_lookup::{Layers, Stack, Topmost};
+use ov_base::{AttributeChange, Attributes, Name, Path, Place};
 use std::alloc::{AllocError, Global};
 
 /// Changes the attributes of what is shown at a path, as chmod(2), chown(2) and setxattr(2) do, and

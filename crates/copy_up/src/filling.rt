@@ -12,8 +12,8 @@ ghost use Rattle.copy_up.specs.Showing.{StaysSound};
 ghost use Rattle.copy_up.specs.Texts.{KeepsTexts};
 
 use layer_tree::{Layer, Node};
-use merged_lookup::{Layers, Place};
-use ov_base::{Content, FileBytes};
+use merged_lookup::Layers;
+use ov_base::{Content, FileBytes, Place};
 use std::alloc::AllocError;
 
 /// Gives a marked file of the upper bytes of its own, those that it shows, and ends its mark

@@ -11,8 +11,8 @@ ghost use Rattle.copy_up.specs.Leaves.{CopiesLeaf, copy_mark};
 
 use crate::parents::{place_parents, placed_or};
 use layer_tree::Object;
-use merged_lookup::{Layers, Place, Stack};
-use ov_base::{Attributes, Content, Name, Path};
+use merged_lookup::{Layers, Stack};
+use ov_base::{Attributes, Content, Name, Path, Place};
 use std::alloc::{AllocError, Global};
 
 /// Copies the file or symbolic link that a lower layer shows at a name of the merged directory at

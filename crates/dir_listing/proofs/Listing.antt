@@ -7,7 +7,7 @@ use Rattle.std.specs.Option.{option_and_then}
 use Rattle.std.specs.Str.{bytes_eq}
 use Rattle.layer_tree.specs.Tree.{Tree, entry, seen_entry}
 use Rattle.layer_tree.specs.declared.name_table.Entry.{Entry}
-use Rattle.merged_lookup.specs.declared.stack.Place.{Place}
+use Rattle.ov_base.specs.declared.place.Place.{Place}
 use Rattle.merged_lookup.specs.Descent.{first, topmost, topmost_in}
 use Rattle.dir_listing.specs.Bound.{is_bound}
 

@@ -20,7 +20,7 @@ use Rattle.layer_tree.specs.declared.node.Node.{Node}
 use Rattle.layer_tree.specs.declared.node.Node.TheVariants as node
 use Rattle.layer_tree.specs.declared.name_table.Entry.{Entry}
 use Rattle.layer_tree.specs.declared.name_table.Entry.TheVariants.{Object, Whiteout}
-use Rattle.merged_lookup.specs.declared.stack.Place.{Place}
+use Rattle.ov_base.specs.declared.place.Place.{Place}
 use Rattle.merged_lookup.specs.Descent.{topmost}
 use Rattle.dir_listing.specs.declared.bound.Bound.{Bound}
 use Rattle.dir_listing.specs.Bound.{by_name, found, shows_or, is_object}

@@ -14,7 +14,7 @@ use Rattle.plain_model.specs.Layers.{Layer, Object, Path, held, cuts, below}
 use Rattle.layer_tree.specs.Tree.{Tree, layer_of}
 use Rattle.layer_tree.specs.declared.name_table.Entry.{Entry}
 use Rattle.layer_tree.specs.declared.name_table.Entry.TheVariants as bound
-use Rattle.merged_lookup.specs.declared.stack.Place.{Place}
+use Rattle.ov_base.specs.declared.place.Place.{Place}
 use Rattle.merged_lookup.specs.Merged.{level, unless_cut, places_at}
 use Rattle.merged_lookup.specs.Descent.{first, topmost_in}
 use Rattle.dir_listing.specs.declared.bound.Bound.{Bound}

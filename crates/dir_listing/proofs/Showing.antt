@@ -7,7 +7,7 @@ use Rattle.std.specs.Str.{bytes_eq}
 use Rattle.plain_model.specs.Layers.{Name, Path, shows}
 use Rattle.mount_laws.specs.Removals.{ShowsNoName}
 use Rattle.layer_tree.specs.Tree.{Tree}
-use Rattle.merged_lookup.specs.declared.stack.Place.{Place}
+use Rattle.ov_base.specs.declared.place.Place.{Place}
 use Rattle.merged_lookup.specs.declared.layers.Layers.{Layers}
 use Rattle.merged_lookup.specs.Merged.{trees, layers_of, places_at}
 use Rattle.merged_lookup.specs.Descent.{first}

@@ -9,7 +9,7 @@ use Rattle.std.specs.declared.cmp.Ordering.{Ordering}
 use Rattle.layer_tree.specs.Tree.{Tree, entry}
 use Rattle.layer_tree.specs.declared.name_table.Entry.{Entry}
 use Rattle.layer_tree.specs.declared.name_table.Entry.TheVariants.{Object, Whiteout}
-use Rattle.merged_lookup.specs.declared.stack.Place.{Place}
+use Rattle.ov_base.specs.declared.place.Place.{Place}
 use Rattle.merged_lookup.specs.Descent.{topmost_in}
 use Rattle.dir_listing.specs.declared.bound.Bound.{Bound}
 

@@ -1,6 +1,6 @@
 // What the directories of a merged directory have at their names.
 ghost use Rattle.std.specs.Prelude.{◌≡◌, List, ℕ, Option, Some, IsSome, IfOk, map, is_some, slice_get};
-ghost use Rattle.merged_lookup.specs.declared.stack.Place as stack;
+ghost use Rattle.ov_base.specs.declared.place.Place as stack;
 ghost use Rattle.std.specs.List.Sorted.{IsStrictlySortedBy};
 ghost use Rattle.merged_lookup.specs.Merged.{trees};
 ghost use Rattle.merged_lookup.specs.Descent.{topmost_in};
@@ -9,8 +9,8 @@ ghost use Rattle.dir_listing.specs.Bound.{bound_of, by_name, found, shows_or, fi
 use crate::merge::{keep_topmost, merged};
 use indexmap::map::Slice;
 use layer_tree::{Entry, Layer};
-use merged_lookup::{Layers, Place};
-use ov_base::Name;
+use merged_lookup::Layers;
+use ov_base::{Name, Place};
 use std::alloc::{AllocError, Global};
 
 // A name of a layer's directory, and what the directory has there.

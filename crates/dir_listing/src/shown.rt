@@ -8,8 +8,8 @@ ghost use Rattle.merged_lookup.specs.Descent.{first};
 ghost use Rattle.dir_listing.specs.Bound.{is_bound};
 ghost use Rattle.dir_listing.specs.Shown.{TellsNames};
 
-use merged_lookup::{Layers, Place, Stack};
-use ov_base::Name;
+use merged_lookup::{Layers, Stack};
+use ov_base::{Name, Place};
 
 /// Whether a merged directory shows a name. It stops at the first that is shown, and takes no memory.
 pub fn shows_names(layers: &Layers, stack: &Stack) -> bool

@@ -9,7 +9,7 @@ use Rattle.plain_model.specs.Tree.{IsThin, Own, SeenLeaf, merged}
 use Rattle.ov_base.specs.Targets.{target_fault, target_of}
 use Rattle.ov_base.specs.declared.errno.Errno.TheVariants as errno
 use Rattle.plain_model.specs.Refusals.{when, has_nul}
-use Rattle.mount_laws.specs.Looks.{or_else}
+use Rattle.mount_laws.specs.Looks.{or_else, mkdir_fault}
 use Rattle.mount_laws.specs.Leaves.{PlacesLeaf, GainsLeaf, MakesLink, MakesFile, symlink_fault}
 use Rattle.mount_laws.proofs.Alters.{law_of_thin, law_of_placed_leaf}
 use Rattle.mount_laws.proofs.Links.{law_of_link_made}
@@ -24,7 +24,7 @@ use Rattle.copy_up.specs.Showing.{is_object, ShowsSame, StaysLayers, StaysThin, 
 use Rattle.copy_up.proofs.Frames.{others-then}
 use Rattle.copy_up.proofs.Placing.{free-directory, nothing-held, free-absent}
 use Rattle.copy_up.proofs.Raising.{lowers-same, layer-raised, leaf-raised}
-use Rattle.make_remove.specs.Making.{mkdir_fault, new_attributes, vacancy_fault}
+use Rattle.make_remove.specs.Making.{new_attributes, vacancy_fault}
 use Rattle.make_remove.specs.Leaves.{MakesLeaf, SymlinkSteps, CreateSteps}
 use Rattle.copy_up.proofs.Copying.{leaf_of}
 

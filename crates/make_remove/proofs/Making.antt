@@ -10,7 +10,7 @@ use Rattle.layer_tree.specs.Tree.{layer_of, SetsPath, inode_at}
 use Rattle.layer_tree.specs.Nameless.{KeepsObjects}
 use Rattle.layer_tree.proofs.Nameless.{keeps_then, vacant_before}
 use Rattle.slab.specs.Slab.{get}
-use Rattle.merged_lookup.specs.declared.stack.Place.{Place}
+use Rattle.ov_base.specs.declared.place.Place.{Place}
 use Rattle.merged_lookup.specs.Merged.{top_of, upper_of, lowers_of, layers_of, IsStackOf}
 use Rattle.copy_up.specs.Showing.{is_object, ShowsSame, HasPlace, GainsParents}
 use Rattle.copy_up.proofs.Frames.{others-then}

@@ -16,7 +16,7 @@ use Rattle.mount_laws.proofs.Alters.{law_of_taken_away, law_of_thin}
 use Rattle.mount_laws.proofs.Refusing.{law_of_rmdir}
 use Rattle.mount_laws.proofs.Removes.{law_of_unlinked, law_of_removed_directory}
 use Rattle.layer_tree.specs.Tree.{Tree, IsTree, IsDirectory, layer_of, inode_at, key_at}
-use Rattle.merged_lookup.specs.declared.stack.Place.{Place}
+use Rattle.ov_base.specs.declared.place.Place.{Place}
 use Rattle.merged_lookup.specs.declared.stack.Stack.{Stack}
 use Rattle.merged_lookup.specs.declared.layers.Layers.{Layers}
 use Rattle.merged_lookup.specs.declared.found.Found.{Found}

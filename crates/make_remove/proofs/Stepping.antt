@@ -3,7 +3,7 @@ use Rattle.std.proofs.Common.{◌≡◌, ℕ, Bool, List, [], ◌∷◌, ◌++�
 use Rattle.plain_model.specs.Layers.{Name, Path, Directory, Layer, held, shows, through, under, is_directory, IsLayer}
 use Rattle.plain_model.specs.Laws.{Placed}
 use Rattle.plain_model.specs.Tree.{IsThin}
-use Rattle.mount_laws.specs.Looks.{IsMountOf, Gains, Makes}
+use Rattle.mount_laws.specs.Looks.{IsMountOf, Gains, Makes, mkdir_fault}
 use Rattle.mount_laws.proofs.Looks.{law_of_mkdir}
 use Rattle.mount_laws.proofs.Places.{law_of_placed_directory, longer}
 use Rattle.mount_laws.proofs.Alters.{law_of_thin}
@@ -15,7 +15,7 @@ use Rattle.copy_up.specs.Showing.{ShowsSame, StaysMount, StaysThin}
 use Rattle.copy_up.proofs.Placing.{free-directory, nothing-held, free-absent}
 use Rattle.copy_up.proofs.Raising.{lowers-same, layer-raised, placed-raised}
 use Rattle.copy_up.proofs.Keeping.{inodes-same}
-use Rattle.make_remove.specs.Making.{MkdirSteps, mkdir_fault, new_attributes}
+use Rattle.make_remove.specs.Making.{MkdirSteps, new_attributes}
 
 -- a directory in an upper that has its parent
 module _ (start old new : Layers) (same : ShowsSame start old) (mounts : StaysMount start old) (low : new.lowers ≡ old.lowers) (inodes : (k : ℕ) → inode_at new.upper k ≡ inode_at old.upper k) (keep : IsLayer (layer_of old.upper) → IsLayer (layer_of new.upper)) (q : Path) (n : Name) (key mode : ℕ) (o : Bool) (absent : shows 0 (layers_of start) (n ∷ q) ≡ None) (opaque : o ≡ is_directory (under (layer_of old.upper) (lowers_of old) n q)) (sets : SetsPath (layer_of old.upper) (layer_of new.upper) (n ∷ q) (Directory key (new_attributes mode) o None)) where

@@ -9,7 +9,6 @@ use Rattle.plain_model.specs.Layers.{Path, Directory, Layer, held, shows, under,
 use Rattle.plain_model.specs.Refusals.{when}
 use Rattle.plain_model.specs.Tree.{SeenBranch}
 use Rattle.plain_model.specs.Machine.{State}
-pub use Rattle.mount_laws.specs.Looks.{mkdir_fault}
 use Rattle.mount_laws.specs.Looks.{or_else, parents_fault, IsMountOf, Makes}
 use Rattle.layer_tree.specs.Tree.{layer_of}
 use Rattle.layer_tree.specs.Nameless.{KeepsObjects}

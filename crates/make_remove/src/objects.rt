@@ -12,8 +12,9 @@ use merged_lookup::Stack;
 use ov_base::{Attributes, Errno, Mode, UserAttributes};
 use std::alloc::Global;
 
-/// The merged directory in which an object may be made at a path, by what was seen there. The way
-/// to the last name is refused as `mkdir`'s, and where something is shown it is EEXIST.
+/// The merged directory in which an object may be made at a path, by what was seen there, or why
+/// mkdir(2) and symlink(2) refuse it: on the way to the last name a name that shows nothing is
+/// ENOENT, a file ENOTDIR and a symbolic link ELOOP; where something is shown it is EEXIST.
 pub fn vacant(seen: &Seen) -> Result<&Stack, Errno>
     ensures cases { MatchResult result
         (λ _. (l : LayersOf) (p : Names) → IsSeen l p seen.now → vacancy_fault (layers_of l) p ≡ None)

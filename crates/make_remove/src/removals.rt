@@ -21,8 +21,8 @@ use crate::seen::{Seen, found_in, there};
 use copy_up::{place_parents, placed_or};
 use dir_listing::shows_names;
 use layer_tree::{Entry, Layer, Node};
-use merged_lookup::{Found, Layers, Place, Stack, Topmost};
-use ov_base::{Errno, Name, Path};
+use merged_lookup::{Found, Layers, Stack, Topmost};
+use ov_base::{Errno, Name, Path, Place};
 use std::alloc::AllocError;
 
 /// Why the root is not removed: the mount stands on it.
@@ -115,45 +115,32 @@ pub fn removable<'a>(layers: &Layers, path: &Path, seen: &'a Seen) -> Result<&'a
     Ok(directory)
 }
 
-/// Removes a directory that shows no name, as rmdir(2), unless `removable` refuses it. It hands back
-/// the key of the upper's directory that went, which stays until it is freed. A refusal changes
-/// nothing, and an allocation failure changes nothing that is shown.
+/// Removes the name of a directory that `removable` found in this one, as rmdir(2). It hands back
+/// the key of the upper's directory that went, which stays until it is freed. An allocation failure
+/// changes nothing that is shown.
 pub fn rmdir(
     layers: &mut Layers,
+    directory: &Stack,
     path: &Path,
-    seen: &Seen,
-) -> Result<Result<Option<usize>, Errno>, AllocError>
-    requires { IsSeen layers.old path.now seen.now }
-    ensures refused { IfOk result (λ r. IfErr r (λ e.
-        (full : Bool) → TellsNames (layers_of layers.old) path.now full →
-        rmdir_fault (layers_of layers.old) path.now full ≡ Some e)) }
-    ensures refuses { IfOk result (λ r. IfErr r (λ e.
-        (s : State) → IsMountOf (upper_of layers.old) (lowers_of layers.old) s → (c : ℕ) →
-        refusal s c (call.Rmdir path.now) ≡ Some e)) }
-    ensures unchanged { IfOk result (λ r. OnErr r (layers.new ≡ layers.old)) }
-    ensures allowed { IfOk result (λ r.
-        OnOk r (rmdir_fault (layers_of layers.old) path.now false ≡ None)) }
-    ensures bare { IfOk result (λ r. OnOk r (ShowsNoName (layers_of layers.old) path.now)) }
-    ensures takes { IfOk result (λ r. OnOk r (TakesName layers.old layers.new path.now)) }
-    ensures steps { IfOk result (λ r. OnOk r ((s : State) →
+) -> Result<Option<usize>, AllocError>
+    requires allowed { rmdir_fault (layers_of layers.old) path.now false ≡ None }
+    requires bare { ShowsNoName (layers_of layers.old) path.now }
+    requires directory { IsStackOf layers.old (parent path.now) directory.now }
+    ensures takes { OnOk result (TakesName layers.old layers.new path.now) }
+    ensures steps { OnOk result ((s : State) →
         IsMountOf (upper_of layers.old) (lowers_of layers.old) s → (c : ℕ) →
         Removes (upper_of layers.new) (lowers_of layers.new) s c path.now
-        (call.Rmdir path.now))) }
-    ensures unnames { IfOk result (λ r.
-        IfOk r (λ released. Unnames layers.old layers.new path.now released)) }
+        (call.Rmdir path.now)) }
+    ensures unnames { IfOk result (λ released. Unnames layers.old layers.new path.now released) }
     ensures no_memory { OnErr result
         (ChangesNoSight layers.old layers.new (GainsParents layers.old layers.new path.now)) }
     ensures sound { StaysSound layers.old layers.new }
 {
-    let directory = match removable(layers, path, seen) {
-        Ok(directory) => directory,
-        Err(errno) => return Ok(Err(errno)),
-    };
     let Some((name, parents)) = path.split_last() else {
         unreachable!()
     };
     let key = take_away(layers, directory, parents, name)?;
-    Ok(Ok(key))
+    Ok(key)
 }
 
 // Takes away what a name of this merged directory shows and in which no name is shown, and gives the key of what lost its last name.

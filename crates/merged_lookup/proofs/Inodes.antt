@@ -9,7 +9,7 @@ use Rattle.layer_tree.specs.declared.node.Inode as stored
 use Rattle.layer_tree.specs.declared.node.Node.{Node}
 use Rattle.layer_tree.specs.declared.node.Node.TheVariants as node
 use Rattle.merged_lookup.specs.declared.layers.Layers.{Layers}
-use Rattle.merged_lookup.specs.declared.stack.Place.{Place}
+use Rattle.ov_base.specs.declared.place.Place.{Place}
 use Rattle.merged_lookup.specs.Merged.{trees, node_in, lowers_of, ShowsInode}
 use Rattle.merged_lookup.proofs.Descending.{drop-get}
 use Rattle.merged_lookup.proofs.Filled.{raw_shown, IsInodeOf, raw-inode}

@@ -8,7 +8,7 @@ use Rattle.layer_tree.specs.Tree.{Tree, layer_of, inode_of}
 use Rattle.layer_tree.specs.declared.node.Inode as stored
 use Rattle.layer_tree.specs.declared.node.Node.TheVariants as node
 use Rattle.merged_lookup.specs.declared.layers.Layers.{Layers}
-use Rattle.merged_lookup.specs.declared.stack.Place.{Place}
+use Rattle.ov_base.specs.declared.place.Place.{Place}
 use Rattle.merged_lookup.specs.Lower.{lower_inode, file_bytes, lower_bytes}
 use Rattle.merged_lookup.specs.Marking.{file_content}
 use Rattle.merged_lookup.specs.Merged.{trees, node_in, fill_at, layers_of, lowers_of}

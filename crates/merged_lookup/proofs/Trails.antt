@@ -10,7 +10,7 @@ use Rattle.ov_base.specs.declared.redirect.Redirect.{Redirect}
 use Rattle.ov_base.specs.declared.redirect.Redirect.TheVariants as redirect
 use Rattle.plain_model.specs.Layers.{Layer, Name, Path, Object, Directory, Named, Whiteout, held, below, cut, cuts, spell}
 use Rattle.layer_tree.specs.Tree.{Tree, layer_of}
-use Rattle.merged_lookup.specs.declared.stack.Place.{Place}
+use Rattle.ov_base.specs.declared.place.Place.{Place}
 use Rattle.merged_lookup.specs.declared.trail.Trail.{Trail}
 use Rattle.merged_lookup.specs.declared.onward.Onward.{Onward}
 use Rattle.merged_lookup.specs.declared.onward.Onward.TheVariants as way

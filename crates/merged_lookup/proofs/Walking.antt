@@ -3,7 +3,7 @@ use Rattle.std.proofs.Common.{◌≡◌, ℕ, zero, suc, ◌+◌, ◌≤◌, ◌
 use Rattle.std.proofs.lemmas.List.{append-nil}
 use Rattle.plain_model.specs.Layers.{Path, Object, Directory, Named, Whiteout, held, below, cuts}
 use Rattle.layer_tree.specs.Tree.{Tree, layer_of}
-use Rattle.merged_lookup.specs.declared.stack.Place.{Place}
+use Rattle.ov_base.specs.declared.place.Place.{Place}
 use Rattle.merged_lookup.specs.Merged.{level, place_in, unless_cut, places_at}
 use Rattle.merged_lookup.specs.Descent.{places_from}
 use Rattle.merged_lookup.specs.Passing.{directory_key}

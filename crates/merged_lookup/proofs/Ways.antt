@@ -6,7 +6,7 @@ use Rattle.ov_base.specs.declared.errno.Errno.{Errno}
 use Rattle.ov_base.specs.declared.errno.Errno.TheVariants as errno
 use Rattle.plain_model.specs.Layers.{Name, Path, Inode, Folder, Contents, shows, is_directory}
 use Rattle.layer_tree.specs.Tree.{Tree, inode_of}
-use Rattle.merged_lookup.specs.declared.stack.Place.{Place}
+use Rattle.ov_base.specs.declared.place.Place.{Place}
 use Rattle.merged_lookup.specs.declared.layers.Layers.{Layers}
 use Rattle.merged_lookup.specs.Merged.{trees, layers_of, top_of, fault, way_fault, inode_fault, node_in}
 use Rattle.merged_lookup.specs.Descent.{places_from, descend, first}

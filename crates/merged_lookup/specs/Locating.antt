@@ -4,7 +4,7 @@ use Rattle.std.specs.Ordering.{is_gt}
 use Rattle.plain_model.specs.Layers.{Path, Shown, Folder, Contents, shows}
 use Rattle.plain_model.specs.Merging.{text_cmp}
 use Rattle.layer_tree.specs.Tree.{key_at}
-use Rattle.merged_lookup.specs.declared.stack.Place.{Place}
+use Rattle.ov_base.specs.declared.place.Place.{Place}
 use Rattle.merged_lookup.specs.declared.layers.Layers.{Layers}
 use Rattle.merged_lookup.specs.Merged.{layers_of}
 

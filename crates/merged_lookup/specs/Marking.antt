@@ -8,7 +8,7 @@ use Rattle.layer_tree.specs.Tree.{Tree, inode_of}
 use Rattle.merged_lookup.specs.declared.found.Topmost.{Topmost}
 use Rattle.merged_lookup.specs.declared.found.Topmost.TheVariants as shown
 use Rattle.merged_lookup.specs.declared.layers.Layers.{Layers}
-use Rattle.merged_lookup.specs.declared.stack.Place.{Place}
+use Rattle.ov_base.specs.declared.place.Place.{Place}
 use Rattle.merged_lookup.specs.Merged.{trees, node_in, lowers_of, fill_at}
 
 -- the content of a file; what is none has none here

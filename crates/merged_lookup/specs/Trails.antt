@@ -5,7 +5,7 @@ use Rattle.ov_base.specs.declared.redirect.Redirect.{Redirect}
 use Rattle.ov_base.specs.declared.redirect.Redirect.TheVariants as redirect
 use Rattle.plain_model.specs.Layers.{Name, Path, Directory, held, below, cuts}
 use Rattle.layer_tree.specs.Tree.{Tree, layer_of}
-use Rattle.merged_lookup.specs.declared.stack.Place.{Place}
+use Rattle.ov_base.specs.declared.place.Place.{Place}
 use Rattle.merged_lookup.specs.declared.trail.Trail.{Trail}
 use Rattle.merged_lookup.specs.Descent.{places_from}
 

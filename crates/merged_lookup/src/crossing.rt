@@ -12,9 +12,9 @@ use crate::layers::Layers;
 use crate::numbered::Numbered;
 use crate::onward::{Onward, onward_under};
 use crate::spelling::Spelling;
-use crate::stack::{Place, Places};
+use crate::stack::Places;
 use layer_tree::{Layer, ROOT};
-use ov_base::{Name, Path};
+use ov_base::{Name, Path, Place};
 
 // What a layer has at the names so far of its spelling of a path.
 #[derive(Clone, Copy)]

@@ -12,10 +12,10 @@ use crate::found::Topmost;
 use crate::layers::Layers;
 use crate::numbered::Numbered;
 use crate::onward::{Onward, onward_in};
-use crate::stack::{Place, Places};
+use crate::stack::Places;
 use crate::trail::{Trail, further};
 use layer_tree::ROOT;
-use ov_base::{Name, Path};
+use ov_base::{Name, Path, Place};
 
 // The roots of the layers from this one on.
 pub(crate) fn roots(layers: &Layers, first: usize) -> Places

@@ -8,9 +8,8 @@ ghost use Rattle.merged_lookup.specs.Descent.{places_from};
 use crate::crossing::cross_all;
 use crate::descent::topmost;
 use crate::layers::Layers;
-use crate::stack::Place;
 use layer_tree::{Inode, Node};
-use ov_base::{Content, Errno, Name};
+use ov_base::{Content, Errno, Name, Place};
 
 impl Layers {
     // Why a name leads to no directory: an inode that it shows, or nothing.

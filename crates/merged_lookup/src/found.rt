@@ -2,8 +2,8 @@
 ghost use Rattle.std.specs.Prelude.{◌≡◌, Some};
 ghost use Rattle.merged_lookup.specs.Descent.{place_shown, leads};
 
-use crate::stack::{Place, Stack};
-use ov_base::Name;
+use crate::stack::Stack;
+use ov_base::{Name, Place};
 
 /// What is shown at a name: a merged directory, or a file or symbolic link of one layer.
 #[derive(Drop)]

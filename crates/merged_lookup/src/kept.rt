@@ -11,9 +11,9 @@ ghost use Rattle.merged_lookup.specs.Merged.{place_in};
 
 use crate::descent::{below_upper, copied};
 use crate::found::Topmost;
-use crate::stack::{Place, Places};
+use crate::stack::Places;
 use layer_tree::{Entry, Layer, Marks, Node, ROOT};
-use ov_base::Name;
+use ov_base::{Name, Place};
 
 // What the lower layers show at a spelling.
 #[derive(Drop)]

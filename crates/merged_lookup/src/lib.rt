@@ -28,5 +28,5 @@ pub use found::{Found, Parent, Topmost};
 pub use layers::{LAYERS_MAX, Layers};
 pub use marked::low_file_in;
 pub use prepared::Prepared;
-pub use stack::{Place, Stack};
+pub use stack::Stack;
 pub use stacked::Stacked;

@@ -10,9 +10,8 @@ use crate::crossing::cross_from;
 use crate::descent::topmost_at;
 use crate::layers::Layers;
 use crate::numbered::Numbered;
-use crate::stack::Place;
 use layer_tree::{Layer, Node};
-use ov_base::{Content, Path};
+use ov_base::{Content, Path, Place};
 
 impl Layers {
     /// The place of the file that the lower layers show at a path, if it is a file that they show.

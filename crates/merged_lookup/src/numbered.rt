@@ -7,9 +7,8 @@ ghost use Rattle.merged_lookup.specs.Marking.{file_content, topmost_file};
 ghost use Rattle.merged_lookup.specs.Numbered.{row};
 
 use crate::found::Topmost;
-use crate::stack::Place;
 use layer_tree::{Layer, Node};
-use ov_base::Content;
+use ov_base::{Content, Place};
 
 // Layers by their numbers: the one under 0, and those from 1 on.
 #[derive(Clone, Copy)]

@@ -6,8 +6,7 @@ ghost use Rattle.merged_lookup.specs.Lower.{lower_bytes};
 ghost use Rattle.merged_lookup.specs.Prepared.{Fits};
 
 use crate::layers::Layers;
-use crate::stack::Place;
-use ov_base::{Content, FileBytes};
+use ov_base::{Content, FileBytes, Place};
 use std::alloc::AllocError;
 
 /// The bytes of a lower layer's file, and the place of that file.

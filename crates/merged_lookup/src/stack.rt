@@ -5,13 +5,7 @@ ghost use Rattle.arrayvec.specs.ArrayVec.{array_vec_len};
 use crate::descent::below_upper;
 use crate::layers::LAYERS_MAX;
 use arrayvec::ArrayVec;
-
-/// An object of a layer: the layer, 0 for the upper, and the key that the object has there.
-#[derive(Clone, Copy, Default)]
-pub struct Place {
-    pub layer: usize,
-    pub key: usize,
-}
+use ov_base::Place;
 
 /// Places of different layers, top first.
 pub(crate) type Places = ArrayVec<Place, LAYERS_MAX>;

@@ -5,9 +5,8 @@ ghost use Rattle.plain_model.specs.Layers as held;
 ghost use Rattle.layer_tree.specs.Tree.{Tree, layer_of};
 ghost use Rattle.merged_lookup.specs.Trails.{trail_path, IsTrail, IsFurther, goes_on};
 
-use crate::stack::Place;
 use layer_tree::Marks;
-use ov_base::{Name, Path, Redirect};
+use ov_base::{Name, Path, Place, Redirect};
 
 // The path by which the layers below the upper come to where a walk is: the names of a redirect, and those that were walked since.
 #[derive(Clone, Copy)]

@@ -1,23 +1,28 @@
 -- How many watch an object that one client armed, and what was held for it.
 use Rattle.std.proofs.Common.{◌≡◌, ◌≢◌, ℕ, ◌+◌, ◌-◌, ◌≤◌, Bool, true, false, cond, ◌||◌, ◌⊎◌, inl, inr, List, [], ◌∷◌, Option, None, Some, Result, Ok, Err, refl, sym, ap, subst, ◌∙◌, arith, nat_eq, eqb-true, eq-eqb}
-use Rattle.std.specs.Prelude.{◌↔◌, IfOk, IfErr, OnOk, OnErr}
+use Rattle.std.specs.Prelude.{◌↔◌, IfOk, OnOk, OnErr, is_some}
 use Rattle.std.proofs.lemmas.Bool.{false≢true, cases_Bool}
 use Rattle.ov_base.specs.declared.node_id.NodeId.TheVariants.{New}
 use Rattle.std.specs.declared.alloc.AllocError.{AllocError}
 use Rattle.ov_base.specs.declared.errno.Errno.{Errno}
 use Rattle.plain_model.specs.Layers.{Path}
-use Rattle.plain_model.specs.Watching.{Instance}
+use Rattle.plain_model.specs.Watching.{Instance, On}
+use Rattle.plain_model.specs.Alike.{is_watched}
 use Rattle.plain_model.specs.Changes.{armed_on, at_client}
-use Rattle.object_table.specs.Objects.{Objects, Spot, spot_of, holders_of, spot_left, SetsSpot, Holds}
+use Rattle.object_table.specs.Objects.{Objects, Spot, Nowhere, spot_of, holders_of, spot_left, IsVacant, SetsSpot, Holds}
 use Rattle.watch_table.specs.Clients.{AreRising, clients_of}
 use Rattle.watch_table.specs.Listening.{is_on}
+use Rattle.watch_table.proofs.Arming.{unwatched-arm}
 use Rattle.watch_table.proofs.Clients.{IsAbsent, above-absent, absent-at_client, nat_ne}
 use Rattle.watch_table.proofs.Indexing.{armed-on}
-use Rattle.notice_laws.specs.Notified.{Notified}
+use Rattle.notice_laws.specs.Notified.{AreKnown, Notified}
 use Rattle.notice_laws.specs.declared.object.Object.{Object}
+use Rattle.notice_laws.specs.declared.object.Object.TheVariants as object
+use Rattle.notice_laws.specs.Objects.{IsNumberAt, IsNumberOf}
 use Rattle.notice_laws.specs.Opens.{AreFewer}
+use Rattle.notice_laws.specs.Steps.{IsSpotOf}
 use Rattle.notice_laws.proofs.Numbers.{number-at}
-use Rattle.notifier.specs.Arming.{ArmsAt, IsArmRefused, refusal_of, watch_of}
+use Rattle.notifier.specs.Arming.{ArmsAt, IsArmJudged, refusal_of, watch_of}
 use Rattle.notifier.specs.Opening.{HoldsObject}
 use Rattle.notifier.specs.Notifying.{watchers}
 use Rattle.notifier.proofs.Hearing.{one-more}
@@ -94,12 +99,11 @@ module _ (c slot o mask : ℕ) where
   more-armed es fs rising (inr is) = subst (λ xs. WatchesMore es xs o) (sym is) (none-more es o)
 
 -- an arm was done, or left all
-pub outcome-of : {A E F D L : Type 0} (r : Result (Result A E) F) → IfOk r (λ outcome. OnOk outcome D) → IfOk r (λ outcome. OnErr outcome L) →
-    OnErr r L → D ⊎ L
-outcome-of (Ok (Ok a)) done left err = inl done
-outcome-of (Ok (Err e)) done left err = inr left
-outcome-of (Err f) done left err = inr err
+pub outcome-of : {A F D L : Type 0} (r : Result A F) → OnOk r D → OnErr r L → D ⊎ L
+outcome-of (Ok a) done left = inl done
+outcome-of (Err f) done left = inr left
 
+-- numbers that are told apart differ
 ne : (m n : ℕ) → nat_eq m n ≡ false → m ≢ n
 ne m n f same = false≢true (sym f ∙ eq-eqb m n same)
 
@@ -161,11 +165,9 @@ module _ (old held new : Objects) (spot : Spot) (o less : ℕ) (holds : Holds ol
 
 -- a slot is armed on what is held
 pub arms-at : (old new : Notified) (held : Objects) (c slot mask number : ℕ) (p : Path) (o : Object) → HoldsObject old.objects held p o number →
-    AreFewer held new.objects → new.handles ≡ old.handles → new.renames ≡ old.renames → (r : Result (Result ℕ Errno) AllocError) →
-    IfOk r (λ outcome. IfOk outcome (λ n. n ≡ watch_of old c number)) →
-    IfOk r (λ outcome. OnOk outcome (new.instances ≡ at_client c (armed_on slot (Some (New number)) mask) old.instances)) →
-    IfOk r (λ outcome. OnOk outcome (refusal_of old c slot number ≡ None)) → IfOk r (λ outcome. IfOk outcome (ArmsAt old new c slot mask p o))
-arms-at old new held c slot mask number p o at fewer handles renames (Ok (Ok n)) given armed allowed = record {
+    AreFewer held new.objects → new.handles ≡ old.handles → new.renames ≡ old.renames → (r : Result ℕ AllocError) → IfOk r (λ n. n ≡ watch_of old c number) →
+    OnOk r (new.instances ≡ at_client c (armed_on slot (Some (New number)) mask) old.instances) → IfOk r (ArmsAt old new c slot mask p o)
+arms-at old new held c slot mask number p o at fewer handles renames (Ok n) given armed = record {
   held = held;
   arms = record {
     number = number;
@@ -176,19 +178,60 @@ arms-at old new held c slot mask number p o at fewer handles renames (Ok (Ok n))
     renames = renames;
   };
   holds = at;
-  allowed = allowed;
   given = given;
 }
-arms-at old new held c slot mask number p o at fewer handles renames (Ok (Err e)) given armed allowed = tt
-arms-at old new held c slot mask number p o at fewer handles renames (Err f) given armed allowed = tt
+arms-at old new held c slot mask number p o at fewer handles renames (Err f) given armed = tt
 
--- or refused
-pub refused-at : (old : Notified) (held : Objects) (c slot number : ℕ) (p : Path) (o : Object) → HoldsObject old.objects held p o number →
-    (r : Result (Result ℕ Errno) AllocError) → IfOk r (λ outcome. IfErr outcome (λ e. refusal_of old c slot number ≡ Some e)) →
-    IfOk r (λ outcome. IfErr outcome (IsArmRefused old c slot p o))
-refused-at old held c slot number p o at (Ok (Ok n)) refused = tt
-refused-at old held c slot number p o at (Ok (Err e)) refused = record { held = held; number = number; holds = at; refused = refused }
-refused-at old held c slot number p o at (Err f) refused = tt
+-- what is tracked, or not, is so by its spot
+number-by : (objects : Objects) (p : Path) (o : Object) (spot : Spot) (r : Option ℕ) → IsSpotOf p o spot → IsNumberOf objects p o r →
+    (spot ≢ Nowhere) × IsNumberAt objects spot r
+number-by objects p object.Directory spot r is at = (λ no. let z = sym is ∙ no in cc, subst (λ x. IsNumberAt objects x r) (sym is) at)
+number-by objects p object.Lower spot r is at = (λ no. let z = sym is ∙ no in cc, subst (λ x. IsNumberAt objects x r) (sym is) at)
+number-by objects p (object.Upper key last) spot r is at = (λ no. let z = sym is ∙ no in cc, subst (λ x. IsNumberAt objects x r) (sym is) at)
+number-by objects p object.Other spot r is at = absurd is
+
+-- a number that is nobody's nobody watches
+unheld-unwatched : (k : Notified) → AreKnown k → (n : ℕ) → spot_of k.objects n ≡ None → is_watched k.instances (On (New n)) ≡ false
+unheld-unwatched k known n none = elim (cases_Bool (is_watched k.instances (On (New n)))) [
+  | inl on ↦ absurd (false≢true (sym (ap is_some none) ∙ known.watched n on))
+  | inr off ↦ off
+]
+
+-- an arm is refused by the number under which its object is held as it was judged before
+judged-by : (k : Notified) → AreKnown k →
+    ((spot : Spot) (m n : ℕ) → spot ≢ Nowhere → spot_of k.objects m ≡ Some spot →
+    spot_of k.objects n ≡ Some spot → m ≡ n) →
+    (held : Objects) (c slot n : ℕ) (p : Path) (o : Object) (r : Option Errno) →
+    HoldsObject k.objects held p o n →
+    IsArmJudged k c slot p o r → refusal_of k c slot (Some n) ≡ r
+judged-by k known one held c slot n p o r at is = by is.number found.1 is.judged at.holds.was
+  where
+    found : (at.spot ≢ Nowhere) × IsNumberAt k.objects at.spot is.number
+    found = number-by k.objects p o at.spot is.number at.stands is.found
+
+    by : (number : Option ℕ) → IsNumberAt k.objects at.spot number →
+        r ≡ refusal_of k c slot number →
+        (spot_of k.objects n ≡ Some at.spot) ⊎
+        (IsVacant k.objects at.spot × (spot_of k.objects n ≡ None)) →
+        refusal_of k c slot (Some n) ≡ r
+    by (Some m) there judged (inl same) = ap (λ x. refusal_of k c slot (Some x))
+        (one at.spot n m found.0 same there) ∙ sym judged
+    by (Some m) there judged (inr none) = absurd (none.0 m there)
+    by None vacant judged (inl same) = absurd (vacant n same)
+    by None vacant judged (inr none) = unwatched-arm k.instances c slot (New n)
+        (unheld-unwatched k known n none.1) ∙ sym judged
+
+-- so it is where what is kept is told otherwise
+pub held-judged : (k old : Notified) → old ≡ k → AreKnown k →
+    ((spot : Spot) (m n : ℕ) → spot ≢ Nowhere → spot_of k.objects m ≡ Some spot →
+    spot_of k.objects n ≡ Some spot → m ≡ n) →
+    (held : Objects) (c slot n : ℕ) (p : Path) (o : Object) (r : Option Errno) →
+    HoldsObject old.objects held p o n →
+    IsArmJudged k c slot p o r → refusal_of old c slot (Some n) ≡ r
+held-judged k old same known one held c slot n p o r at is =
+    ap (λ x. refusal_of x c slot (Some n)) same
+    ∙ judged-by k known one held c slot n p o r
+    (subst (λ (x : Notified). HoldsObject x.objects held p o n) same at) is
 
 -- of three numbers the last two may change places
 pub last-first : (a b c : ℕ) → a + b + c ≡ a + c + b

@@ -7,3 +7,4 @@ pub mod Arming
 pub mod Leading
 pub mod Moved
 pub mod HeldForOpens
+pub mod GivenUp

@@ -8,11 +8,12 @@ use Rattle.open_handles.specs.TrackedHandles.{TrackedTables, handles_by}
 use Rattle.notice_laws.specs.declared.object.Object.{Object}
 use Rattle.notice_laws.specs.declared.object.Object.TheVariants as object
 use Rattle.notice_laws.specs.declared.pin.Pin.{Pin}
-use Rattle.notice_laws.specs.Notified.{Notified}
+use Rattle.notice_laws.specs.Notified.{AreKnown, Notified}
 use Rattle.notice_laws.specs.Objects.{IsNumberOf, IsWayTo}
 use Rattle.notice_laws.specs.Opens.{AreFewer}
 use Rattle.notice_laws.specs.Steps.{IsSpotOf, is_last_name}
-use Rattle.notifier.specs.Notifying.{HasRoom, IsBareAt}
+use Rattle.notifier.specs.Notifying.{AreCounted, HasRoom, IsBareAt}
+use Rattle.notifier.specs.Opening.{AreHeld}
 
 -- how many handles are on the object of a number by exactly this way
 abbrev pub led_by : TrackedTables → Option ℕ → Option Way → ℕ
@@ -75,3 +76,19 @@ MayHold old new (n ∷ p) = MayHoldAt old new p
 -- what is at a path is held so often for a rename
 abbrev pub IsPinOf : Notified → Path → ℕ → Type 0
 IsPinOf k p count = (n : ℕ) × (k.pinned ≡ Some (record { number = n; count = count })) × (spot_of k.objects n ≡ Some (At p))
+
+-- what a rename held is let go: nothing else is tracked that wasn't, and all else stays
+pub record LetsGo (old new : Notified) : Type 0 where
+  pub fewer : AreFewer old.objects new.objects
+  pub rest : new ≡ record old { objects = new.objects; pinned = None }
+
+-- A RENAME IS PREPARED: what an earlier one held was let go, and then the directory of q may be
+-- held.
+pub record IsHeldFor (old new : Notified) (q : Path) : Type 0 where
+  pub mid : Notified
+  pub dropped : LetsGo old mid
+  pub known : AreKnown mid
+  pub counted : AreCounted mid
+  pub held : AreHeld mid.objects
+  pub holds : MayHold mid.objects new.objects q
+  pub rest : new ≡ record mid { objects = new.objects; pinned = new.pinned }

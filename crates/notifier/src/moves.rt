@@ -1,5 +1,5 @@
 // What renames hold beforehand, lead along and tell.
-ghost use Rattle.std.specs.Prelude.{◌≡◌, ◌≢◌, ℕ, suc, ◌+◌, ◌*◌, ◌<◌, ◌^◌, [], None, Some, IsSome, IfSome, OnOk, length, reverse, true};
+ghost use Rattle.std.specs.Prelude.{◌≡◌, ◌≢◌, ℕ, suc, ◌+◌, ◌*◌, ◌<◌, ◌^◌, [], None, Some, IsSome, IfSome, OnErr, OnOk, length, reverse, true};
 ghost use Rattle.ov_base.specs.Cookies as cookies;
 ghost use Rattle.plain_model.specs.Watching.{MOVES, is_one_of};
 ghost use Rattle.object_table.specs.Objects.{IsBare, IsPrepared, IsVacant, SameSpots, SetsSpot, Spot, Upper, holders_of, room, spot_of};
@@ -10,7 +10,7 @@ ghost use Rattle.notice_laws.specs.Objects.{IsNumberOf};
 ghost use Rattle.notice_laws.specs.Opens.{AreFewer};
 ghost use Rattle.notice_laws.specs.Telling.{in_way};
 ghost use Rattle.notifier.specs.Notifying.{Becomes, HasRoom, IsBareAt, IsTold};
-ghost use Rattle.notifier.specs.Moving.{IsFreeFor, IsPin, IsPinOf, IsPinned, IsPlaceFor, IsReady, MayHold, MayHoldAt, led_by};
+ghost use Rattle.notifier.specs.Moving.{IsFreeFor, IsHeldFor, IsPin, IsPinOf, IsPinned, IsPlaceFor, IsReady, LetsGo, MayHold, MayHoldAt, led_by};
 
 use crate::bits::{ATTRIB, MOVE_SELF, MOVED_FROM, MOVED_TO};
 use crate::kept::Notifier;
@@ -32,9 +32,30 @@ struct Course {
 }
 
 impl<F: Callback, R: Rule> Notifier<F, R> {
-    /// Takes the memory that a rename of what stands at the old path to the new one needs, whose directory is there. Nothing that is shown
-    /// changes by it: the new directory may be held, which `cancel_move` lets go, also where memory ran out.
+    /// Takes the memory that a rename of what stands at the old path to the new one needs, whose
+    /// directory is there. Nothing that is shown changes by it: the new directory may be held, which
+    /// `cancel_move` lets go. Where memory runs out, nothing is held.
     pub fn prepare_move(&mut self, old: &Path, new: &Path, object: Object) -> Result<(), AllocError>
+        requires clients { 64 * length (clients_of self.old.handles) < 2 ^ 64 }
+        requires below { new.now ≢ [] }
+        ensures held { OnOk result (IsHeldFor self.old self.new new.now) }
+        ensures ready { OnOk result (IsReady self.new old.now new.now object) }
+        ensures err { OnErr result (LetsGo self.old self.new) }
+    {
+        self.cancel_move();
+        self.lawful();
+        match self.reserve_move(old, new, object) {
+            Ok(()) => Ok(()),
+            Err(fault) => {
+                self.cancel_move();
+                self.lawful();
+                Err(fault)
+            }
+        }
+    }
+
+    // `prepare_move`, where no rename holds anything; where memory runs out, this one may.
+    fn reserve_move(&mut self, old: &Path, new: &Path, object: Object) -> Result<(), AllocError>
         requires clients { 64 * length (clients_of self.old.handles) < 2 ^ 64 }
         requires unpinned { self.old.pinned ≡ None }
         requires below { new.now ≢ [] }

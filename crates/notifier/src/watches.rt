@@ -1,10 +1,10 @@
 // Watches that are armed and taken away.
-ghost use Rattle.std.specs.Prelude.{◌≡◌, ◌≢◌, ◌<◌, ◌^◌, None, Some, IsSome, IfErr, IfOk, IfSome, MatchResult, OnErr, true};
+ghost use Rattle.std.specs.Prelude.{◌≡◌, ◌≢◌, ◌<◌, ◌^◌, None, Some, IsSome, IfOk, MatchResult, OnErr, true};
 ghost use Rattle.std.specs.List.{list_any};
 ghost use Rattle.plain_model.specs.Machine.{hooks_of, instance_of, watches_of};
 ghost use Rattle.plain_model.specs.Watching.{is_numbered};
 ghost use Rattle.notice_laws.specs.Clients.{Disarmed};
-ghost use Rattle.notifier.specs.Arming.{ArmsAt, IsArmRefused, IsLeft};
+ghost use Rattle.notifier.specs.Arming.{ArmsAt, IsArmJudged, IsLeft};
 ghost use Rattle.watch_table.specs.Listening.{slot_refusal};
 
 use crate::kept::Notifier;
@@ -31,10 +31,21 @@ impl<F: Callback, R: Rule> Notifier<F, R> {
         self.watches.has_watch(client, watch)
     }
 
-    /// Arms what stands at a path, a directory or a file, for a client through a slot, and gives
-    /// the watch's number. A slot that is armed on another object, or an object that is armed
-    /// through another slot, is EBUSY; a new watch where all numbers were given is ENOSPC. A
-    /// refusal and an allocation failure leave what is tracked and watched.
+    /// Why what stands at a path isn't armed for a client through a slot. A slot that is armed on
+    /// another object, or an object that is armed through another slot, is EBUSY; a new watch where
+    /// all numbers were given is ENOSPC.
+    pub fn arm_refusal(&self, client: u64, slot: u32, path: &Path, object: Object) -> Option<Errno>
+        requires { IsSome (instance_of self.now.instances client) }
+        ensures { IsArmJudged self.now client slot path.now object result }
+    {
+        let number = self.number_of(path, object);
+        self.watches.arm_refusal(client, slot, number)
+    }
+
+    /// Arms what stands at a path, a directory or a file, for a client through a slot, where
+    /// nothing
+    /// refuses it, and gives the watch's number. An allocation failure leaves what is tracked and
+    /// watched.
     pub fn armed(
         &mut self,
         alloc: Global,
@@ -43,16 +54,16 @@ impl<F: Callback, R: Rule> Notifier<F, R> {
         path: &Path,
         object: Object,
         mask: u32,
-    ) -> Result<Result<u32, Errno>, AllocError>
+    ) -> Result<u32, AllocError>
         requires attached { IsSome (instance_of self.old.instances client) }
         requires slot { slot_refusal (hooks_of (instance_of self.old.instances client)) slot mask ≡ None }
         requires stands { object ≢ Object.Other }
-        ensures armed { IfOk result (λ outcome. IfOk outcome (ArmsAt self.old self.new client slot mask path.now object)) }
-        ensures fits { IfOk result (λ outcome. IfOk outcome (λ n. n < 2 ^ 31)) }
-        ensures refused { IfOk result (λ outcome. IfErr outcome (IsArmRefused self.old client slot path.now object)) }
-        ensures same { IfOk result (λ outcome. OnErr outcome (IsLeft self.old self.new)) }
+        requires judged { IsArmJudged self.old client slot path.now object None }
+        ensures armed { IfOk result (ArmsAt self.old self.new client slot mask path.now object) }
+        ensures fits { IfOk result (λ n. n < 2 ^ 31) }
         ensures err { OnErr result (IsLeft self.old self.new) }
     {
+        self.lawful();
         self.objects.lawful();
         self.watches.lawful();
         let number = hold_object(&mut self.objects, path, object)?;

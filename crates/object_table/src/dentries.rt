@@ -1,10 +1,10 @@
-// The steps on the entries of a mount's open directories. Each keeps them a tree.
+// The steps on the entries of the objects that are held. They keep them a tree.
 ghost use Rattle.std.specs.Prelude.{◌≡◌, ◌≢◌, ℕ, ◌+◌, ◌-◌, ◌<◌, ◌≤◌, ◌∷◌, [], Some, None, IsSome, IsOk, IfOk, OnOk, OnErr, IfSome, IfNone, reverse};
 ghost use Rattle.slab.specs.Slab.{get, slab_len};
 ghost use Rattle.object_table.specs.declared.dentry.Place.TheVariants as place;
 ghost use Rattle.object_table.specs.Dentries.{HOLDERS_MAX, IsTree, StandsAt, Stands, child, place_at, held};
 ghost use Rattle.object_table.specs.Steps.{AddsAlone, SameEntries, Relists, Adds, Displaces, IsListed, Exchanges, Counts, KeepsPaths};
-ghost use Rattle.object_table.specs.Opened.{At, SameHandles, Opens, Closes, Removes, NoneBelow, opened, holders, AddsApart, SetsApart, SetsHolders, IsBare};
+ghost use Rattle.object_table.specs.Opened.{At, SameHandles, Opens, Removes, NoneBelow, opened, holders, SetsApart, SetsHolders, IsBare};
 ghost use Rattle.object_table.specs.Renames.{IsReady, Moves};
 ghost use Rattle.plain_model.specs.Layers.{Name, Path};
 ghost use Rattle.plain_model.specs.Laws.{IsOutside};
@@ -63,7 +63,7 @@ pub fn open(
     ensures err { OnErr result (SameHandles entries.old entries.new) }
 {
     let directory = reach(entries, alloc, keys, names)?;
-    hold(entries, directory)?;
+    hold_more(entries, directory, 1)?;
     Ok(directory)
 }
 
@@ -163,37 +163,6 @@ fn unlist_child(entries: &mut Slab<Dentry>, parent: usize, name: &Name)
     dentry.unlist(name);
 }
 
-// Counts one handle more on an entry that may be idle. Where as many hold it as can be counted, it
-// fails and changes nothing.
-fn hold(entries: &mut Slab<Dentry>, key: usize) -> Result<(), AllocError>
-    requires { IsSome (get entries.old key) }
-    ensures ok { OnOk result (Counts entries.old entries.new key (held entries.old key + 1)) }
-    ensures err { OnErr result (SameEntries entries.old entries.new) }
-    ensures full { OnErr result (0 < held entries.old key) }
-{
-    let dentry = &mut entries[key];
-    dentry.hold()
-}
-
-/// Counts one handle less on a directory, and frees what nothing keeps then.
-pub fn close(entries: &mut Slab<Dentry>, key: usize)
-    requires tree { IsTree entries.old ROOT }
-    requires opened { IsSome (opened entries.old key) }
-    ensures tree { IsTree entries.new ROOT }
-    ensures closes { Closes entries.old entries.new key }
-{
-    release(entries, key);
-    prune(entries, key);
-}
-
-fn release(entries: &mut Slab<Dentry>, key: usize)
-    requires { 0 < held entries.old key }
-    ensures { Counts entries.old entries.new key (held entries.old key - 1) }
-{
-    let dentry = &mut entries[key];
-    dentry.holders -= 1;
-}
-
 /// Frees an entry that may be idle, and those above it that are idle then.
 pub fn prune(entries: &mut Slab<Dentry>, from: usize)
     requires { IsTree entries.old from }
@@ -243,10 +212,7 @@ pub fn remove(entries: &mut Slab<Dentry>, path: &Path, attributes: Unlisted)
     let Some(key) = find(entries, path) else {
         return;
     };
-    if let Place::In(parent, name) = displace(entries, key, Place::Apart(attributes)) {
-        unlist_child(entries, parent, &name);
-        prune(entries, parent);
-    }
+    set_apart(entries, key, attributes);
 }
 
 fn displace(entries: &mut Slab<Dentry>, key: usize, to: Place) -> Place
@@ -336,8 +302,9 @@ pub fn path_down(alloc: Global, mut names: Vec<Name>) -> Result<Path, AllocError
     Ok(path)
 }
 
-// Makes the entry of an object that stands in no directory, with one holder.
-fn add_alone(
+/// Gives a number to an object that stands in no directory, with one holder. An allocation failure
+/// leaves all as it was.
+pub fn add_apart(
     entries: &mut Slab<Dentry>,
     alloc: Global,
     keys: RandomState,
@@ -348,22 +315,6 @@ fn add_alone(
 {
     entries.reserve(1)?;
     Ok(entries.insert_reserved(Dentry::held_apart(alloc, keys, to)))
-}
-
-/// Gives a number to an object that stands in no directory, with one holder. An allocation failure
-/// leaves all as it was.
-pub fn add_apart(
-    entries: &mut Slab<Dentry>,
-    alloc: Global,
-    keys: RandomState,
-    to: Unlisted,
-) -> Result<usize, AllocError>
-    requires { IsTree entries.old ROOT }
-    ensures tree { IsTree entries.new ROOT }
-    ensures adds { IfOk result (λ k. AddsApart entries.old entries.new k to) }
-    ensures err { OnErr result (SameHandles entries.old entries.new) }
-{
-    add_alone(entries, alloc, keys, to)
 }
 
 /// Notes that the object of a number stands in no directory any more, and what is known of it.
@@ -381,9 +332,10 @@ pub fn set_apart(entries: &mut Slab<Dentry>, key: usize, to: Unlisted)
     }
 }
 
-// Counts so many holders more on an entry. Where they can't be counted, it fails and changes
-// nothing.
-fn count_more(entries: &mut Slab<Dentry>, key: usize, count: usize) -> Result<(), AllocError>
+/// Counts so many holders more on an entry, which may be idle. Where they can't be counted, it
+/// fails
+/// and changes nothing.
+pub fn hold_more(entries: &mut Slab<Dentry>, key: usize, count: usize) -> Result<(), AllocError>
     requires { IsSome (get entries.old key) }
     ensures ok { OnOk result (Counts entries.old entries.new key (held entries.old key + count)) }
     ensures countable { OnOk result (held entries.old key + count ≤ HOLDERS_MAX) }
@@ -392,20 +344,6 @@ fn count_more(entries: &mut Slab<Dentry>, key: usize, count: usize) -> Result<()
 {
     let dentry = &mut entries[key];
     dentry.hold_more(count)
-}
-
-/// Counts so many holders more on an object. Where they can't be counted, it fails and changes
-/// nothing.
-pub fn hold_more(entries: &mut Slab<Dentry>, key: usize, count: usize) -> Result<(), AllocError>
-    requires tree { IsTree entries.old ROOT }
-    requires opened { IsSome (opened entries.old key) }
-    ensures tree { IsTree entries.new ROOT }
-    ensures ok { OnOk result (SetsHolders entries.old entries.new key (holders entries.old key + count)) }
-    ensures countable { OnOk result (holders entries.old key + count ≤ HOLDERS_MAX) }
-    ensures err { OnErr result (SameHandles entries.old entries.new) }
-    ensures succeeds { holders entries.old key + count ≤ HOLDERS_MAX → IsOk result }
-{
-    count_more(entries, key, count)
 }
 
 // Counts so many holders less on an entry.
@@ -448,6 +386,6 @@ pub fn open_below(
     ensures err { OnErr result (SameHandles entries.old entries.new) }
 {
     let child = enter(entries, alloc, keys, parent, name)?;
-    hold(entries, child)?;
+    hold_more(entries, child, 1)?;
     Ok(child)
 }

@@ -1,5 +1,5 @@
-// One directory that is open, or has open ones below it.
-ghost use Rattle.std.specs.Prelude.{◌≡◌, ◌≢◌, ℕ, ◌+◌, ◌<◌, ◌≤◌, List, [], None, Some, IsTrue, ◌↔◌, OnOk, OnErr, IsSome, IsOk, IfSome, IfNone};
+// One object that is held, a directory or a file, or one that has such ones below it.
+ghost use Rattle.std.specs.Prelude.{◌≡◌, ◌≢◌, ℕ, ◌+◌, ◌≤◌, List, [], None, Some, IsTrue, ◌↔◌, OnOk, OnErr, IsSome, IsOk, IfSome, IfNone};
 ghost use Rattle.std.specs.Option.{option_copied};
 ghost use Rattle.object_table.specs.declared.dentry.Place.TheVariants as place;
 ghost use Rattle.object_table.specs.Dentries.{HOLDERS_MAX, child_in};
@@ -27,7 +27,7 @@ pub enum Place {
     Apart(Unlisted),
 }
 
-/// A directory, how many handles hold it, and those of its directories that have an entry.
+/// An object: where it stands, how many hold it, and those of its children that have an entry.
 #[derive(Drop)]
 pub struct Dentry {
     pub place: Place,
@@ -36,7 +36,7 @@ pub struct Dentry {
 }
 
 impl Dentry {
-    /// The entry of a directory that no handle holds yet.
+    /// The entry of an object that nobody holds yet.
     pub fn new(alloc: Global, keys: RandomState, place: Place) -> Dentry
         ensures place { result.place ≡ place }
         ensures holders { result.holders ≡ 0 }
@@ -122,22 +122,6 @@ impl Dentry {
         ensures succeeds { self.old.holders + count ≤ HOLDERS_MAX → IsOk result }
     {
         match self.holders.checked_add(count) {
-            Some(holders) => {
-                self.holders = holders;
-                Ok(())
-            }
-            None => Err(AllocError),
-        }
-    }
-
-    /// Counts one handle more. Where as many hold the entry as can be counted, it fails and changes
-    /// nothing.
-    pub fn hold(&mut self) -> Result<(), AllocError>
-        ensures ok { OnOk result (self.new ≡ record self.old { holders = self.old.holders + 1 }) }
-        ensures err { OnErr result (self.new ≡ self.old) }
-        ensures full { OnErr result (0 < self.old.holders) }
-    {
-        match self.holders.checked_add(1) {
             Some(holders) => {
                 self.holders = holders;
                 Ok(())

@@ -1,4 +1,4 @@
-// The directories of a mount that are open.
+// The tree of the objects that are held: each stands in it at its path, or apart from it.
 ghost use Rattle.std.specs.Prelude.{◌≡◌, ◌≢◌, ℕ, ◌+◌, ◌-◌, ◌<◌, ◌≤◌, ◌↔◌, [], ◌∷◌, Some, None, IsSome, IsOk, IfOk, IfSome, IfNone, OnOk, OnErr, reverse};
 ghost use Rattle.std.specs.Option.{option_and_then, option_copied};
 ghost use Rattle.plain_model.specs.Layers as layers;
@@ -15,8 +15,10 @@ use std::alloc::{AllocError, Global};
 use std::hash::RandomState;
 use std::marker::Model;
 
-/// The directories of a mount that are open, each under one number, however many handles hold it.
-/// They and the directories above them are kept as a tree, so that a handle knows no path.
+/// The objects that handles and watches hold, each under one number, however many hold it. What
+/// stands at a path, a directory or a file, is kept as a tree with the directories above it, so
+/// that
+/// no handle knows a path. What stands in no directory is kept apart from it.
 #[derive(Drop)]
 pub struct ObjectTree {
     entries: Slab<Dentry>,
@@ -128,7 +130,7 @@ impl ObjectTree {
         ensures { Closes self.old self.new directory }
     {
         prune(&mut self.entries, self.pending);
-        dentries::close(&mut self.entries, directory);
+        dentries::let_go(&mut self.entries, directory, 1);
     }
 
     /// Makes the directory that is open at a path a removed one, with the attributes that it has.

@@ -2,7 +2,7 @@
 ghost use Rattle.std.specs.Prelude.{◌≡◌, ◌<◌, ◌≤◌, ◌^◌, IfOk};
 ghost use Rattle.open_handles.specs.Places.{sought_from, base_of, write_begin, count_fitting, IsSeekBase, IsWritePlace, AreFitting};
 
-use ov_base::{Errno, Source};
+use ov_base::{Errno, Place};
 
 /// The greatest place in a file, in bytes: 2^63 - 1, as `off_t` has it.
 pub const PLACE_MAX: u64 = 0x7fff_ffff_ffff_ffff;
@@ -20,7 +20,7 @@ pub enum FileSource {
 #[derive(Clone, Copy)]
 pub struct OpenFile {
     pub source: FileSource,
-    pub low: Option<Source>,
+    pub low: Option<Place>,
     pub reads: bool,
     pub writes: bool,
     pub append: bool,

@@ -16,9 +16,9 @@ mod node_id;
 mod notice;
 mod options;
 mod path;
+mod place;
 mod redirect;
 mod reply;
-mod source;
 
 pub use attribute_change::AttributeChange;
 pub use attribute_name::AttributeName;
@@ -36,6 +36,6 @@ pub use node_id::NodeId;
 pub use notice::{Event, Notice, Notices};
 pub use options::{FILE_LIMIT, Options};
 pub use path::{PATH_MAX, Path};
+pub use place::Place;
 pub use redirect::Redirect;
 pub use reply::{ObjectKind, Reply, Stat};
-pub use source::Source;

@@ -12,7 +12,7 @@ use Rattle.mount_laws.proofs.Renaming.{object-one}
 use Rattle.layer_tree.specs.Tree.{layer_of}
 use Rattle.layer_tree.specs.declared.node.Marks.{Marks}
 use Rattle.merged_lookup.specs.declared.layers.Layers.{Layers}
-use Rattle.merged_lookup.specs.declared.stack.Place.{Place}
+use Rattle.ov_base.specs.declared.place.Place.{Place}
 use Rattle.merged_lookup.specs.declared.stack.Stack.{Stack}
 use Rattle.merged_lookup.specs.Merged.{upper_of, layers_of, lowers_of, parent, top_of, IsStackOf, ShowsDirectory}
 use Rattle.copy_up.proofs.OtherAttributes.{upper-directory}

@@ -17,10 +17,10 @@ use Rattle.layer_tree.specs.Tree.{layer_of}
 use Rattle.merged_lookup.specs.declared.layers.Layers.{Layers}
 use Rattle.merged_lookup.specs.declared.found.Found.{Found}
 use Rattle.merged_lookup.specs.Merged.{upper_of, layers_of, lowers_of, parents_fault, walk_fault, parent, IsStackOf, IsFound, IsAnswer, ShowsNothing}
-use Rattle.merged_lookup.specs.declared.stack.Stack.{Stack}
 use Rattle.copy_up.proofs.Keeping.{or-first}
 use Rattle.copy_up.proofs.Placing.{mount-parents}
 use Rattle.make_remove.proofs.Removing.{unshown-in}
+use Rattle.rename_redirect.specs.declared.renames.JudgedRename.{JudgedRename}
 use Rattle.rename_redirect.specs.Judging.{fit_fault, Fits, MayMove}
 
 -- the chain of faults of a directory, and of anything else
@@ -103,8 +103,8 @@ module _ (l : Layers) (redirects : Bool) (p q : Path) (first : is_root p ≡ fal
   apart (k ∷ r) e = false≢true (sym beside ∙ ap (is_below p) e ∙ below-told p k r)
 
   -- may move
-  pub may-move : (s : Stack) (f : Found) (t : Stack) → IsStackOf l (parent p) s → IsFound l p f → IsStackOf l (parent q) t → Fits l redirects p q → MayMove l redirects p q s f t
-  may-move s f t at is onto fits = record {
+  pub may-move : (m : JudgedRename) → IsStackOf l (parent p) m.directory.now → IsFound l p m.found → IsStackOf l (parent q) m.onto.now → Fits l redirects p q → MayMove l redirects p q m
+  may-move m at is onto fits = record {
     fine = fault-fit false ∙ fits.fine;
     directory = at;
     way = or-first (parents_fault (layers_of l) p) (absent (shows 0 (layers_of l) p)) walk;

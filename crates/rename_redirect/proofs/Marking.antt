@@ -7,7 +7,7 @@ use Rattle.plain_model.specs.Layers.{Name, Path, Object, Directory, Named, White
 use Rattle.layer_tree.specs.Tree.{Tree, ROOT, layer_of, leads, directory_number, IsHeldTogether}
 use Rattle.layer_tree.specs.declared.node.Marks.{Marks}
 use Rattle.merged_lookup.specs.declared.layers.Layers.{Layers}
-use Rattle.merged_lookup.specs.declared.stack.Place.{Place}
+use Rattle.ov_base.specs.declared.place.Place.{Place}
 use Rattle.merged_lookup.specs.Merged.{lowers_of}
 use Rattle.rename_redirect.specs.declared.entries.Route.{Route}
 use Rattle.rename_redirect.specs.Routes.{IsFolderMove}

@@ -23,7 +23,7 @@ use Rattle.layer_tree.specs.Move.{MovesPath, left_object}
 use Rattle.layer_tree.specs.MarkChange.{MarksDirectory, SetsMarks}
 use Rattle.layer_tree.specs.declared.node.Marks.{Marks}
 use Rattle.merged_lookup.specs.declared.layers.Layers.{Layers}
-use Rattle.merged_lookup.specs.declared.stack.Place.{Place}
+use Rattle.ov_base.specs.declared.place.Place.{Place}
 use Rattle.merged_lookup.specs.Merged.{upper_of, layers_of, lowers_of}
 use Rattle.copy_up.specs.Showing.{StaysThin}
 use Rattle.copy_up.proofs.Raising.{lowers-same, raise}

@@ -1,6 +1,5 @@
 -- What moved in an upper whose missing parents were placed moved in the upper before that.
 use Rattle.std.proofs.Common.{◌≡◌, ◌↔◌, ℕ, Bool, true, false, not, ◌&&◌, ◌||◌, [], ◌∷◌, ◌++◌, ◌⊎◌, length, length-append, append_assoc, arith, Option, None, Some, is_some, refl, sym, ap, ap₂, ◌∙◌, subst, inl, inr, cond}
-use Rattle.std.proofs.lemmas.Bool.{false≢true}
 use Rattle.ov_base.specs.declared.redirect.Redirect.TheVariants.{Absolute}
 use Rattle.plain_model.specs.Layers.{Path, Object, Directory, Named, Whiteout, Inode, Layer, held, Shown, Contents, over, shows, through, base, reaches_directory, is_directory, same_path}
 use Rattle.plain_model.specs.Laws.{IsOutside, left_at}
@@ -184,7 +183,6 @@ module _ (a b : Layers) (p q : Path) (same : ShowsSame a b) (stays : Stays a b) 
     }
 
     -- what rename did after the parents were placed
-    pub does-since : (marked : Bool) (r : Renamed) → is_one A p q ≡ false → DoesRename b c marked p q r → DoesRename a c marked p q r
-    does-since marked renamed.Unchanged apart d = absurd (false≢true (sym apart ∙ sym still-one ∙ d.0))
-    does-since marked (renamed.Directory released) apart d = kept-since marked true released d
-    does-since marked (renamed.Inode key released) apart d = (kept-since marked false released d.0, d.1)
+    pub does-since : (marked : Bool) (r : Renamed) → DoesRename b c marked p q r → DoesRename a c marked p q r
+    does-since marked (renamed.Directory released) d = kept-since marked true released d
+    does-since marked (renamed.Inode key released) d = (kept-since marked false released d.0, d.1)

@@ -23,11 +23,10 @@ use Rattle.rename_redirect.specs.declared.renames.Renamed.TheVariants as renamed
 use Rattle.rename_redirect.specs.Judging.{IsFaultOf}
 use Rattle.rename_redirect.specs.Renaming.{MovesOver, DoesRename, RenameSteps}
 
--- two objects moved, where rename did something
-pub renamed-over : (a b : Layers) (marked : Bool) (p q : Path) (r : Renamed) → is_one (layer_of a.upper) p q ≡ false → DoesRename a b marked p q r → MovesOver a b marked p q
-renamed-over a b marked p q renamed.Unchanged apart d = absurd (false≢true (sym apart ∙ d.0))
-renamed-over a b marked p q (renamed.Directory released) apart d = d.over
-renamed-over a b marked p q (renamed.Inode key released) apart d = d.0.over
+-- what rename did is that what is shown moved
+pub renamed-over : (a b : Layers) (marked : Bool) (p q : Path) (r : Renamed) → DoesRename a b marked p q r → MovesOver a b marked p q
+renamed-over a b marked p q (renamed.Directory released) d = d.over
+renamed-over a b marked p q (renamed.Inode key released) d = d.0.over
 
 -- and that is the machine's step
 pub rename-steps : (a b : Layers) (redirects marked : Bool) (p q : Path) → rename_fault (upper_of a) (lowers_of a) redirects p q false ≡ None → ShowsNoName (layers_of a) q → is_one (layer_of a.upper) p q ≡ false → MovesOver a b marked p q → RenameSteps a b redirects marked p q

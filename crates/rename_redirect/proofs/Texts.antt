@@ -1,16 +1,16 @@
 -- Which path the mark of a file holds that moves, or gets a further name.
 use Rattle.std.proofs.Common.{◌≡◌, ℕ, Bool, ◌&&◌, Option, None, Some, refl, sym, ap, ◌∙◌, subst, inl, inr, is_some}
 use Rattle.std.proofs.lemmas.Bool.{false≢true}
-use Rattle.std.specs.Prelude.{option_map}
+use Rattle.std.specs.Prelude.{option_map, OnErr, OnOk, Result, Ok, Err}
+use Rattle.std.specs.declared.alloc.AllocError.{AllocError}
 use Rattle.plain_model.specs.Layers as layers
 use Rattle.plain_model.specs.Layers.{Path, Inode, Layer, Named, Directory, Whiteout, held, below, is_file}
 use Rattle.mount_laws.specs.Linking.{AddsName}
 use Rattle.layer_tree.specs.Tree.{Tree, layer_of, new_inode, with_less}
 use Rattle.layer_tree.specs.declared.node.Object.{Object}
 use Rattle.merged_lookup.specs.declared.layers.Layers.{Layers}
-use Rattle.copy_up.specs.Leaves.{copy_mark}
-use Rattle.copy_up.specs.Showing.{PassesSame, Stays}
-use Rattle.copy_up.specs.Texts.{mark_in, GainsMark, KeepsTexts}
+use Rattle.copy_up.specs.Showing.{ChangesNoSight, PassesSame, Stays}
+use Rattle.copy_up.specs.Texts.{GainsMark, KeepsTexts}
 use Rattle.copy_up.proofs.Texts.{mark_of, marks-but, marks-same, marks-then, copy-told}
 use Rattle.rename_redirect.specs.Linking.{CopiesInode, CopiesName, GainsBoth}
 use Rattle.rename_redirect.specs.Routes.{MovesEntry, MovesNew}
@@ -27,6 +27,14 @@ pub texts-both : (old new : Layers) (p q : Path) (m : Option Path) → GainsBoth
 texts-both old new p q m b =
     marks-same (layer_of old.upper) (layer_of new.upper) (option_map (below (layer_of old.upper)) m)
     (λ k. b.second.objects.inodes k (λ e. cc) ∙ b.first.objects.inodes k (λ e. cc))
+
+-- a further name brings none but that of its path, whether it was given or memory ran out
+pub texts-given :
+    (r : Result ℕ AllocError) (old new : Layers) (p q : Path) →
+    OnOk r (KeepsTexts old new (Some p)) →
+    OnErr r (ChangesNoSight old new (GainsBoth old new p q)) → KeepsTexts old new (Some p)
+texts-given (Ok key) old new p q given out = given
+texts-given (Err e) old new p q given out = texts-both old new p q (Some p) out.beneath
 
 -- a change after parents were placed, by the spelling that was before
 pub texts-since : (a b c : Layers) (p : Path) → PassesSame (layer_of a.upper) (layer_of b.upper) → Stays a b → KeepsTexts b c (Some p) → KeepsTexts a c (Some p)

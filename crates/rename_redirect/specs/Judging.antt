@@ -9,11 +9,11 @@ use Rattle.mount_laws.specs.Removals.{ShowsNoName}
 use Rattle.mount_laws.specs.Renaming.{is_one, move_fault, rename_fault}
 use Rattle.layer_tree.specs.Tree.{layer_of}
 use Rattle.merged_lookup.specs.declared.layers.Layers.{Layers}
-use Rattle.merged_lookup.specs.declared.found.Found.{Found}
-use Rattle.merged_lookup.specs.declared.stack.Place.{Place}
+use Rattle.ov_base.specs.declared.place.Place.{Place}
 use Rattle.merged_lookup.specs.declared.stack.Stack.{Stack}
 use Rattle.merged_lookup.specs.Merged.{upper_of, layers_of, lowers_of, parents_fault, parent, IsFound, IsStackOf, ShowsInode}
 pub use Rattle.make_remove.specs.Sights.{IsSeen}
+use Rattle.rename_redirect.specs.declared.renames.JudgedRename.{JudgedRename}
 
 -- what p shows, in this merged directory and at this place, may get the further name q, in the other directory
 pub record MayLink (l : Layers) (p q : Path) (s t : Stack) (d : Place) : Type 0 where
@@ -45,16 +45,17 @@ pub record Fits (l : Layers) (redirects : Bool) (p q : Path) : Type 0 where
   pub empty : ShowsNoName (layers_of l) q
   pub kind : is_directory (shows 0 (layers_of l) p) ≡ true → NamesNoInode (layer_of l.upper) q
 
--- what was found at p, in this merged directory, may move to q, in the other one
-pub record MayMove (l : Layers) (redirects : Bool) (p q : Path) (s : Stack) (found : Found) (t : Stack) : Type 0 where
-  pub fine : rename_fault (upper_of l) (lowers_of l) redirects p q false ≡ None
-  pub directory : IsStackOf l (parent p) s
-  pub way : parents_fault (layers_of l) p ≡ None
-  pub shown : IsFound l p found
-  pub onto : IsStackOf l (parent q) t
-  pub parents : parents_fault (layers_of l) q ≡ None
-  pub empty : ShowsNoName (layers_of l) q
-  pub apart : is_one (layer_of l.upper) p q ≡ false
-  pub kind : is_directory (shows 0 (layers_of l) p) ≡ true → NamesNoInode (layer_of l.upper) q
-  pub out : IsOutside p q
-  pub within : IsOutside q p
+-- THE RENAME WAS JUDGED, and nothing refuses it: what was found at p, in its merged directory, may move to q, in the other one
+pub record MayMove (l : Layers) (redirects : Bool) (p q : Path) (moving : JudgedRename) : Type 0
+  where
+    pub fine : rename_fault (upper_of l) (lowers_of l) redirects p q false ≡ None
+    pub directory : IsStackOf l (parent p) moving.directory.now
+    pub way : parents_fault (layers_of l) p ≡ None
+    pub shown : IsFound l p moving.found
+    pub onto : IsStackOf l (parent q) moving.onto.now
+    pub parents : parents_fault (layers_of l) q ≡ None
+    pub empty : ShowsNoName (layers_of l) q
+    pub apart : is_one (layer_of l.upper) p q ≡ false
+    pub kind : is_directory (shows 0 (layers_of l) p) ≡ true → NamesNoInode (layer_of l.upper) q
+    pub out : IsOutside p q
+    pub within : IsOutside q p

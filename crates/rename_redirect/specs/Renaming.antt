@@ -75,9 +75,8 @@ pub record Moves (old new : Layers) (low : Bool) (p q : Path) (directory : Bool)
   pub over : MovesOver old new low p q
   pub replaces : Replaces old new q released
 
--- both paths were one object and nothing changed, or the object moved; an inode stands under the key that is handed on
+-- a directory moved, or an inode, which stands under the key that is handed on
 abbrev pub DoesRename : Layers → Layers → Bool → Path → Path → Renamed → Type 0
-DoesRename old new low p q renamed.Unchanged = (is_one (layer_of old.upper) p q ≡ true) × (new ≡ old)
 DoesRename old new low p q (renamed.Directory released) = Moves old new low p q true released
 DoesRename old new low p q (renamed.Inode key released) = Moves old new low p q false released × (held (layer_of new.upper) q ≡ Some (Named key))
 

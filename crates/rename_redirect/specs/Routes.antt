@@ -16,7 +16,7 @@ use Rattle.layer_tree.specs.Move.{MovesPath}
 use Rattle.layer_tree.specs.declared.node.Marks.{Marks}
 use Rattle.layer_tree.specs.declared.node.Object.{Object}
 use Rattle.merged_lookup.specs.declared.layers.Layers.{Layers}
-use Rattle.merged_lookup.specs.declared.stack.Place.{Place}
+use Rattle.ov_base.specs.declared.place.Place.{Place}
 use Rattle.merged_lookup.specs.Merged.{layers_of, lowers_of}
 use Rattle.copy_up.specs.Showing.{is_object}
 use Rattle.make_remove.specs.Removing.{last_named}

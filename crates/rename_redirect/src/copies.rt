@@ -5,34 +5,29 @@ ghost use Rattle.layer_tree.specs.Tree.{layer_of};
 ghost use Rattle.merged_lookup.specs.Merged.{layers_of, parents_fault, parent, IsStackOf, ShowsInode};
 ghost use Rattle.copy_up.specs.Showing.{ShowsSame, ChangesNoSight, HasPlace, Stays, StaysSound};
 ghost use Rattle.copy_up.specs.Texts.{KeepsTexts};
+ghost use Rattle.rename_redirect.specs.Judging.{MayLink};
 ghost use Rattle.rename_redirect.specs.Linking.{GainsBoth, GivesName, CopiesInode};
 
 use crate::moves::place_ways;
 use crate::names::insert_in_upper;
 use copy_up::{mark_of, placed_or};
 use layer_tree::Object;
-use merged_lookup::{Layers, Place, Stack};
-use ov_base::Path;
+use merged_lookup::{Layers, Stack};
+use ov_base::{Path, Place};
 use std::alloc::{AllocError, Global};
 
-// `link` of what a path shows of a lower layer, which gives the copy's key: all that needs memory comes before the first change that shows.
+// `link` of what was found of a lower layer, which gives the copy's key: all that needs memory comes
+// before the first change that shows.
 pub(crate) fn link_copy(
     alloc: Global,
     layers: &mut Layers,
     old: &Path,
     new: &Path,
     metacopy: bool,
-    directory: &Stack,
-    onto: &Stack,
-    place: Place,
+    found: (&Stack, &Stack, Place),
 ) -> Result<usize, AllocError>
-    requires way { parents_fault (layers_of layers.old) old.now ≡ None }
-    requires directory { IsStackOf layers.old (parent old.now) directory.now }
-    requires shown { ShowsInode layers.old old.now place }
-    requires lower { 0 < place.layer }
-    requires parents { parents_fault (layers_of layers.old) new.now ≡ None }
-    requires onto { IsStackOf layers.old (parent new.now) onto.now }
-    requires absent { shows 0 (layers_of layers.old) new.now ≡ None }
+    requires may { MayLink layers.old old.now new.now found.0.now found.1.now found.2 }
+    requires lower { 0 < found.2.layer }
     ensures linked { OnOk result (GivesName layers.old layers.new metacopy old.now new.now) }
     ensures key { IfOk result (λ key. held (layer_of layers.new.upper) old.now ≡ Some (Named key)) }
     ensures lowers { layers.new.lowers ≡ layers.old.lowers }
@@ -47,6 +42,7 @@ pub(crate) fn link_copy(
     let Some((further, _)) = new.split_last() else {
         unreachable!()
     };
+    let (directory, onto, place) = found;
     let copy = copy_of(alloc, layers, old, place, metacopy)?;
     let (from, onto) = place_both(layers, old, new, directory, onto, place)?;
     let key = insert_in_upper(layers, from, name, onto, further, copy)?;

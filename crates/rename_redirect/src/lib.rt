@@ -11,4 +11,4 @@ mod renames;
 mod seen;
 
 pub use links::{link, linkable};
-pub use renames::{Renamed, movable, rename};
+pub use renames::{JudgedRename, Renamed, movable, rename};

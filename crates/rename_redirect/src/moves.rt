@@ -9,7 +9,7 @@ ghost use Rattle.mount_laws.specs.Renaming.{is_one};
 ghost use Rattle.layer_tree.specs.Nameless.{KeepsObjects};
 ghost use Rattle.layer_tree.specs.Tree.{layer_of, SameObjects};
 ghost use Rattle.merged_lookup.specs.Merged.{layers_of, lowers_of, parents_fault, parent, top_of, IsFound, IsStackOf, ShowsInode};
-ghost use Rattle.copy_up.specs.Showing.{ShowsSame, ChangesNoSight, Stays, StaysLayers, StaysThin};
+ghost use Rattle.copy_up.specs.Showing.{ShowsSame, Stays, StaysThin};
 ghost use Rattle.copy_up.specs.Texts.{KeepsTexts};
 ghost use Rattle.rename_redirect.specs.Linking.{GainsBoth};
 ghost use Rattle.rename_redirect.specs.Renaming.{MovesOver, Replaces, DoesRename};
@@ -17,50 +17,12 @@ ghost use Rattle.rename_redirect.specs.Routes.{IsMove, IsFolderMove};
 
 use crate::copies::copy_of;
 use crate::entries::{Route, insert_and_move, mark_in_upper, move_in_upper};
-use crate::renames::Renamed;
-use copy_up::{place_parents, placed_or};
+use crate::renames::{JudgedRename, Renamed};
+use copy_up::place_parents;
 use layer_tree::{Marks, Object};
-use merged_lookup::{Found, Layers, Place, Stack};
-use ov_base::{Name, Path, Redirect};
+use merged_lookup::{Found, Layers, Stack};
+use ov_base::{Name, Path, Place, Redirect};
 use std::alloc::{AllocError, Global};
-
-// Moves what was found at a path in this merged directory to another path in the other one, over what stands there, in which no name is
-// shown. All that needs memory comes before the first change that shows.
-pub(crate) fn move_object(
-    alloc: Global,
-    layers: &mut Layers,
-    old: &Path,
-    new: &Path,
-    metacopy: bool,
-    directory: &Stack,
-    found: Found,
-    onto: &Stack,
-) -> Result<Renamed, AllocError>
-    requires way { parents_fault (layers_of layers.old) old.now ≡ None }
-    requires directory { IsStackOf layers.old (parent old.now) directory.now }
-    requires shown { IsFound layers.old old.now found }
-    requires parents { parents_fault (layers_of layers.old) new.now ≡ None }
-    requires onto { IsStackOf layers.old (parent new.now) onto.now }
-    requires empty { ShowsNoName (layers_of layers.old) new.now }
-    requires apart { is_one (layer_of layers.old.upper) old.now new.now ≡ false }
-    requires kind { is_directory (shows 0 (layers_of layers.old) old.now) ≡ true →
-        NamesNoInode (layer_of layers.old.upper) new.now }
-    requires out { IsOutside old.now new.now }
-    requires within { IsOutside new.now old.now }
-    ensures does { IfOk result (λ r. DoesRename layers.old layers.new metacopy old.now new.now r) }
-    ensures lowers { layers.new.lowers ≡ layers.old.lowers }
-    ensures texts { OnOk result (KeepsTexts layers.old layers.new (Some old.now)) }
-    ensures no_memory { OnErr result
-        (ChangesNoSight layers.old layers.new (GainsBoth layers.old layers.new old.now new.now)) }
-    ensures keeps { StaysLayers layers.old layers.new }
-    ensures thin { AreLayers (layers_of layers.old) → StaysThin layers.old layers.new }
-{
-    let (placed, placed_onto) = place_ways(layers, old, new, directory, onto)?;
-    let from = placed_or(&placed, directory);
-    let onto = placed_or(&placed_onto, onto);
-    let renamed = move_placed(alloc, layers, old, new, metacopy, from, found, onto)?;
-    Ok(renamed)
-}
 
 // Places those parents of two paths that the upper lacks, and gives the merged directories in which
 // their last names stand then; none where the upper has the one that is given. The new path is
@@ -142,22 +104,20 @@ fn place_old_way(
     Ok((placed, onto))
 }
 
-// `move_object`, where the upper has the parents.
-fn move_placed(
+// `rename`, where the upper has the parents.
+pub(crate) fn move_placed(
     alloc: Global,
     layers: &mut Layers,
     old: &Path,
     new: &Path,
     metacopy: bool,
-    from: &Stack,
-    found: Found,
-    onto: &Stack,
+    moving: JudgedRename<'_>,
 ) -> Result<Renamed, AllocError>
-    requires from { IsStackOf layers.old (parent old.now) from.now }
-    requires from_upper { (top_of from.now.places.items).layer ≡ 0 }
-    requires onto { IsStackOf layers.old (parent new.now) onto.now }
-    requires onto_upper { (top_of onto.now.places.items).layer ≡ 0 }
-    requires shown { IsFound layers.old old.now found }
+    requires from { IsStackOf layers.old (parent old.now) moving.directory.now }
+    requires from_upper { (top_of moving.directory.now.places.items).layer ≡ 0 }
+    requires onto { IsStackOf layers.old (parent new.now) moving.onto.now }
+    requires onto_upper { (top_of moving.onto.now.places.items).layer ≡ 0 }
+    requires shown { IsFound layers.old old.now moving.found }
     requires empty { ShowsNoName (layers_of layers.old) new.now }
     requires apart { is_one (layer_of layers.old.upper) old.now new.now ≡ false }
     requires kind { is_directory (shows 0 (layers_of layers.old) old.now) ≡ true → NamesNoInode (layer_of layers.old.upper) new.now }
@@ -177,12 +137,17 @@ fn move_placed(
     let Some((further, _)) = new.split_last() else {
         unreachable!()
     };
+    let JudgedRename {
+        directory,
+        found,
+        onto,
+    } = moving;
     let route = Route {
-        from: from.top().key,
+        from: directory.top().key,
         name,
         to: onto.top().key,
         further,
-        covered: layers.lowers_show(from, name),
+        covered: layers.lowers_show(directory, name),
     };
     match found {
         Found::Directory(stack) => {

@@ -1,104 +1,96 @@
 // `rename`, and its refusals.
-ghost use Rattle.std.specs.Prelude.{◌≡◌, ◌&&◌, not, ℕ, Bool, true, false, Some, None, IfOk, IfErr, IfSome, OnOk, OnErr};
-ghost use Rattle.ov_base.specs.declared.call.Call.TheVariants as call;
+ghost use Rattle.std.specs.Prelude.{◌≡◌, ◌&&◌, not, Bool, true, false, Some, None, IfOk, IfErr, IfSome, OnOk, OnErr};
 ghost use Rattle.plain_model.specs.Layers as shown;
 ghost use Rattle.plain_model.specs.Layers.{Path as Names, held, shows, base, AreLayers};
-ghost use Rattle.plain_model.specs.Machine.{State};
-ghost use Rattle.plain_model.specs.Refusals.{refusal};
-ghost use Rattle.mount_laws.specs.Looks.{IsMountOf};
-ghost use Rattle.mount_laws.specs.Removals.{ShowsNoName};
 ghost use Rattle.mount_laws.specs.Renaming as one;
 ghost use Rattle.layer_tree.specs.Tree.{layer_of};
 ghost use Rattle.merged_lookup.specs.declared.layers.Layers.{Layers as LayersOf};
 ghost use Rattle.merged_lookup.specs.Merged.{upper_of, layers_of, lowers_of, IsFound, IsAnswer, IsStackOf, ShowsDirectory};
 ghost use Rattle.copy_up.specs.Showing.{ChangesNoSight, StaysLayers, StaysThin};
 ghost use Rattle.copy_up.specs.Texts.{KeepsTexts};
-ghost use Rattle.make_remove.specs.Removing.{TellsNames};
 ghost use Rattle.rename_redirect.specs.Linking.{GainsBoth};
 ghost use Rattle.rename_redirect.specs.Judging.{IsSeen, named_key, fit_fault, IsFaultOf, Fits, MayMove};
 ghost use Rattle.rename_redirect.specs.Renaming.{is_one, rename_fault, DoesRename, RenameSteps};
 
-use crate::moves::move_object;
+use crate::moves::{move_placed, place_ways};
 use crate::relation::{is_below, same_path};
 use crate::seen::answer_in;
+use copy_up::placed_or;
 use dir_listing::shows_names;
 use make_remove::{Seen, found_in, there};
 use merged_lookup::{Found, Layers, Stack};
 use ov_base::{Errno, Path};
 use std::alloc::{AllocError, Global};
 
-/// What a rename did: nothing, where both paths are one object, or it moved a directory, or a file or
-/// symbolic link, which the upper has under this key now. With it, the key of the upper's object that
-/// lost its last name by it, which stays until it is freed.
+/// A rename that was judged, which nothing refuses: what was found at its old path, the merged
+/// directory in which that stands, and the one that it goes to.
+#[derive(Drop)]
+pub struct JudgedRename<'a> {
+    pub directory: &'a Stack,
+    pub found: Found,
+    pub onto: &'a Stack,
+}
+
+/// What a rename moved: a directory, or a file or symbolic link, which the upper has under this key
+/// now. With it, the key of the upper's object that lost its last name by it, which stays until it
+/// is freed.
 #[derive(Clone, Copy)]
 pub enum Renamed {
-    Unchanged,
     Directory(Option<usize>),
     Inode { key: usize, released: Option<usize> },
 }
 
-/// Moves what a path shows to another path, as rename(2), over a file, a symbolic link or a
-/// directory that shows no name. A file of a lower layer is copied up first, with the option
-/// without its bytes (overlayfs.rst, "Metadata only copy up"), and so is a directory that only
-/// lower layers have, without what is in it; one that they have moves with a redirect
-/// (overlayfs.rst, "redirect_dir"). The root is EBUSY; the walk of the old path is refused first,
-/// then the way to the new one. Where both are one object nothing is done; else a directory is
-/// not moved below itself (EINVAL), nor over what is no directory (ENOTDIR), nor anything else
-/// over a directory (EISDIR), nor one that lower layers have if redirects aren't made (EXDEV),
-/// nor any over one that shows a name (ENOTEMPTY). All that is judged by what was seen at the two
-/// paths. A refusal changes nothing, and an allocation failure changes nothing that is shown.
+/// Moves what was found at a path to another one, as `movable` judged it, over a file, a symbolic
+/// link or a directory that shows no name. A file of a lower layer is copied up first, with the
+/// option without its bytes (overlayfs.rst, "Metadata only copy up"), and so is a directory that
+/// only lower layers have, without what is in it; one that they have moves with a redirect
+/// (overlayfs.rst, "redirect_dir"). All that needs memory comes before the first change that shows,
+/// so that an allocation failure changes nothing that is shown.
 pub fn rename(
     alloc: Global,
     layers: &mut Layers,
     old: &Path,
     new: &Path,
-    redirects: bool,
     metacopy: bool,
-    from: &Seen,
-    onto: &Seen,
-) -> Result<Result<Renamed, Errno>, AllocError>
-    requires from { IsSeen layers.old old.now from.now }
-    requires onto { IsSeen layers.old new.now onto.now }
-    ensures refused { IfOk result (λ r. IfErr r (λ e.
-        (full : Bool) → TellsNames (layers_of layers.old) new.now full →
-        rename_fault (upper_of layers.old) (lowers_of layers.old) redirects
-        old.now new.now full ≡ Some e)) }
-    ensures refuses { IfOk result (λ r. IfErr r (λ e.
-        (s : State) → IsMountOf (upper_of layers.old) (lowers_of layers.old) s →
-        s.options.redirects ≡ redirects → (c : ℕ) →
-        refusal s c (call.Rename old.now new.now) ≡ Some e)) }
-    ensures unchanged { IfOk result (λ r. OnErr r (layers.new ≡ layers.old)) }
-    ensures allowed { IfOk result (λ r.
-        OnOk r (rename_fault (upper_of layers.old) (lowers_of layers.old) redirects
-        old.now new.now false ≡ None)) }
-    ensures bare { IfOk result (λ r.
-        OnOk r (is_one (layer_of layers.old.upper) old.now new.now ≡ false →
-        ShowsNoName (layers_of layers.old) new.now)) }
-    ensures does { IfOk result (λ r. IfOk r (λ renamed.
-        DoesRename layers.old layers.new metacopy old.now new.now renamed)) }
-    ensures steps { IfOk result (λ r.
-        OnOk r (is_one (layer_of layers.old.upper) old.now new.now ≡ false →
-        RenameSteps layers.old layers.new redirects metacopy old.now new.now)) }
+    moving: JudgedRename<'_>,
+) -> Result<Renamed, AllocError>
+    requires may { (redirects : Bool) ×
+        MayMove layers.old redirects old.now new.now moving }
+    ensures does { IfOk result (λ renamed.
+        DoesRename layers.old layers.new metacopy old.now new.now renamed) }
+    ensures steps { OnOk result ((redirects : Bool) →
+        MayMove layers.old redirects old.now new.now moving.entry →
+        RenameSteps layers.old layers.new redirects metacopy old.now new.now) }
     ensures lowers { layers.new.lowers ≡ layers.old.lowers }
     ensures texts { KeepsTexts layers.old layers.new (Some old.now) }
     ensures no_memory { OnErr result
         (ChangesNoSight layers.old layers.new (GainsBoth layers.old layers.new old.now new.now)) }
-    ensures apart { OnErr result (is_one (layer_of layers.old.upper) old.now new.now ≡ false) }
     ensures keeps { StaysLayers layers.old layers.new }
     ensures thin { AreLayers (layers_of layers.old) → StaysThin layers.old layers.new }
 {
-    let (directory, found, onto) = match movable(layers, old, new, redirects, from, onto) {
-        Ok(Some(found)) => found,
-        Ok(None) => return Ok(Ok(Renamed::Unchanged)),
-        Err(errno) => return Ok(Err(errno)),
+    let JudgedRename {
+        directory,
+        found,
+        onto,
+    } = moving;
+    let (placed, placed_onto) = place_ways(layers, old, new, directory, onto)?;
+    let moving = JudgedRename {
+        directory: placed_or(&placed, directory),
+        found,
+        onto: placed_or(&placed_onto, onto),
     };
-    let renamed = move_object(alloc, layers, old, new, metacopy, directory, found, onto)?;
-    Ok(Ok(renamed))
+    let renamed = move_placed(alloc, layers, old, new, metacopy, moving)?;
+    Ok(renamed)
 }
 
-/// The merged directory from which a name is to move, what was found there, and the merged directory
-/// that it goes to; none where both paths are one object, and else why rename(2) refuses it, judged
-/// by what was seen at the two paths.
+/// What a rename moves, none where both paths are one object, or why rename(2) refuses it, judged by
+/// what was seen at the two paths. The root is EBUSY; the walk of the old path is refused first,
+/// then
+/// the way to the new one. Where both are one object nothing is done; else a directory is not moved
+/// below itself (EINVAL), nor over what is no directory (ENOTDIR), nor anything else over a
+/// directory (EISDIR), nor one that lower layers have if redirects aren't made (EXDEV), nor any
+/// over
+/// one that shows a name (ENOTEMPTY). It takes no memory.
 pub fn movable<'a>(
     layers: &Layers,
     old: &Path,
@@ -106,7 +98,7 @@ pub fn movable<'a>(
     redirects: bool,
     from: &'a Seen,
     onto: &'a Seen,
-) -> Result<Option<(&'a Stack, Found, &'a Stack)>, Errno>
+) -> Result<Option<JudgedRename<'a>>, Errno>
     requires from { IsSeen layers.now old.now from.now }
     requires onto { IsSeen layers.now new.now onto.now }
     ensures refused { IfErr result (λ e. IsFaultOf layers.now new.now
@@ -117,7 +109,7 @@ pub fn movable<'a>(
     ensures fine { OnOk result (rename_fault (upper_of layers.now) (lowers_of layers.now)
         redirects old.now new.now false ≡ None) }
     ensures moves { IfOk result (λ o.
-        IfSome o (λ w. MayMove layers.now redirects old.now new.now w.0.now w.1 w.2.now)) }
+        IfSome o (MayMove layers.now redirects old.now new.now)) }
 {
     if old.names().is_empty() || new.names().is_empty() {
         return Err(Errno::EBUSY);
@@ -139,7 +131,11 @@ pub fn movable<'a>(
         return Err(Errno::EINVAL);
     }
     match fits(layers, &found, &target, redirects) {
-        Ok(()) => Ok(Some((directory, found, onto))),
+        Ok(()) => Ok(Some(JudgedRename {
+            directory,
+            found,
+            onto,
+        })),
         Err(errno) => Err(errno),
     }
 }

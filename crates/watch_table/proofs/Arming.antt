@@ -7,18 +7,26 @@ use Rattle.std.proofs.lemmas.List.Elements.{All-weaker, All-map, All-push, All-h
 use Rattle.std.proofs.lemmas.Map.Steps.{length-le_from_distinct_below}
 use Rattle.std.specs.Cmp.{IsEquivalence}
 use Rattle.std.specs.List.{All, list_any}
-use Rattle.std.specs.Prelude.{find, is_some, option_map}
+use Rattle.std.specs.Prelude.{find, is_none, is_some, option_map}
 use Rattle.ov_base.specs.declared.errno.Errno.{Errno}
 use Rattle.ov_base.specs.declared.errno.Errno.TheVariants.{EINVAL, EBUSY, ENOSPC}
 use Rattle.ov_base.specs.declared.node_id.NodeId.{NodeId}
 use Rattle.ov_base.specs.declared.notice.Notice.{Notice}
 use Rattle.plain_model.specs.Tree.{same_id}
-use Rattle.plain_model.specs.Watching.{Watch, Instance, EVENTS, MASK_ADD, ONESHOT, has_bit}
-use Rattle.plain_model.specs.Machine.{watch_on}
+use Rattle.plain_model.specs.Alike.{is_watched}
+use Rattle.plain_model.specs.Watching.{On, Watch, Instance, EVENTS, MASK_ADD, ONESHOT, has_bit}
+use Rattle.plain_model.specs.Machine.{armed_of, instance_of, watch_on, watches_of}
 use Rattle.plain_model.specs.Refusals.{◌or_else◌, when, is_busy, WATCHES_MAX}
 use Rattle.plain_model.proofs.Masks.{AsksEvents, rearmed-AsksEvents}
 use Rattle.plain_model.proofs.Paths.{ids_tell}
-use Rattle.watch_table.specs.Listening.{IsWatch, IsInstance, rearmed, slot_refusal, arm_refusal}
+use Rattle.watch_table.specs.Listening.{
+  IsWatch,
+  IsInstance,
+  rearmed,
+  slot_refusal,
+  arm_refusal,
+  new_refusal,
+}
 use Rattle.watch_table.proofs.Keys.{distinct_none, distinct_push, distinct_kept}
 
 -- a test finds what passes it, and nothing else
@@ -55,6 +63,63 @@ number_left ws armed slot d h none = ltb-true armed WATCHES_MAX (by (is_busy ws 
     by true c g = cc
     by false true g = refl
     by false false g = cc
+
+-- where no watch is on an object, the object is busy where the slot has a watch
+unwatched-busy : (ws : List Watch) (slot : ℕ) (d : NodeId) →
+    list_any (λ w. same_id d w.node) ws ≡ false →
+    is_busy ws slot (Some d) ≡ list_any (λ w. nat_eq w.slot slot) ws
+unwatched-busy [] slot d off = refl
+unwatched-busy (w ∷ ws) slot d off = by (same_id d w.node) (nat_eq w.slot slot) off
+    (unwatched-busy ws slot d)
+  where
+    rest : Bool
+    rest = list_any (λ v. nat_eq v.slot slot) ws
+
+    by : (on same : Bool) → (on || list_any (λ v. same_id d v.node) ws) ≡ false →
+        (list_any (λ v. same_id d v.node) ws ≡ false → is_busy ws slot (Some d) ≡ rest) →
+        ((not on && same || on && not same) || is_busy ws slot (Some d)) ≡ (same || rest)
+    by true same off more = absurd (false≢true (sym off))
+    by false true off more = refl
+    by false false off more = more off
+
+-- so the object is refused as one that nobody watches
+pub unwatched-refusal : (ws : List Watch) (armed slot : ℕ) (d : NodeId) →
+    list_any (λ w. same_id d w.node) ws ≡ false →
+    arm_refusal ws armed slot d ≡ new_refusal ws armed slot
+unwatched-refusal ws armed slot d off =
+    ap (λ b. when b EBUSY or_else when
+    (is_none (watch_on ws (Some d)) && not (nat_lt armed WATCHES_MAX)) ENOSPC)
+    (unwatched-busy ws slot d off)
+    ∙ ap (λ b. when (list_any (λ w. nat_eq w.slot slot) ws) EBUSY or_else when
+    (b && not (nat_lt armed WATCHES_MAX)) ENOSPC)
+    (none-there (watch_on ws (Some d)) (found-any (λ w. same_id d w.node) ws ∙ off))
+  where
+    none-there : (o : Option Watch) → is_some o ≡ false → is_none o ≡ true
+    none-there None h = refl
+    none-there (Some w) h = absurd (false≢true (sym h))
+
+-- an object that no client watches is refused so to each
+pub unwatched-arm : (es : List Instance) (c slot : ℕ) (d : NodeId) → is_watched es (On d) ≡ false →
+    arm_refusal (watches_of (instance_of es c)) (armed_of (instance_of es c)) slot d
+    ≡ new_refusal (watches_of (instance_of es c)) (armed_of (instance_of es c)) slot
+unwatched-arm es c slot d off = unwatched-refusal (watches_of (instance_of es c))
+    (armed_of (instance_of es c)) slot d (at es off)
+  where
+    at : (es : List Instance) → is_watched es (On d) ≡ false →
+        list_any (λ w. same_id d w.node) (watches_of (instance_of es c)) ≡ false
+    at [] none = refl
+    at (e ∷ es) none = by (nat_eq e.client c) (list_any (λ w. same_id d w.node) e.watches) refl none
+        (at es)
+      where
+        by : (b on : Bool) → list_any (λ w. same_id d w.node) e.watches ≡ on →
+            (on || is_watched es (On d)) ≡ false →
+            (is_watched es (On d) ≡ false →
+            list_any (λ w. same_id d w.node) (watches_of (instance_of es c)) ≡ false) →
+            list_any (λ w. same_id d w.node) (watches_of (cond b (Some e) (instance_of es c))) ≡
+            false
+        by b true is none rest = absurd (false≢true (sym none))
+        by true false is none rest = is
+        by false false is none rest = rest none
 
 -- the number of the watch on an object is one that was given
 pub number_on-given : (hooks armed : ℕ) (d : NodeId) (ws : List Watch) → All (IsWatch hooks armed) ws → (n : ℕ) →

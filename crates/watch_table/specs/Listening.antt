@@ -1,5 +1,5 @@
 -- What an instance keeps, when it refuses to arm, and what the calls of one client make of it.
-use Rattle.std.specs.Prelude.{◌≡◌, ℕ, ◌≤◌, not, cond, Bool, ◌&&◌, List, Option, Some, is_none, nat_eq, nat_lt, length, All, map, slice_index_or}
+use Rattle.std.specs.Prelude.{◌≡◌, ℕ, ◌≤◌, not, cond, Bool, ◌&&◌, List, Option, None, Some, is_none, nat_eq, nat_lt, length, All, map, slice_index_or}
 use Rattle.std.specs.List.{list_any, IsDistinct}
 use Rattle.ov_base.specs.declared.errno.Errno.{Errno}
 use Rattle.ov_base.specs.declared.errno.Errno.TheVariants.{EINVAL, EBUSY, ENOSPC}
@@ -28,6 +28,17 @@ abbrev pub arm_refusal : List Watch → ℕ → ℕ → NodeId → Option Errno
 arm_refusal ws armed slot d =
     when (is_busy ws slot (Some d)) EBUSY
     or_else when (is_none (watch_on ws (Some d)) && not (nat_lt armed WATCHES_MAX)) ENOSPC
+
+-- the same of an object that nobody watches: the slot has a watch, or all numbers were given
+abbrev pub new_refusal : List Watch → ℕ → ℕ → Option Errno
+new_refusal ws armed slot =
+    when (list_any (λ w. nat_eq w.slot slot) ws) EBUSY
+    or_else when (not (nat_lt armed WATCHES_MAX)) ENOSPC
+
+-- the same of the object of a number, or of one that has none yet, which nobody watches
+abbrev pub number_refusal : List Watch → ℕ → ℕ → Option ℕ → Option Errno
+number_refusal ws armed slot (Some n) = arm_refusal ws armed slot (New n)
+number_refusal ws armed slot None = new_refusal ws armed slot
 
 -- the refusals of arm before the path is walked
 abbrev pub slot_refusal : ℕ → ℕ → ℕ → Option Errno

@@ -10,7 +10,7 @@ mod table;
 mod watch;
 mod watched_objects;
 
-pub use hook::{AnyAnswer, Asked, Callback, Hook, Rule};
+pub use hook::{AnyAnswer, Asked, Callback, Hook, Rule, copies_of};
 pub use listener::{HOOKS_MAX, NotAttached};
 pub use subject::{Aim, IGNORED, Subject};
 pub use table::WatchTable;

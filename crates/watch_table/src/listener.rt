@@ -1,5 +1,5 @@
 // The inotify instance of one client.
-ghost use Rattle.std.specs.Prelude.{◌≡◌, ◌<◌, ◌≤◌, ◌+◌, ◌^◌, [], Option, None, Some, IfOk, IfErr, OnOk, OnErr, ◌↔◌, All, MatchResult, MatchOption, false, find, option_map, map, flat_map, length, nat_lt, take, drop};
+ghost use Rattle.std.specs.Prelude.{◌≡◌, ◌<◌, ◌≤◌, ◌+◌, ◌^◌, [], Option, None, Some, IfOk, IfErr, OnOk, OnErr, ◌↔◌, All, MatchResult, MatchOption, false, find, option_map, map, flat_map, length, nat_eq, nat_lt, take, drop};
 ghost use Rattle.std.specs.Vec.{vec_capacity};
 ghost use Rattle.std.specs.List.{list_any, IsDistinct};
 ghost use Rattle.ov_base.specs.declared.node_id.NodeId.TheVariants.{New};
@@ -14,7 +14,7 @@ ghost use Rattle.plain_model.specs.Replies.{number_of};
 ghost use Rattle.watch_table.specs.Subjects.{IsSubject, subject_of};
 ghost use Rattle.watch_table.specs.Clients.{AreOnlyOn};
 ghost use Rattle.watch_table.specs.Listening as listening;
-ghost use Rattle.watch_table.specs.Listening.{arm_refusal, slot_refusal, rearmed, asked_of, HearsOne, IsEventOf};
+ghost use Rattle.watch_table.specs.Listening.{slot_refusal, rearmed, asked_of, HearsOne, IsEventOf};
 
 use crate::hook::{Callback, Hook, Rule};
 use crate::queue::Queue;
@@ -135,6 +135,13 @@ fn is_taken(watches: &[Watch], slot: u32, object: u64) -> bool
         (!watch.is_on(object) && watch.slot() == slot)
             || (watch.is_on(object) && watch.slot() != slot)
     })
+}
+
+// Whether the slot has a watch.
+fn is_armed(watches: &[Watch], slot: u32) -> bool
+    ensures { result ≡ list_any (λ w. nat_eq w.slot slot) watches.now }
+{
+    watches.iter().any(|watch| watch.slot() == slot)
 }
 
 // Whether one of the watches is on an object.
@@ -268,24 +275,40 @@ impl<F: Callback, R: Rule> Listener<F, R> {
         Ok(())
     }
 
-    // Whether an object may be armed through a slot. A slot that is armed on another object, or an object that is armed through another
+    // Why an object isn't armed through a slot. A slot that is armed on another object, or an object that is armed through another
     // slot, is EBUSY; a new watch where all numbers were given is ENOSPC.
-    pub(crate) fn may_watch(&self, slot: u32, object: u64) -> Result<(), Errno>
-        ensures { MatchResult result (λ _. arm_refusal self.now.watches self.now.armed slot (New object) ≡ None) (λ e. arm_refusal self.now.watches self.now.armed slot (New object) ≡ Some e) }
+    pub(crate) fn arm_refusal(&self, slot: u32, object: u64) -> Option<Errno>
+        ensures { result ≡ listening.arm_refusal self.now.watches self.now.armed slot (New object) }
     {
         if is_taken(self.watches.as_slice(), slot, object) {
-            return Err(Errno::EBUSY);
+            return Some(Errno::EBUSY);
         }
         if number_on(self.watches.as_slice(), object).is_none() && self.armed >= WATCHES_MAX {
-            return Err(Errno::ENOSPC);
+            return Some(Errno::ENOSPC);
         }
-        Ok(())
+        None
+    }
+
+    // Why an object that nobody watches isn't armed through a slot: a slot that is armed is EBUSY,
+    // and where all numbers were given it is
+    // ENOSPC.
+    pub(crate) fn new_refusal(&self, slot: u32) -> Option<Errno>
+        ensures { result ≡ listening.new_refusal self.now.watches self.now.armed slot }
+    {
+        if is_armed(self.watches.as_slice(), slot) {
+            return Some(Errno::EBUSY);
+        }
+        if self.armed >= WATCHES_MAX {
+            return Some(Errno::ENOSPC);
+        }
+        None
     }
 
     // Arms an object through a slot, where nothing refuses it, and gives the watch's number. It takes no memory.
     pub(crate) fn arm(&mut self, slot: u32, object: u64, mask: u32) -> u32
         requires slot { slot_refusal (length self.old.tags) slot mask ≡ None }
-        requires allowed { arm_refusal self.old.watches self.old.armed slot (New object) ≡ None }
+        requires allowed { listening.arm_refusal self.old.watches self.old.armed slot (New object) ≡
+            None }
         ensures number { result ≡ number_of (watch_on self.old.watches (Some (New object))) (self.old.armed + 1) }
         ensures fits { result < 2 ^ 31 }
         ensures arms { self.new ≡ armed_on slot (Some (New object)) mask self.old }

@@ -8,7 +8,8 @@ ghost use Rattle.plain_model.specs.Machine.{instance_of, hooks_of, watches_of, a
 ghost use Rattle.plain_model.specs.Changes.{at_client, armed_on};
 ghost use Rattle.plain_model.specs.Replies.{queue_of, number_of, next_number};
 ghost use Rattle.watch_table.specs.Clients.{AllHearOne, AreRising, clients_of, watches, AreOnlyOn};
-ghost use Rattle.watch_table.specs.Listening.{is_on, slot_refusal, arm_refusal};
+ghost use Rattle.watch_table.specs.Listening as listening;
+ghost use Rattle.watch_table.specs.Listening.{is_on, number_refusal, slot_refusal};
 ghost use Rattle.watch_table.specs.Subjects.{IsSubject, subject_of, subjects_of};
 ghost use Rattle.watch_table.specs.Watched.{watchers_of};
 ghost use Rattle.watch_table.specs.declared.subject.Aim.TheVariants.{On, Only};
@@ -201,9 +202,23 @@ impl<F: Callback, R: Rule> WatchTable<F, R> {
         self.listeners.get(client).may_arm(slot, mask)
     }
 
-    /// Arms an object for a client through a slot, and gives the watch's number. A slot that is
-    /// armed on another object, or an object that is armed through another slot, is EBUSY; a new
-    /// watch where all numbers were given is ENOSPC. An allocation failure changes nothing.
+    /// Why the object of a number, or one that has none yet, isn't armed for a client through a
+    /// slot. A slot that is armed on another object, or an object that is armed through another
+    /// slot, is EBUSY; a new watch where all numbers were given is ENOSPC.
+    pub fn arm_refusal(&self, client: u64, slot: u32, object: Option<u64>) -> Option<Errno>
+        requires { IsSome (instance_of self.now client) }
+        ensures { result ≡ number_refusal (watches_of (instance_of self.now client))
+            (armed_of (instance_of self.now client)) slot object }
+    {
+        let listener = self.listeners.get(client);
+        match object {
+            Some(number) => listener.arm_refusal(slot, number),
+            None => listener.new_refusal(slot),
+        }
+    }
+
+    /// Arms an object for a client through a slot, where nothing refuses it, and gives the watch's
+    /// number. An allocation failure changes nothing.
     pub fn arm(
         &mut self,
         alloc: Global,
@@ -211,25 +226,20 @@ impl<F: Callback, R: Rule> WatchTable<F, R> {
         slot: u32,
         object: u64,
         mask: u32,
-    ) -> Result<Result<u32, Errno>, AllocError>
+    ) -> Result<u32, AllocError>
         requires attached { IsSome (instance_of self.old client) }
         requires slot { slot_refusal (hooks_of (instance_of self.old client)) slot mask ≡ None }
-        ensures armed { IfOk result (λ outcome. IfOk outcome (λ n. n ≡ number_of (watch_on (watches_of (instance_of self.old client)) (Some (New object))) (next_number (instance_of self.old client)))) }
-        ensures fits { IfOk result (λ outcome. IfOk outcome (λ n. n < 2 ^ 31)) }
-        ensures arms { IfOk result (λ outcome. OnOk outcome (self.new ≡ at_client client (armed_on slot (Some (New object)) mask) self.old)) }
-        ensures refused { IfOk result (λ outcome. IfErr outcome (λ e. arm_refusal (watches_of (instance_of self.old client)) (armed_of (instance_of self.old client)) slot (New object) ≡ Some e)) }
-        ensures allowed { IfOk result (λ outcome. OnOk outcome (arm_refusal (watches_of (instance_of self.old client)) (armed_of (instance_of self.old client)) slot (New object) ≡ None)) }
-        ensures same { IfOk result (λ outcome. OnErr outcome (self.new ≡ self.old)) }
+        requires allowed { listening.arm_refusal (watches_of (instance_of self.old client)) (armed_of (instance_of self.old client)) slot (New object) ≡ None }
+        ensures armed { IfOk result (λ n. n ≡ number_of (watch_on (watches_of (instance_of self.old client)) (Some (New object))) (next_number (instance_of self.old client))) }
+        ensures fits { IfOk result (λ n. n < 2 ^ 31) }
+        ensures arms { OnOk result (self.new ≡ at_client client (armed_on slot (Some (New object)) mask) self.old) }
         ensures err { OnErr result (self.new ≡ self.old) }
     {
         let listener = self.listeners.get(client);
-        if let Err(errno) = listener.may_watch(slot, object) {
-            return Ok(Err(errno));
-        }
         if !listener.is_on(object) {
             self.objects.add(alloc, object, client)?;
         }
-        Ok(Ok(self.listeners.arm(client, slot, object, mask)))
+        Ok(self.listeners.arm(client, slot, object, mask))
     }
 
     /// Takes out the first unread notices of a client, at most so many. An allocation failure

@@ -2,7 +2,7 @@
 use Rattle.std.specs.Prelude.{◌≡◌, ◌≢◌, ℕ, ◌<◌, ◌≤◌, cond, nat_lt, length, Option, Some, None}
 use Rattle.ov_base.specs.declared.errno.Errno.{Errno}
 use Rattle.work_dir.specs.declared.limits.TheConstants.{PLACINGS_MAX, BEGINS_MAX}
-use Rattle.ov_base.specs.declared.source.Source.{Source}
+use Rattle.ov_base.specs.declared.place.Place as source
 use Rattle.work_dir.specs.declared.next.Lack.{Lack}
 use Rattle.work_dir.specs.declared.next.Lack.TheVariants.{Nothing, Parent, File}
 use Rattle.work_dir.specs.declared.next.Next.{Next}
@@ -15,7 +15,7 @@ up_to most made step = cond (nat_lt made most) step AtOnce
 
 -- A call that lacks a file of so many bytes finishes with a whole temp of that very file, and
 -- copies on one that is not whole. With none, or one of another file, it begins one.
-abbrev pub next_of_file : Source → ℕ → Option Beginning → ℕ → Next
+abbrev pub next_of_file : source.Place → ℕ → Option Beginning → ℕ → Next
 next_of_file d begins (Some t) size =
     cond (is_from d t) (cond (is_whole t size) Finish Copy) (up_to BEGINS_MAX begins (Begin d))
 next_of_file d begins None size = up_to BEGINS_MAX begins (Begin d)
@@ -30,7 +30,7 @@ next_of None (Parent second count) placings begins temp size =
 next_of None (File d) placings begins temp size = next_of_file d begins temp size
 
 -- the file that is lacking has no temp
-abbrev pub IsUnbegun : Source → Option Beginning → Type 0
+abbrev pub IsUnbegun : source.Place → Option Beginning → Type 0
 IsUnbegun d (Some t) = t.source ≢ d
 IsUnbegun d None = Unit {0}
 

@@ -9,6 +9,5 @@ mod temp;
 
 pub use limits::{BEGINS_MAX, CHUNK, CHUNKS_MAX, PLACINGS_MAX, SMALL_MAX, STEPS_MAX, chunk_of};
 pub use next::{Lack, Next, next_after};
-pub use ov_base::Source;
 pub use table::{OpenJob, WorkDir};
 pub use temp::Temp;

@@ -4,7 +4,7 @@ ghost use Rattle.work_dir.specs.Beginnings.{IsBeginning, empty_beginning, longer
 ghost use Rattle.work_dir.specs.declared.limits.TheConstants.{CHUNKS_MAX};
 
 use crate::limits::chunk_of;
-use ov_base::{FileBytes, Source};
+use ov_base::{FileBytes, Place};
 use std::alloc::AllocError;
 use std::marker::Model;
 
@@ -12,7 +12,7 @@ use std::marker::Model;
 /// file from the start, and counts how many its steps have covered.
 #[derive(Drop)]
 pub struct Temp {
-    source: Source,
+    source: Place,
     whole: FileBytes,
     chunks: usize,
     covered: usize,
@@ -36,7 +36,7 @@ impl Model for Temp {
 
 impl Temp {
     /// No bytes yet of a file of these, which it shares.
-    pub fn begin(source: Source, whole: &FileBytes) -> Result<Temp, AllocError>
+    pub fn begin(source: Place, whole: &FileBytes) -> Result<Temp, AllocError>
         ensures { IfOk result (λ t. t ≡ empty_beginning source whole.now) }
     {
         let whole = whole.clone()?;
@@ -49,7 +49,7 @@ impl Temp {
     }
 
     /// The file of which it is a beginning.
-    pub fn source(&self) -> Source
+    pub fn source(&self) -> Place
         ensures { result ≡ self.now.source }
     {
         self.source

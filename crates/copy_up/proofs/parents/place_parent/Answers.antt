@@ -1,5 +1,5 @@
 use Rattle.std.proofs.Common.{sym, ◌∙◌, ◌∷◌, refl, ap}
-use Rattle.merged_lookup.specs.declared.stack.Place.{Place}
+use Rattle.ov_base.specs.declared.place.Place.{Place}
 use Rattle.merged_lookup.specs.Merged.{ShowsDirectory, top_of}
 use Rattle.copy_up.proofs.Frames.{gains-self, gains-unchanged}
 use Rattle.copy_up.proofs.Keeping.{held-on-top, apart-held, same-unchanged, stays-unchanged, found-few, found-shown, found-place, found-placed}

@@ -4,28 +4,11 @@ use Rattle.ov_base.specs.declared.bytes.Content.TheVariants as content
 use Rattle.merged_lookup.specs.Merged.{layers_of}
 use Rattle.make_remove.specs.Leaves.{MakesLeaf}
 use Rattle.make_remove.specs.Making.{new_attributes}
-use Rattle.make_remove.proofs.LeafSteps.{symlink-vacancy, symlink-steps}
+use Rattle.make_remove.proofs.LeafSteps.{symlink-vacancy, symlink-steps, vacancy-fine}
 use Rattle.make_remove.proofs.leaves.symlink.Goals as goal
 
 pub returns-clause-steps : goal.returns-clause-steps
 returns-clause-steps c =
     symlink-steps c.args.layers.now c.make_leaf.new.layers c.args.target c.args.path.now
-    (symlink-vacancy (layers_of c.args.layers.now) c.args.target c.args.path.now c.lawful.ensures ∙ c.in-Ok.ensures.cases c.args.layers.now c.args.path.now c.requires)
+    (symlink-vacancy (layers_of c.args.layers.now) c.args.target c.args.path.now c.lawful.ensures ∙ vacancy-fine (layers_of c.args.layers.now) c.args.path.now c.requires.parents c.requires.absent)
     (subst (λ (a : Attributes). MakesLeaf c.args.layers.now c.make_leaf.new.layers c.args.path.now (content.SymbolicLink c.args.target) a) (c.new_attributes-attributes.ensures ∙ ap new_attributes c.of_links.ensures) c.in_ok-make_leaf.ensures.made.0)
-
-pub returns-in-Err-clause-refused : goal.returns-in-Err-clause-refused
-returns-in-Err-clause-refused c =
-    symlink-vacancy (layers_of c.args.layers.now) c.args.target c.args.path.now c.lawful.ensures ∙ c.in-Err.ensures.cases c.args.layers.now c.args.path.now c.requires
-
-pub returns-clause-allowed : goal.returns-clause-allowed
-returns-clause-allowed c =
-    symlink-vacancy (layers_of c.args.layers.now) c.args.target c.args.path.now c.lawful.ensures ∙ c.in-Ok.ensures.cases c.args.layers.now c.args.path.now c.requires
-
-pub make_leaf-requires-clause-directory : goal.make_leaf-requires-clause-directory
-make_leaf-requires-clause-directory c = c.in-Ok.ensures.parent c.args.layers.now c.args.path.now c.requires
-
-pub make_leaf-requires-clause-parents : goal.make_leaf-requires-clause-parents
-make_leaf-requires-clause-parents c = c.in-Ok.ensures.parents c.args.layers.now c.args.path.now c.requires
-
-pub make_leaf-requires-clause-absent : goal.make_leaf-requires-clause-absent
-make_leaf-requires-clause-absent c = c.in-Ok.ensures.absent c.args.layers.now c.args.path.now c.requires

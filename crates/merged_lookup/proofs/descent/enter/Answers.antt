@@ -3,7 +3,7 @@ use Rattle.std.proofs.lemmas.Grind.{common_steps}
 use Rattle.std.proofs.lemmas.List.{length-set}
 use Rattle.plain_model.specs.Layers.{Name, Path}
 use Rattle.layer_tree.specs.Tree.{Tree}
-use Rattle.merged_lookup.specs.declared.stack.Place.{Place}
+use Rattle.ov_base.specs.declared.place.Place.{Place}
 use Rattle.merged_lookup.specs.Merged.{trees}
 use Rattle.merged_lookup.specs.Descent.{descend}
 use Rattle.merged_lookup.specs.Trails.{IsFurther}

@@ -22,8 +22,13 @@ returns-in_err-copy-clause-no_memory c =
     (subst (λ (z : Layers). ChangesNoSight l z (GainsBoth l z c.args.old.now c.args.new.now)) (sym c.copy_of.ensures.same)
     (record { shown = same-self l; mount = λ s h. h; beneath = gains-first l l c.args.old.now c.args.new.now (same-self l) (gains-self l c.args.old.now) }))
 
+pub place_both-requires-clause-directory : goal.place_both-requires-clause-directory
+place_both-requires-clause-directory c = subst
+    (λ (z : Layers). IsStackOf z (parent c.args.old.now) c.args.found.0.now)
+    (sym c.copy_of.ensures.same) c.requires.may.directory
+
 pub place_both-requires-clause-onto : goal.place_both-requires-clause-onto
-place_both-requires-clause-onto c = subst (λ (z : Layers). IsStackOf z (parent c.args.new.now) c.args.onto.now) (sym c.copy_of.ensures.same) c.requires.onto
+place_both-requires-clause-onto c = subst (λ (z : Layers). IsStackOf z (parent c.args.new.now) c.args.found.1.now) (sym c.copy_of.ensures.same) c.requires.may.onto
 
 pub returns-in_err-from-clause-no_memory : goal.returns-in_err-from-clause-no_memory
 returns-in_err-from-clause-no_memory c =
@@ -43,7 +48,7 @@ insert_in_upper-requires-clause-places c =
     let u = reverse c.in-Some-split_last.field-0-1.now in
     let from = c.in_ok-from.ensures.from n t c.in-Some.ensures in
     let onto = c.in_ok-from.ensures.onto m u c.in-Some-split_last.ensures in
-    let out = outside-split c.args.layers.now c.args.old.now c.args.new.now n t m u c.in-Some.ensures c.in-Some-split_last.ensures c.args.place.layer c.args.place.key c.requires.shown.inode c.requires.parents c.requires.absent c.requires.shown.shown in
+    let out = outside-split c.args.layers.now c.args.old.now c.args.new.now n t m u c.in-Some.ensures c.in-Some-split_last.ensures c.args.found.2.layer c.args.found.2.key c.requires.may.shown.inode c.requires.may.parents c.requires.may.absent c.requires.may.shown.shown in
     (t, u, from, onto, λ e. out [] e)
 
 pub returns-in_err-key-clause-no_memory : goal.returns-in_err-key-clause-no_memory
@@ -67,12 +72,12 @@ returns-clause-linked c =
     let u = reverse c.in-Some-split_last.field-0-1.now in
     let from = c.in_ok-from.ensures.from n t c.in-Some.ensures in
     let onto = c.in_ok-from.ensures.onto m u c.in-Some-split_last.ensures in
-    let out = outside-split c.args.layers.now c.args.old.now c.args.new.now n t m u c.in-Some.ensures c.in-Some-split_last.ensures c.args.place.layer c.args.place.key c.requires.shown.inode c.requires.parents c.requires.absent c.requires.shown.shown in
+    let out = outside-split c.args.layers.now c.args.old.now c.args.new.now n t m u c.in-Some.ensures c.in-Some-split_last.ensures c.args.found.2.layer c.args.found.2.key c.requires.may.shown.inode c.requires.may.parents c.requires.may.absent c.requires.may.shown.shown in
     let found = c.in_ok-copy.ensures.copy in
     let i = found.0 in
-    let s = follows c.args.place.layer c.requires.lower in
-    let shown = sym (ap (shows 0 (layers_of l1)) c.in-Some.ensures) ∙ c.place_both.ensures.shown (Some i) (ap (λ (z : Layers). shows 0 (layers_of z) c.args.old.now) c.copy_of.ensures.same ∙ found.1) ∙ ap (λ j. Some (Contents j c.args.place.key (Some i))) s.1 in
-    let absent = same.absent (m ∷ u) (sym (ap (shows 0 (layers_of l0)) c.in-Some-split_last.ensures) ∙ c.requires.absent) in
+    let s = follows c.args.found.2.layer c.requires.lower in
+    let shown = sym (ap (shows 0 (layers_of l1)) c.in-Some.ensures) ∙ c.place_both.ensures.shown (Some i) (ap (λ (z : Layers). shows 0 (layers_of z) c.args.old.now) c.copy_of.ensures.same ∙ found.1) ∙ ap (λ j. Some (Contents j c.args.found.2.key (Some i))) s.1 in
+    let absent = same.absent (m ∷ u) (sym (ap (shows 0 (layers_of l0)) c.in-Some-split_last.ensures) ∙ c.requires.may.absent) in
     let made = found.2 in
     let copy = c.in_ok-key.ensures.copied t u made.copy from onto (λ e. out [] e) made.is in
     let marks = ap is_some made.mark ∙ marks-file c.args.metacopy (layer_of l0.upper) c.args.old.now i.content in
@@ -82,8 +87,8 @@ returns-clause-linked c =
     subst (λ (z : Path). GivesName l0 l2 c.args.metacopy z c.args.new.now) (sym c.in-Some.ensures)
     (subst (λ (z : Path). GivesName l0 l2 c.args.metacopy (n ∷ t) z) (sym c.in-Some-split_last.ensures)
     (gives-name l0 l1 l2 same stays (n ∷ t) (m ∷ u) c.args.metacopy gains
-    (copy-name l1 l2 c.insert_in_upper.ensures.lowers c.insert_in_upper.ensures.keeps n t m u s.0 c.args.place.key i shown absent out made.copy c.args.metacopy marks content made.attributes copy)
-    (copy-links l1 l2 c.insert_in_upper.ensures.lowers c.insert_in_upper.ensures.keeps n t m u s.0 c.args.place.key i shown absent out made.copy c.args.metacopy marks content made.attributes copy)
+    (copy-name l1 l2 c.insert_in_upper.ensures.lowers c.insert_in_upper.ensures.keeps n t m u s.0 c.args.found.2.key i shown absent out made.copy c.args.metacopy marks content made.attributes copy)
+    (copy-links l1 l2 c.insert_in_upper.ensures.lowers c.insert_in_upper.ensures.keeps n t m u s.0 c.args.found.2.key i shown absent out made.copy c.args.metacopy marks content made.attributes copy)
     (beside-copy l1.upper (layer_of l2.upper) (n ∷ t) (m ∷ u) made.copy from.free onto.free copy)
     c.in_ok-key.ensures.directories objects.0 objects.1))
 
@@ -100,19 +105,19 @@ returns-clause-sound c =
     let u = reverse c.in-Some-split_last.field-0-1.now in
     let from = c.in_ok-from.ensures.from n t c.in-Some.ensures in
     let onto = c.in_ok-from.ensures.onto m u c.in-Some-split_last.ensures in
-    let out = outside-split c.args.layers.now c.args.old.now c.args.new.now n t m u c.in-Some.ensures c.in-Some-split_last.ensures c.args.place.layer c.args.place.key c.requires.shown.inode c.requires.parents c.requires.absent c.requires.shown.shown in
+    let out = outside-split c.args.layers.now c.args.old.now c.args.new.now n t m u c.in-Some.ensures c.in-Some-split_last.ensures c.args.found.2.layer c.args.found.2.key c.requires.may.shown.inode c.requires.may.parents c.requires.may.absent c.requires.may.shown.shown in
     let found = c.in_ok-copy.ensures.copy in
     let i = found.0 in
-    let s = follows c.args.place.layer c.requires.lower in
-    let shown = sym (ap (shows 0 (layers_of l1)) c.in-Some.ensures) ∙ c.place_both.ensures.shown (Some i) (ap (λ (z : Layers). shows 0 (layers_of z) c.args.old.now) c.copy_of.ensures.same ∙ found.1) ∙ ap (λ j. Some (Contents j c.args.place.key (Some i))) s.1 in
-    let absent = same.absent (m ∷ u) (sym (ap (shows 0 (layers_of l0)) c.in-Some-split_last.ensures) ∙ c.requires.absent) in
+    let s = follows c.args.found.2.layer c.requires.lower in
+    let shown = sym (ap (shows 0 (layers_of l1)) c.in-Some.ensures) ∙ c.place_both.ensures.shown (Some i) (ap (λ (z : Layers). shows 0 (layers_of z) c.args.old.now) c.copy_of.ensures.same ∙ found.1) ∙ ap (λ j. Some (Contents j c.args.found.2.key (Some i))) s.1 in
+    let absent = same.absent (m ∷ u) (sym (ap (shows 0 (layers_of l0)) c.in-Some-split_last.ensures) ∙ c.requires.may.absent) in
     let made = found.2 in
     let copy = c.in_ok-key.ensures.copied t u made.copy from onto (λ e. out [] e) made.is in
     let marks = ap is_some made.mark ∙ marks-file c.args.metacopy (layer_of l0.upper) c.args.old.now i.content in
     let content = ap (λ (Ls : List Layer). content_over Ls made.copy.mark made.copy.content) (lowers-same l0 l1 same.lowers) ∙ made.content in
     record {
       layers = then-layers l0 l1 l2 stays.sound.layers c.insert_in_upper.ensures.lowers c.insert_in_upper.ensures.keeps;
-      thin = λ h. copy-thin l1 l2 c.insert_in_upper.ensures.lowers c.insert_in_upper.ensures.keeps n t m u s.0 c.args.place.key i shown absent out made.copy c.args.metacopy marks content made.attributes copy (stays.sound.thin h);
+      thin = λ h. copy-thin l1 l2 c.insert_in_upper.ensures.lowers c.insert_in_upper.ensures.keeps n t m u s.0 c.args.found.2.key i shown absent out made.copy c.args.metacopy marks content made.attributes copy (stays.sound.thin h);
     }
 
 pub returns-clause-key : goal.returns-clause-key
@@ -123,7 +128,7 @@ returns-clause-key c =
     let u = reverse c.in-Some-split_last.field-0-1.now in
     let from = c.in_ok-from.ensures.from n t c.in-Some.ensures in
     let onto = c.in_ok-from.ensures.onto m u c.in-Some-split_last.ensures in
-    let out = outside-split c.args.layers.now c.args.old.now c.args.new.now n t m u c.in-Some.ensures c.in-Some-split_last.ensures c.args.place.layer c.args.place.key c.requires.shown.inode c.requires.parents c.requires.absent c.requires.shown.shown in
+    let out = outside-split c.args.layers.now c.args.old.now c.args.new.now n t m u c.in-Some.ensures c.in-Some-split_last.ensures c.args.found.2.layer c.args.found.2.key c.requires.may.shown.inode c.requires.may.parents c.requires.may.absent c.requires.may.shown.shown in
     ap (held (layer_of c.insert_in_upper.new.layers.upper)) c.in-Some.ensures ∙ c.in_ok-key.ensures.key t u from onto (λ e. out [] e)
 
 pub returns-in_err-key-clause-sound : goal.returns-in_err-key-clause-sound
@@ -144,7 +149,7 @@ returns-clause-texts c =
     let u = reverse c.in-Some-split_last.field-0-1.now in
     let from = c.in_ok-from.ensures.from n t c.in-Some.ensures in
     let onto = c.in_ok-from.ensures.onto m u c.in-Some-split_last.ensures in
-    let out = outside-split c.args.layers.now c.args.old.now c.args.new.now n t m u c.in-Some.ensures c.in-Some-split_last.ensures c.args.place.layer c.args.place.key c.requires.shown.inode c.requires.parents c.requires.absent c.requires.shown.shown in
+    let out = outside-split c.args.layers.now c.args.old.now c.args.new.now n t m u c.in-Some.ensures c.in-Some-split_last.ensures c.args.found.2.layer c.args.found.2.key c.requires.may.shown.inode c.requires.may.parents c.requires.may.absent c.requires.may.shown.shown in
     let found = c.in_ok-copy.ensures.copy in
     let made = found.2 in
     let copy = c.in_ok-key.ensures.copied t u made.copy from onto (λ e. out [] e) made.is in

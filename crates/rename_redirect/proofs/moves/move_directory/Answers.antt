@@ -9,7 +9,7 @@ use Rattle.layer_tree.specs.declared.node.Marks.{Marks}
 use Rattle.layer_tree.specs.declared.node.Object.{Object}
 use Rattle.layer_tree.specs.declared.node.Object.TheVariants as object
 use Rattle.merged_lookup.specs.declared.layers.Layers.{Layers}
-use Rattle.merged_lookup.specs.declared.stack.Place.{Place}
+use Rattle.ov_base.specs.declared.place.Place.{Place}
 use Rattle.merged_lookup.specs.Merged.{upper_of, lowers_of}
 use Rattle.merged_lookup.proofs.Descending.{key-of}
 use Rattle.copy_up.specs.Showing.{number_of}

@@ -4,7 +4,7 @@ use Rattle.layer_tree.specs.Tree.{Tree, layer_of, child}
 use Rattle.layer_tree.specs.Move.{left_object}
 use Rattle.layer_tree.specs.declared.node.Object.{Object}
 use Rattle.merged_lookup.specs.declared.layers.Layers.{Layers}
-use Rattle.merged_lookup.specs.declared.stack.Place.{Place}
+use Rattle.ov_base.specs.declared.place.Place.{Place}
 use Rattle.merged_lookup.specs.Merged.{layers_of, lowers_of, ShowsInode}
 use Rattle.copy_up.specs.Showing.{number_of}
 use Rattle.copy_up.proofs.Copying.{leaf-leads, marks-file}

@@ -1,5 +1,5 @@
 use Rattle.std.proofs.Common.{sym, ap, ◌∙◌, subst}
-use Rattle.merged_lookup.specs.declared.stack.Place.{Place}
+use Rattle.ov_base.specs.declared.place.Place.{Place}
 use Rattle.merged_lookup.specs.Merged.{parent}
 use Rattle.copy_up.specs.Showing.{GainsParents}
 use Rattle.rename_redirect.proofs.Given.{gains-second}

@@ -1,7 +1,7 @@
 use Rattle.std.proofs.Common.{◌≡◌, ◌≤◌, ◌<◌, ◌∷◌, ◌++◌, ◌+◌, [], ℕ, List, Some, length, take, drop, get_or, reverse, arith, sym, ◌∙◌, ap}
 use Rattle.std.proofs.lemmas.List.{take_more}
 use Rattle.plain_model.specs.Layers.{Name}
-use Rattle.merged_lookup.specs.declared.stack.Place.{Place}
+use Rattle.ov_base.specs.declared.place.Place.{Place}
 use Rattle.merged_lookup.specs.Merged.{trees, layers_of, places_at, ShowsDirectory}
 use Rattle.merged_lookup.specs.Trails.{IsUppers}
 use Rattle.merged_lookup.proofs.Descending.{reverse-more}

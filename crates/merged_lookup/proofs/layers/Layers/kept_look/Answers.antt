@@ -3,7 +3,7 @@ use Rattle.std.proofs.lemmas.List.{reverse-reverse}
 use Rattle.plain_model.specs.Layers.{Name, Path}
 use Rattle.merged_lookup.specs.declared.kept.Kept.{Kept}
 use Rattle.merged_lookup.specs.declared.layers.Layers.{Layers}
-use Rattle.merged_lookup.specs.declared.stack.Place.{Place}
+use Rattle.ov_base.specs.declared.place.Place.{Place}
 use Rattle.merged_lookup.specs.Kept.{HandsDown, IsKept, topmost_over}
 use Rattle.merged_lookup.specs.Merged.{layers_of, lowers_of, places_at, parent, way_fault, IsTopmost}
 use Rattle.merged_lookup.specs.Passing.{holds_under}

@@ -1,23 +1,41 @@
-use Rattle.std.proofs.Common.{sym, subst, ap, ◌∙◌, arith}
+use Rattle.std.proofs.Common.{ap, subst, sym, ◌*◌, ◌<◌, ◌^◌, length}
+use Rattle.open_handles.specs.TrackedHandles.{clients_of}
 use Rattle.notice_laws.specs.Notified.{Notified}
-use Rattle.notifier.specs.Moving.{IsPinned}
-use Rattle.notifier.proofs.Coming.{ok-both}
-use Rattle.notifier.proofs.Leading.{same-pinned}
+use Rattle.notifier.proofs.GivenUp.{given-up}
 use Rattle.notifier.proofs.kept.Notifier.prepare_move.Goals as goal
 
-pub returns-clause-ready : goal.returns-clause-ready
-returns-clause-ready g c =
-    let mid : Notified = c.pin_ways.new.self in
-    let new : Notified = c.prepare_spots.new.self in
-    let p = c.args.old.now in
-    let q = c.args.new.now in
-    let renamed = ap (λ (k : Notified). k.renames) c.prepare_spots.ensures.rest ∙ ap (λ (k : Notified). k.renames) c.pin_ways.ensures.rest
-    ∙ sym (ap (λ (k : Notified). k.renames) c.self.view_is) in
-    let held = subst (λ (k : Notified). IsPinned k p q c.args.object) (sym c.prepare_spots.ensures.rest)
-    (same-pinned mid new.objects p q c.args.object c.prepare_spots.ensures.same (c.in_ok-pin_ways.ensures.pinned c.args.object c.number_of-number.ensures)) in
-    ok-both c.prepare_spots.result
-    (λ room prepared. record { pinned = held; counted = omega (arith, renamed, c.self.ranges); room = room; prepared = prepared })
-    c.prepare_spots.ensures.room c.prepare_spots.ensures.prepared
+pub reserve_move-requires-clause-clients : goal.reserve_move-requires-clause-clients
+reserve_move-requires-clause-clients g c =
+    subst (λ ks. 64 * length (clients_of ks) < 2 ^ 64) (sym (ap (λ (k : Notified). k.handles) c.cancel_move.ensures.rest)) c.requires.clients
 
-pub prepare_spots-requires : goal.prepare_spots-requires
-prepare_spots-requires g c = c.pin_ways.ensures.known c.args.object c.number_of-number.ensures
+pub returns-in-Ok-clause-held : goal.returns-in-Ok-clause-held
+returns-in-Ok-clause-held g c = record {
+  mid = c.cancel_move.new.self;
+  dropped = record { fewer = c.cancel_move.ensures.fewer; rest = c.cancel_move.ensures.rest };
+  known = c.lawful.ensures.known;
+  counted = c.lawful.ensures.counts;
+  held = c.lawful.ensures.held;
+  holds = c.reserve_move.ensures.held;
+  rest = c.reserve_move.ensures.rest;
+}
+
+pub returns-in-Err-clause-err : goal.returns-in-Err-clause-err
+returns-in-Err-clause-err g c =
+    let old : Notified = c.args.self.now in
+    let ready : Notified = c.reserve_move.new.self in
+    let new : Notified = c.cancel_move-in-Err.new.self in
+    given-up old ready new c.args.new.now
+    (record {
+      mid = c.cancel_move.new.self;
+      dropped = record { fewer = c.cancel_move.ensures.fewer; rest = c.cancel_move.ensures.rest };
+      known = c.lawful.ensures.known;
+      counted = c.lawful.ensures.counts;
+      held = c.lawful.ensures.held;
+      holds = c.reserve_move.ensures.held;
+      rest = c.reserve_move.ensures.rest;
+    })
+    (record {
+      fewer = c.cancel_move-in-Err.ensures.fewer;
+      rest = c.cancel_move-in-Err.ensures.rest;
+    })
+    c.lawful-in-Err.ensures.counts c.lawful-in-Err.ensures.held
