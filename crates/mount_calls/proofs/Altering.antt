@@ -1,5 +1,5 @@
 -- The calls that change attributes, by how they end.
-use Rattle.std.proofs.Common.{◌≡◌, ℕ, Bool, true, false, List, Option, None, Some, Result, Ok, Err, MatchResult, refl, sym, ap, ◌∙◌, subst}
+use Rattle.std.proofs.Common.{◌≡◌, ℕ, Bool, true, false, List, Option, None, Some, Result, Ok, Err, MatchResult, sym, ap, ◌∙◌, subst}
 use Rattle.std.proofs.Common.{arith}
 use Rattle.std.specs.Result.{IsErr}
 use Rattle.std.specs.declared.alloc.AllocError.{AllocError}
@@ -56,11 +56,8 @@ module _
       l
 
   -- ends so with the attributes that the call gives
-  pub alters-done : IsTree old.upper → AltersObjectAs old new p made → (key : ℕ) → number_of (held (upper_of new) p) ≡ Some key → KeepsTexts old new (Some p) → AltersUnless x old new metacopy p (Ok (Ok key))
+  pub alters-done : IsTree old.upper → AltersObjectAs old new p made → (key : ℕ) → number_of (held (upper_of new) p) ≡ Some key → KeepsTexts old new (Some p) → AltersUnless x old new metacopy p (Ok key)
   alters-done tree object key there texts = record {
-    refused = tt;
-    unchanged = tt;
-    allowed = h.allowed;
     alters = λ s m option c. subst (λ (ls : List Layer). AltersState (upper_of new) ls s c p (call_at p x)) (sym (lowers-same old new low)) (state-altered s m option c);
     key = there;
     lowers = low;
@@ -73,13 +70,10 @@ module _
 
 -- a change that wants memory leaves what is shown, and what the upper holds around the path
 pub alters-wanted :
-    (x : AttributeCall) (old new : Layers) (metacopy : Bool) (p : Path) (r : Result (Result ℕ Errno) AllocError) →
+    (x : AttributeCall) (old new : Layers) (metacopy : Bool) (p : Path) (r : Result ℕ AllocError) →
     IsErr r → ChangesNoSight old new (GainsParents old new p) → StaysSound old new → AltersUnless x old new metacopy p r
 alters-wanted x old new metacopy p (Ok y) wrong kept sound = let no : false ≡ true = wrong in absurd (cc)
 alters-wanted x old new metacopy p (Err e) wrong kept sound = record {
-  refused = tt;
-  unchanged = tt;
-  allowed = tt;
   alters = tt;
   key = tt;
   lowers = kept.beneath.lowers;
@@ -91,24 +85,8 @@ alters-wanted x old new metacopy p (Err e) wrong kept sound = record {
 }
 
 -- and so does one for which there is none at all
-pub alters-unmade : (x : AttributeCall) (l : Layers) (metacopy : Bool) (p : Path) (r : Result (Result ℕ Errno) AllocError) → IsErr r → AltersUnless x l l metacopy p r
+pub alters-unmade : (x : AttributeCall) (l : Layers) (metacopy : Bool) (p : Path) (r : Result ℕ AllocError) → IsErr r → AltersUnless x l l metacopy p r
 alters-unmade x l metacopy p r wrong = alters-wanted x l l metacopy p r wrong (record { shown = same-self l; mount = λ s h. h; beneath = gains-self l p }) (sound-self l)
-
--- a call that is refused changes nothing
-pub alters-refused : (x : AttributeCall) (l : Layers) (metacopy : Bool) (p : Path) (e : Errno) → asked_fault (layers_of l) p x ≡ Some e → AltersUnless x l l metacopy p (Ok (Err e))
-alters-refused x l metacopy p e fault = record {
-  refused = fault;
-  unchanged = refl;
-  allowed = tt;
-  alters = tt;
-  key = tt;
-  lowers = refl;
-  around = around-parents l l p (gains-self l p);
-  texts = texts-gained l l p (Some p) (gains-self l p);
-  live = tt;
-  no_memory = tt;
-  sound = sound-self l;
-}
 
 -- what is told of an inode is told where it is shown
 open-as : {A : Type 0} (now : A → Attributes) (r : Result A Errno) (s : Option Shown) (j k : ℕ) (i : Option Inode) → s ≡ Some (Contents j k i) → MatchResult r (λ a. IsOpenTo (Some (Contents 0 0 i)) (now a)) (λ e. (e ≡ ELOOP) × (is_link_inode i ≡ true)) → MatchResult r (λ a. IsOpenTo s (now a)) (λ e. (e ≡ ELOOP) × (shows_link s ≡ true))

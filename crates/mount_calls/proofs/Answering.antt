@@ -105,6 +105,11 @@ module _ (m : Mount) (s : State) (st : IsStateOf m s) (c : ℕ) where
   refused-list : (d n : ℕ) → refusal s c (call.ListNames d n) ≡ list_fault (opened_by m.clients c d) n
   refused-list d n = grind arith
 
+  -- where that isn't there it isn't refused
+  pub list-allowed : (d n : ℕ) → list_fault (opened_by m.clients c d) n ≡ None →
+      refusal s c (call.ListNames d n) ≡ None
+  list-allowed d n good = refused-list d n ∙ good
+
   -- a list that is refused
   pub list-refused : (d n : ℕ) (e : Errno) → list_fault (opened_by m.clients c d) n ≡ Some e → Serves (refusal s c (call.ListNames d n)) s c (call.ListNames d n) (reply.Refused e) m
   list-refused d n e h = serve-refused _ s c _ e m (refused-list d n ∙ h) st
@@ -113,7 +118,7 @@ module _ (m : Mount) (s : State) (st : IsStateOf m s) (c : ℕ) where
   pub list-done : (d n : ℕ) (new : Mount) (names : List Name) → list_fault (opened_by m.clients c d) n ≡ None → Pages m new c d n names → Serves (refusal s c (call.ListNames d n)) s c (call.ListNames d n) (reply.Names names) new
   list-done d n new names good pages =
       serve-done _ s c _ _ new
-      (refused-list d n ∙ good)
+      (list-allowed d n good)
       (ap reply.Names (pages.next ∙ ap (take n) left) ∙ sym (law.answer n))
       (subst (IsStateOf new) (sym (law.state n))
       (state-set m s st c d h x.1 new pages.layers pages.redirects pages.metacopy pages.limit _ (listed_on s.tree n (Some h)) pages.changes (λ f g k is on. cc is)

@@ -27,7 +27,7 @@ use Rattle.open_handles.specs.declared.handle.Handle as handles
 use Rattle.mount_calls.specs.declared.mount.Mount.{Mount}
 use Rattle.mount_calls.specs.declared.attribute_changes.AttributeCall.{AttributeCall}
 use Rattle.mount_calls.specs.Altering.{AltersUnless}
-use Rattle.mount_calls.specs.AttributeCalls.{call_at}
+use Rattle.mount_calls.specs.AttributeCalls.{asked_fault, call_at}
 use Rattle.mount_calls.specs.Held.{handles_below}
 use Rattle.mount_calls.specs.Removing.{IsOpenNowhere, HasAttributes, RemovesOpen}
 use Rattle.mount_calls.specs.Files.{AreOne}
@@ -189,11 +189,13 @@ module _ (m : Mount) (s : State) (st : IsStateOf m s) (new : Layers) where
       serve-done _ s c k reply.Done _ ok (sym answer) (state-after c k m.clients mounts tables still (tables-after c k same directories files) st.one refl)
 
   -- a call that alters what a path shows
-  pub altered-done : (c : ℕ) (p : Path) (x : AttributeCall) (key : ℕ) → AltersUnless x m.layers new m.metacopy p (Ok (Ok key)) → Serves (refusal s c (call_at p x)) s c (call_at p x) reply.Done (record m { layers = new })
-  altered-done c p x key y =
+  pub altered-done :
+      (c : ℕ) (p : Path) (x : AttributeCall) (key : ℕ) → asked_fault (the_layers m) p x ≡ None → AltersUnless x m.layers new m.metacopy p (Ok key) →
+      Serves (refusal s c (call_at p x)) s c (call_at p x) reply.Done (record m { layers = new })
+  altered-done c p x key ok y =
       let k = call_at p x in
       let z : AltersState V (lowers_of new) s c p k = y.alters s st.layers st.metacopy c in
-      done c k (refusal-asked (the_upper m) (the_lowers m) s st.layers c p x ∙ y.allowed) z.answer z.mounts z.tables (still-asked s c p x) y.lowers
+      done c k (refusal-asked (the_upper m) (the_lowers m) s st.layers c p x ∙ ok) z.answer z.mounts z.tables (still-asked s c p x) y.lowers
       (λ b fd o h on. handle-on s.tree (after s c k).tree (λ q d at. z.paths q ∙ at) z.hidden (λ d f. z.folders d ∙ f) m.clients.directories o h)
       (files-kept m.layers new s st.layers c k m.clients m.metacopy st.metacopy y.live (leaves-asked p x))
 

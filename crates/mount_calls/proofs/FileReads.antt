@@ -80,6 +80,11 @@ module _ (m : Mount) (s : State) (st : IsStateOf m s) (c d : ℕ) where
         (λ f h on is. (law_of_read s c d h on (file-not-folder (the_upper m) (the_lowers m) s.tree f h is)).refused n ∙ ap (λ b. or_else (when (nat_lt TRANSFER_MAX n) errno.EINVAL) (when (not b) errno.EBADF)) is.reads)
         (λ o h on is. (law_of_directory_handle s c d h on is.directory).reading n)
 
+    -- where that isn't there it isn't refused
+    pub read-allowed : read_fault (opened_by m.clients c d) n ≡ None →
+        refusal s c (call.Read d n) ≡ None
+    read-allowed good = read-refusal ∙ good
+
     -- it is refused so
     pub read-refused : (e : Errno) → read_fault (opened_by m.clients c d) n ≡ Some e → Reads (reply.Refused e) m
     read-refused e h = serve-refused _ s c _ e m (read-refusal ∙ h) st
@@ -93,7 +98,7 @@ module _ (m : Mount) (s : State) (st : IsStateOf m s) (c d : ℕ) where
         let read : laws.seen s x.0 ≡ bytes = bytes-read m.layers s f x.0 bytes x.2 are in
         let same : next_bytes s x.0 n ≡ given = (λ i. take n (drop (x.2.place i) (read i))) ∙ sym next in
         let end : f.place + length given ≡ x.0.place + length (next_bytes s x.0 n) = sym (λ i. x.2.place i + length (same i)) in
-        serve-done _ s c _ _ (record m { clients = new }) (read-refusal ∙ good)
+        serve-done _ s c _ _ (record m { clients = new }) (read-allowed good)
         (ap reply.Read (sym same) ∙ sym (law.answer n))
         (subst (IsStateOf (record m { clients = new }))
         (ap (λ z. record s { tables = with_handle s.tables c d (Some (record x.0 { place = z })) }) end ∙ sym (law.state n))
@@ -142,19 +147,24 @@ module _ (m : Mount) (s : State) (st : IsStateOf m s) (c d : ℕ) where
       attributes (Apart (unlisted.Upper key)) gone = absurd gone
       attributes (Apart unlisted.Nowhere) gone = absurd gone
 
-  module _ (there : is_some (directory_by m.clients c d) ≡ true) (r : Result Stat Errno) where
+  module _ (there : is_some (directory_by m.clients c d) ≡ true) where
     -- the directory
     standing : (o : OpenDirectory) × (opened_by m.clients c d ≡ Some (Directory o))
     standing = directory-open (opened_by m.clients c d) there
 
-    -- of one that has a path, what is there
-    pub named-status : (p : Path) → Some p ≡ option_and_then (path_of m.clients) (directory_by m.clients c d) → r ≡ stat_at (the_layers m) p → Shows (status_reply r)
-    named-status p path is = directory-status standing.0 standing.1 r (λ l n at stands. status-named (the_layers m) p r is l (path ∙ ap (λ z. option_and_then (path_of m.clients) (directory_in z)) standing.1 ∙ ap (option_and_then path_in) at))
+    -- fstat isn't refused of one
+    pub status-allowed : refusal s c (call.Fstat d) ≡ None
+    status-allowed = let x = directory-at m s st c d standing.0 standing.1 in rw x.1 refl
 
-    -- of one that was removed, the attributes that it had
-    pub removed-status : None ≡ option_and_then (path_of m.clients) (directory_by m.clients c d) → ((a : Attributes) → option_and_then attributes_in (option_and_then (located m.clients) (directory_by m.clients c d)) ≡ Some a → r ≡ Ok (stat_with kind.Directory a 0 1)) → Shows (status_reply r)
-    removed-status path tells =
-        directory-status standing.0 standing.1 r
-        (λ l n at stands. status-removed (the_layers m) s.tree n r l stands
-        (path ∙ ap (λ z. option_and_then (path_of m.clients) (directory_in z)) standing.1 ∙ ap (option_and_then path_in) at)
-        (λ a e. tells a (ap (λ z. option_and_then attributes_in (option_and_then (located m.clients) (directory_in z))) standing.1 ∙ ap (option_and_then attributes_in) at ∙ e)))
+    module _ (r : Result Stat Errno) where
+      -- of one that has a path, what is there
+      pub named-status : (p : Path) → Some p ≡ option_and_then (path_of m.clients) (directory_by m.clients c d) → r ≡ stat_at (the_layers m) p → Shows (status_reply r)
+      named-status p path is = directory-status standing.0 standing.1 r (λ l n at stands. status-named (the_layers m) p r is l (path ∙ ap (λ z. option_and_then (path_of m.clients) (directory_in z)) standing.1 ∙ ap (option_and_then path_in) at))
+
+      -- of one that was removed, the attributes that it had
+      pub removed-status : None ≡ option_and_then (path_of m.clients) (directory_by m.clients c d) → ((a : Attributes) → option_and_then attributes_in (option_and_then (located m.clients) (directory_by m.clients c d)) ≡ Some a → r ≡ Ok (stat_with kind.Directory a 0 1)) → Shows (status_reply r)
+      removed-status path tells =
+          directory-status standing.0 standing.1 r
+          (λ l n at stands. status-removed (the_layers m) s.tree n r l stands
+          (path ∙ ap (λ z. option_and_then (path_of m.clients) (directory_in z)) standing.1 ∙ ap (option_and_then path_in) at)
+          (λ a e. tells a (ap (λ z. option_and_then attributes_in (option_and_then (located m.clients) (directory_in z))) standing.1 ∙ ap (option_and_then attributes_in) at ∙ e)))

@@ -5,16 +5,16 @@ use Rattle.ov_base.specs.declared.bytes.Content.TheVariants as content
 use Rattle.ov_base.specs.declared.reply.ObjectKind.TheVariants as kind
 use Rattle.plain_model.specs.Machine.{bytes_seen}
 use Rattle.plain_model.specs.Replies.{capped, stat_by, stat_seen}
-use Rattle.ov_base.specs.declared.source.Source.{Source}
+use Rattle.ov_base.specs.declared.place.Place.{Place}
 use Rattle.merged_lookup.specs.Lower.{lower_bytes}
-use Rattle.mount_calls.specs.Files.{seen_inode, is_leaf, low_place, with_file, with_kept, IsOf, IsFile}
+use Rattle.mount_calls.specs.Files.{seen_inode, is_leaf, with_file, with_kept, IsOf, IsFile}
 
 -- a file is no directory
 pub leaf-not-folder : (o : Option Node) → is_leaf o ≡ true → is_folder o ≡ false
 leaf-not-folder o h = grind arith
 
 -- what a handle on the inode of an open file sees of it
-pub record SeesOf (U : Layer) (lowers : List Layer) (t : Tree) (source : FileSource) (low : Option Source) (h : Handle) : Type 0 where
+pub record SeesOf (U : Layer) (lowers : List Layer) (t : Tree) (source : FileSource) (low : Option Place) (h : Handle) : Type 0 where
   pub bytes : List ℕ
   pub attributes : Attributes
   pub links : ℕ
@@ -29,7 +29,7 @@ abbrev pub Sees : Layer → List Layer → Tree → OpenFile → Handle → Type
 Sees U lowers t f h = SeesOf U lowers t f.source f.low h
 
 -- the node of such a handle is a file
-source-leaf : (U : Layer) (lowers : List Layer) (t : Tree) (source : FileSource) (low : Option Source) (h : Handle) → IsOf U lowers t source low h → is_leaf (t h.node) ≡ true
+source-leaf : (U : Layer) (lowers : List Layer) (t : Tree) (source : FileSource) (low : Option Place) (h : Handle) → IsOf U lowers t source low h → is_leaf (t h.node) ≡ true
 source-leaf U lowers t (Upper k) low h s = ap is_leaf s.0.node
 source-leaf U lowers t (Lower j k) low h s = s.0.file
 
@@ -42,11 +42,11 @@ pub file-not-folder : (U : Layer) (lowers : List Layer) (t : Tree) (f : OpenFile
 file-not-folder U lowers t f h x = leaf-not-folder (t h.node) (file-leaf U lowers t f h x)
 
 -- with the bytes of a lower file an inode is seen so
-kept-inode : (lowers : List Layer) (d : Source) (o : Option Inode) (i : Inode) (bytes : List ℕ) → o ≡ Some i → lower_bytes lowers (low_place d) ≡ Some bytes → with_kept lowers (Some d) o ≡ Some (with_file bytes i)
+kept-inode : (lowers : List Layer) (d : Place) (o : Option Inode) (i : Inode) (bytes : List ℕ) → o ≡ Some i → lower_bytes lowers d ≡ Some bytes → with_kept lowers (Some d) o ≡ Some (with_file bytes i)
 kept-inode lowers d o i bytes is low = ap (with_kept lowers (Some d)) is ∙ ap (λ (b : Option (List ℕ)). Some (with_file (unwrap_or b []) i)) low
 
 -- a handle on the inode of an open file sees it, as it is or as it was
-source-sees : (U : Layer) (lowers : List Layer) (t : Tree) (source : FileSource) (low : Option Source) (h : Handle) → IsOf U lowers t source low h → SeesOf U lowers t source low h
+source-sees : (U : Layer) (lowers : List Layer) (t : Tree) (source : FileSource) (low : Option Place) (h : Handle) → IsOf U lowers t source low h → SeesOf U lowers t source low h
 source-sees U lowers t (Upper k) None h s = record {
   bytes = s.0.bytes;
   attributes = s.0.attributes;

@@ -1,5 +1,5 @@
 -- What a removal leaves once what lost its last name is freed.
-use Rattle.std.proofs.Common.{◌≡◌, ◌≢◌, ℕ, Bool, false, Option, List, ◌∷◌, ◌++◌, Some, sym, ap, ◌∙◌, subst, is_some, rules, arith}
+use Rattle.std.proofs.Common.{◌≡◌, ◌≢◌, ℕ, Bool, Option, List, ◌∷◌, ◌++◌, Some, sym, ap, ◌∙◌, subst, is_some, rules, arith}
 use Rattle.merged_lookup.specs.Merged.{upper_of}
 use Rattle.mount_calls.proofs.Words.{after, AreLayers, Call, Inode, inode_of, Layers, layers_of, lowers_of, option_and_then, option_map, Path, Removes, State, StaysLayers, StaysMount}
 use Rattle.plain_model.specs.Tree.{merged}
@@ -14,7 +14,7 @@ use Rattle.layer_tree.specs.declared.node.Node.TheVariants as node
 use Rattle.copy_up.specs.Showing.{ShowsSame, KeepsPath, KeepsOthers}
 use Rattle.copy_up.proofs.Keeping.{lowers-same}
 use Rattle.make_remove.specs.Removing.{TakesName}
-use Rattle.mount_laws.specs.Renaming.{is_one, Renames}
+use Rattle.mount_laws.specs.Renaming.{Renames}
 use Rattle.ov_base.specs.declared.call.Call.TheVariants as call
 use Rattle.rename_redirect.specs.Renaming.{Moves, RenameSteps}
 use Rattle.mount_calls.specs.declared.clients.Clients.{Clients}
@@ -62,16 +62,16 @@ renames-then : (b c : Layers) → StaysMount b c → (s : State) (client : ℕ) 
 renames-then b c mounts s client p q r = search rules
 
 -- what moved, moved
-pub moves-then : (clients : Clients) (a b c : Layers) (redirects metacopy : Bool) (p q : Path) (directory : Bool) (released : Option ℕ) → Moves a b metacopy p q directory released → (is_one (upper_of a) p q ≡ false → ShowsNoName (layers_of a) q) → (is_one (upper_of a) p q ≡ false → RenameSteps a b redirects metacopy p q) → StaysMount b c → StaysHeld clients b c → SameObjects (upper_of b) (upper_of c) → ShowsSame b c → RenamesHeld clients a c redirects metacopy p q
+pub moves-then : (clients : Clients) (a b c : Layers) (redirects metacopy : Bool) (p q : Path) (directory : Bool) (released : Option ℕ) → Moves a b metacopy p q directory released → ShowsNoName (layers_of a) q → RenameSteps a b redirects metacopy p q → StaysMount b c → StaysHeld clients b c → SameObjects (upper_of b) (upper_of c) → ShowsSame b c → RenamesHeld clients a c redirects metacopy p q
 moves-then clients a b c redirects metacopy p q directory released moves bare steps mounts held objects same = record {
   apart = moves.apart;
-  bare = bare moves.apart;
+  bare = bare;
   marks = moved-marks a b c metacopy p q directory released moves objects;
-  steps = λ s is option bytes client. renames-then b c mounts s client p q (steps moves.apart s is option bytes client);
+  steps = λ s is option bytes client. renames-then b c mounts s client p q (steps s is option bytes client);
   live = λ s is option bytes client d k some on live.
-      held (after s client (call.Rename p q)).tree d k some (rename-held clients a b redirects metacopy p q moves.over (steps moves.apart) s is option bytes client d k some on live);
+      held (after s client (call.Rename p q)).tree d k some (rename-held clients a b redirects metacopy p q moves.over steps s is option bytes client d k some on live);
   named = λ s is option bytes client d k y live at.
-      let step : Renames (upper_of b) (lowers_of b) s client p q = steps moves.apart s is option bytes client in
+      let step : Renames (upper_of b) (lowers_of b) s client p q = steps s is option bytes client in
       named-live (upper_of c) (lowers_of c) (after s client (call.Rename p q)) (renames-then b c mounts s client p q step).mounts d k y at
       (same-files b c objects same.sights y k
       (moves-files (upper_of a) (upper_of b) (lowers_of b) s client p q step d k y (moves.over.links is.layers k (ap is_some live.inode)) live at));

@@ -26,7 +26,7 @@ use Rattle.rename_redirect.specs.Judging.{IsFaultOf}
 use Rattle.rename_redirect.proofs.Steps.{rename-refused}
 use Rattle.work_dir.specs.declared.next.Lack.{Lack}
 use Rattle.work_dir.specs.declared.next.Lack.TheVariants as lacks
-use Rattle.ov_base.specs.declared.source.Source.{Source}
+use Rattle.ov_base.specs.declared.place.Place.{Place}
 use Rattle.mount_calls.specs.declared.attribute_changes.AttributeCall.{AttributeCall}
 use Rattle.mount_calls.specs.declared.attribute_changes.AttributeCall.TheVariants as asks
 use Rattle.mount_calls.specs.declared.mount.Mount.{Mount}
@@ -46,13 +46,13 @@ pub tells-nothing : (m : Mount) (c : ℕ) (k : Call) → ((s : State) → IsStat
 tells-nothing m c k h e = record { refused = tt; allowed = h; lack = e; can = tt }
 
 -- a lack at one path, and one at two
-pub tells-one : (m : Mount) (c : ℕ) (k : Call) (p : Path) (file : Option Source) (l : Lack) → ((s : State) → IsStateOf m s → refusal s c k ≡ None) →
+pub tells-one : (m : Mount) (c : ℕ) (k : Call) (p : Path) (file : Option Place) (l : Lack) → ((s : State) → IsStateOf m s → refusal s c k ≡ None) →
     l ≡ lack_among (the_upper m) false (p ∷ []) file → lack_among (the_upper m) false (p ∷ []) file ≡ lack_of (the_upper m) (the_lowers m) m.metacopy k →
     IsWay m k false p → IsOfBytes m file → TellsLack m c k (Ok l)
 tells-one m c k p file l h is e w has =
     record { refused = tt; allowed = h; lack = is ∙ e; can = subst (λ z. CanBeHad m k z) (sym is) (can-one m k p file w has) }
 
-pub tells-both : (m : Mount) (c : ℕ) (k : Call) (p q : Path) (file : Option Source) (l : Lack) → ((s : State) → IsStateOf m s → refusal s c k ≡ None) →
+pub tells-both : (m : Mount) (c : ℕ) (k : Call) (p q : Path) (file : Option Place) (l : Lack) → ((s : State) → IsStateOf m s → refusal s c k ≡ None) →
     l ≡ lack_among (the_upper m) false (p ∷ (q ∷ [])) file → lack_among (the_upper m) false (p ∷ (q ∷ [])) file ≡ lack_of (the_upper m) (the_lowers m) m.metacopy k →
     IsWay m k false p → IsWay m k true q → IsOfBytes m file → TellsLack m c k (Ok l)
 tells-both m c k p q file l h is e w v has =

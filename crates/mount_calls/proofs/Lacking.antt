@@ -14,7 +14,7 @@ use Rattle.copy_up.specs.declared.needs.Need.TheVariants as need
 use Rattle.copy_up.specs.Needs.{IsNeed, first_names, has_directory}
 use Rattle.work_dir.specs.declared.next.Lack.{Lack}
 use Rattle.work_dir.specs.declared.next.Lack.TheVariants as lack
-use Rattle.ov_base.specs.declared.source.Source.{Source}
+use Rattle.ov_base.specs.declared.place.Place.{Place}
 use Rattle.mount_calls.specs.declared.attribute_changes.AttributeCall.{AttributeCall}
 use Rattle.mount_calls.specs.declared.attribute_changes.AttributeCall.TheVariants as asks
 use Rattle.mount_calls.specs.AttributeCalls.{call_at}
@@ -139,25 +139,25 @@ low-data lowers s zero k i low h = absurd (omega arith)
 low-data lowers s (suc j) k i low h = ap low_file h ∙ sym (ap (data_at lowers) h)
 
 -- for an open, by whether it writes and whether anything is shown, and by where the bytes are of what is
-abbrev pub open_lack : Layer → Path → Bool → Bool → Option Source → Lack
+abbrev pub open_lack : Layer → Path → Bool → Bool → Option Place → Lack
 open_lack U p writes absent d = lack_among U false (cond (writes || absent) (p ∷ []) []) (cond writes d None)
 
 pub open-absent : (U : Layer) (lowers : List Layer) (p : Path) (writes : Bool) (s : Option Shown) → s ≡ None → lack_among U false (p ∷ []) None ≡ open_lack U p writes (is_none s) (data_at lowers s)
 open-absent U lowers p true s h = ap (λ x. lack_among U false (p ∷ []) (data_at lowers x)) (sym h)
 open-absent U lowers p false s h = ap (λ x. lack_among U false (cond (is_none x) (p ∷ []) []) None) (sym h)
 
-pub open-writes : (U : Layer) (p : Path) (writes absent : Bool) (d : Option Source) → writes ≡ true → lack_among U false (p ∷ []) d ≡ open_lack U p writes absent d
+pub open-writes : (U : Layer) (p : Path) (writes absent : Bool) (d : Option Place) → writes ≡ true → lack_among U false (p ∷ []) d ≡ open_lack U p writes absent d
 open-writes U p writes absent d h = ap (λ w. open_lack U p w absent d) (sym h)
 
-pub open-reads : (U : Layer) (p : Path) (writes absent : Bool) (d : Option Source) → writes ≡ false → absent ≡ false → lack.Nothing ≡ open_lack U p writes absent d
+pub open-reads : (U : Layer) (p : Path) (writes absent : Bool) (d : Option Place) → writes ≡ false → absent ≡ false → lack.Nothing ≡ open_lack U p writes absent d
 open-reads U p writes absent d h g = sym (ap₂ (λ w b. open_lack U p w b d) h g)
 
 -- for a rename, by whether both paths are one object
-abbrev pub rename_lack : Layer → Path → Path → Bool → Option Source → Lack
+abbrev pub rename_lack : Layer → Path → Path → Bool → Option Place → Lack
 rename_lack U p q one d = lack_among U false (cond one [] (p ∷ (q ∷ []))) (cond one None d)
 
-pub rename-one : (U : Layer) (p q : Path) (one : Bool) (d : Option Source) → one ≡ true → lack.Nothing ≡ rename_lack U p q one d
+pub rename-one : (U : Layer) (p q : Path) (one : Bool) (d : Option Place) → one ≡ true → lack.Nothing ≡ rename_lack U p q one d
 rename-one U p q one d h = ap (λ b. rename_lack U p q b d) (sym h)
 
-pub rename-apart : (U : Layer) (p q : Path) (one : Bool) (d : Option Source) → one ≡ false → lack_among U false (p ∷ (q ∷ [])) d ≡ rename_lack U p q one d
+pub rename-apart : (U : Layer) (p q : Path) (one : Bool) (d : Option Place) → one ≡ false → lack_among U false (p ∷ (q ∷ [])) d ≡ rename_lack U p q one d
 rename-apart U p q one d h = ap (λ b. rename_lack U p q b d) (sym h)

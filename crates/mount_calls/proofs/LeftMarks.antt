@@ -1,6 +1,6 @@
 -- Which marks, redirects and whiteouts a call leaves in the upper.
 use Rattle.std.proofs.Common.{◌≡◌, ℕ, Bool, true, false, [], ◌∷◌, Option, Result, Ok, Err, refl, ◌∙◌}
-use Rattle.std.specs.Prelude.{IsErr, OnOk}
+use Rattle.std.specs.Prelude.{IsErr}
 use Rattle.std.specs.declared.alloc.AllocError.{AllocError}
 use Rattle.ov_base.specs.declared.call.Call.{Call}
 use Rattle.ov_base.specs.declared.errno.Errno.{Errno}
@@ -12,10 +12,9 @@ use Rattle.plain_model.specs.Layers.{Layer, Path}
 use Rattle.layer_tree.specs.Tree.{SameObjects}
 use Rattle.merged_lookup.specs.declared.layers.Layers.{Layers}
 use Rattle.merged_lookup.specs.Merged.{upper_of, lowers_of}
-use Rattle.make_remove.specs.Removing.{TakesName, left_at}
+use Rattle.make_remove.specs.Removing.{left_at}
 use Rattle.rename_redirect.specs.Renaming.{HasMarks, Moves, MovesMarks}
-use Rattle.mount_calls.specs.LeftMarks.{LeavesMarks, LeavesMoved, LeavesName, MarksIfDone}
-use Rattle.mount_calls.specs.Status.{outcome_reply}
+use Rattle.mount_calls.specs.LeftMarks.{LeavesMarks, LeavesMoved, MarksIfDone}
 
 -- what stands where a name went is told of the upper and the lower layers, or of both at once
 left-same : (l : Layers) (p : Path) → laws.left_at (upper_of l) (lowers_of l) p ≡ left_at l p
@@ -38,12 +37,6 @@ moved-marks a b c low p q directory released moves same = record {
         when_not = λ is. marks-same (upper_of b) (upper_of c) q _ _ same (there.when_not is);
       };
 }
-
--- what was removed leaves what its name leaves
-pub removed-marks : {A : Type 0} (old new : Layers) (p : Path) (outcome : Result A Errno) → OnOk outcome (TakesName old new p) →
-    outcome_reply outcome ≡ Done → LeavesName old new p
-removed-marks old new p (Ok told) takes is = takes.left
-removed-marks old new p (Err e) takes is = let no : Refused e ≡ Done = is in absurd (cc)
 
 -- nothing is told where memory ran out
 pub wanted-marks : (k : Call) (old new : Layers) (result : Result Reply AllocError) → IsErr result → MarksIfDone k old new result

@@ -28,8 +28,8 @@ pub mod FileReads
 pub mod AttributeCalls
 pub mod Changing
 pub mod MakingCalls
-pub mod Unlinking
 pub mod AlteredCalls
+pub mod LinkedCalls
 pub mod Linking
 pub mod Renames
 pub mod Renaming
@@ -51,5 +51,6 @@ pub mod Lacking
 pub mod Having
 pub mod Placing
 pub mod Judging
+pub mod RenameJudged
 pub mod Seen
 pub mod RoomReads

@@ -1,5 +1,6 @@
 -- What readlink answers.
-use Rattle.std.proofs.Common.{◌≡◌, ℕ, Bool, true, false, not, List, Option, None, Some, Result, refl, sym, ap, ◌∙◌, ◌⊎◌, inl, inr, arith}
+use Rattle.std.proofs.Common.{◌≡◌, ℕ, Bool, true, false, not, List, Option, None, Some, Result, refl, sym, ap, ◌∙◌, ◌⊎◌, inl, inr, is_some, arith}
+use Rattle.std.proofs.lemmas.Bool.{false≢true}
 use Rattle.mount_calls.proofs.Words.{AllocError, Content, EINVAL, Errno, IfOk, Inode, Layer, Layers, layers_of, lowers_of, option_and_then, or_else, Path, Place, refusal, Reply, Shown, shows, shows_link, ShowsInode, State, when}
 use Rattle.ov_base.specs.declared.bytes.Content.TheVariants as content
 use Rattle.merged_lookup.specs.Marking.{content_in, inode_over}
@@ -33,12 +34,20 @@ held-target : (o : Option Inode) → option_and_then content_target (content_in 
 held-target None = refl
 held-target (Some i) = content-target i.content i
 
+-- the target of a file or symbolic link that is shown
+pub link-target : (l : Layers) (p : Path) (d : Place) → ShowsInode l p d →
+    option_and_then content_target (content_in (inode_over l d)) ≡ shown_target
+    (shows 0 (layers_of l) p)
+link-target l p d i =
+    ap (λ z. option_and_then content_target (content_in z)) (over-shown l p d i.inode i.shown)
+    ∙ held-target i.inode
+    ∙ sym (ap shown_target i.shown)
+
 -- the reply to readlink of a file or symbolic link that is shown
 pub link-inode : (l : Layers) (p : Path) (d : Place) → walk_fault (layers_of l) p ≡ None → ShowsInode l p d → target_reply (option_and_then content_target (content_in (inode_over l d))) ≡ readlink_reply (layers_of l) p
 link-inode l p d none i =
-    ap (λ z. target_reply (option_and_then content_target (content_in z))) (over-shown l p d i.inode i.shown)
-    ∙ ap target_reply (held-target i.inode)
-    ∙ sym (ap (λ w. link_reply w (shown_target (shows 0 (layers_of l) p))) none ∙ ap (λ o. target_reply (shown_target o)) i.shown)
+    ap target_reply (link-target l p d i)
+    ∙ sym (ap (λ w. link_reply w (shown_target (shows 0 (layers_of l) p))) none)
 
 -- a call that may run out of memory answers the same reply told otherwise
 pub answers-as : (result : Result Reply AllocError) (a b : Reply) → a ≡ b → IfOk result (λ r. r ≡ a) → IfOk result (λ r. r ≡ b)
@@ -75,6 +84,16 @@ module _ (m : Mount) (s : State) (st : IsStateOf m s) (c : ℕ) (p : Path) where
       by (inr t) =
           let same : r ≡ reply.Target t.0 = is ∙ ap target_reply t.1 in
           serve-done _ s c (call.Readlink p) r m (is-refused None true h t.2) (same ∙ sym (law.answer t.0 t.1)) st
+
+  -- it isn't refused where a link is shown
+  pub readlink-allowed : walk_fault (the_layers m) p ≡ None →
+      is_some (shown_target (shows 0 (the_layers m) p)) ≡ true →
+      refusal s c (call.Readlink p) ≡ None
+  readlink-allowed none some = by (tells (shows 0 (the_layers m) p))
+    where
+      by : Tells (shows 0 (the_layers m) p) → refusal s c (call.Readlink p) ≡ None
+      by (inl t) = absurd (false≢true (sym (ap is_some t.0) ∙ some))
+      by (inr t) = is-refused None true none t.2
 
   pub readlink-serves : (r : Reply) → r ≡ readlink_reply (the_layers m) p → Serves (refusal s c (call.Readlink p)) s c (call.Readlink p) r m
   readlink-serves r is = serves r (walk_fault (the_layers m) p) refl is

@@ -14,10 +14,16 @@ use Rattle.mount_calls.specs.Making.{AnswersCall, MakesCall, RunsOut, ServesEach
 use Rattle.mount_calls.specs.Removing.{RemovesOpen}
 use Rattle.mount_calls.specs.Renaming.{RenamesOpen, SamePlaces}
 use Rattle.mount_calls.specs.States.{IsStateOf, StaysState}
+use Rattle.mount_calls.specs.Status.{done_result}
 use Rattle.mount_calls.proofs.Carrying.{state-stays}
 use Rattle.mount_calls.proofs.Changing.{refused}
 use Rattle.mount_calls.proofs.Frames.{same-layers}
 use Rattle.mount_calls.proofs.Named.{is_refused, reads-named, refused-named}
+
+-- where memory ran out for what a call tells, it did for the reply
+pub done-err : {A : Type 0} (r : Result A AllocError) → IsErr r → IsErr (done_result r)
+done-err (Ok told) wrong = wrong
+done-err (Err e) wrong = wrong
 
 -- clients that stay as they are stay attached
 pub attached-same : (clients : Clients) → KeepsAttached clients clients

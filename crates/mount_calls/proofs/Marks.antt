@@ -23,8 +23,14 @@ use Rattle.mount_laws.specs.OpenFiles.{ChangesFile, WritesInode}
 use Rattle.mount_laws.specs.Looks.{is_link_inode}
 use Rattle.mount_laws.proofs.Raised.{raised-written}
 use Rattle.notice_laws.specs.Objects.{IsUpper}
-use Rattle.mount_calls.specs.Files.{bytes_of_inode, source_inode, source_place, with_file}
-use Rattle.mount_calls.specs.Lacks.{data_at, marked_file}
+use Rattle.mount_calls.specs.Files.{
+  bytes_of_inode,
+  place_below,
+  source_inode,
+  source_place,
+  with_file,
+}
+use Rattle.mount_calls.specs.Lacks.{data_at}
 use Rattle.mount_calls.specs.Living.{SetsFile}
 use Rattle.mount_calls.proofs.Raising.{has-bytes, link-filled}
 
@@ -77,14 +83,14 @@ nothing-marked lowers None h = refl
 nothing-marked lowers (Some x) h = cc
 
 -- where the bytes are of what the upper shows, if they are a lower file's
-pub data-own : (l : Layers) (p : Path) (d : Place) → ShowsInode l p d → d.layer ≡ 0 → marked_file (lowers_of l) (mark_at l.upper d.key) ≡ data_at (lowers_of l) (shows 0 (layers_of l) p)
+pub data-own : (l : Layers) (p : Path) (d : Place) → ShowsInode l p d → d.layer ≡ 0 → place_below (lowers_of l) (mark_at l.upper d.key) ≡ data_at (lowers_of l) (shows 0 (layers_of l) p)
 data-own l p d x own = by x.inode (x.shown ∙ ap (λ j. Some (Contents j d.key x.inode)) own)
   where
-    by : (o : Option Inode) → shows 0 (layers_of l) p ≡ Some (Contents 0 d.key o) → marked_file (lowers_of l) (mark_at l.upper d.key) ≡ data_at (lowers_of l) (shows 0 (layers_of l) p)
+    by : (o : Option Inode) → shows 0 (layers_of l) p ≡ Some (Contents 0 d.key o) → place_below (lowers_of l) (mark_at l.upper d.key) ≡ data_at (lowers_of l) (shows 0 (layers_of l) p)
     by None h =
-        ap (marked_file (lowers_of l)) (nothing-marked (lowers_of l) (inode_at l.upper d.key) (over-shown l p (record { layer = 0; key = d.key }) None h))
+        ap (place_below (lowers_of l)) (nothing-marked (lowers_of l) (inode_at l.upper d.key) (over-shown l p (record { layer = 0; key = d.key }) None h))
         ∙ sym (ap (data_at (lowers_of l)) h)
-    by (Some i) h = ap (marked_file (lowers_of l)) (shown-mark l p d.key i h) ∙ sym (ap (data_at (lowers_of l)) h)
+    by (Some i) h = ap (place_below (lowers_of l)) (shown-mark l p d.key i h) ∙ sym (ap (data_at (lowers_of l)) h)
 
 -- a live file whose bytes are no lower file's bears none
 pub live-bare : (U : Layer) (t : Tree) (d : NodeId) (k : ℕ) (x : IsLive U t d k) → is_data_low (t d) ≡ false → x.mark ≡ None

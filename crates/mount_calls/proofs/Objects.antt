@@ -33,7 +33,7 @@ way-blocked l (n ∷ p) e h = by (λ d is. way-blocked l p d is) (way_fault (lay
     by before None is g = fault-shown (shows 0 (layers_of l) (n ∷ p)) e g
 
 -- nothing is shown where a walk is refused
-pub walk-blocked : (l : Layers) (p : Path) (e : Errno) → walk_fault (layers_of l) p ≡ Some e → shows 0 (layers_of l) p ≡ None
+walk-blocked : (l : Layers) (p : Path) (e : Errno) → walk_fault (layers_of l) p ≡ Some e → shows 0 (layers_of l) p ≡ None
 walk-blocked l [] e h = absent-shown (shows 0 (layers_of l) []) e h
 walk-blocked l (n ∷ p) e h = by (way_fault (layers_of l) p) refl h
   where

@@ -4,7 +4,7 @@ use Rattle.mount_calls.proofs.Words.{Attributes, bad_flags, Call, cases_Bool, ch
 use Rattle.ov_base.specs.declared.bytes.Content.TheVariants as content
 use Rattle.ov_base.specs.declared.call.Call.TheVariants as call
 use Rattle.ov_base.specs.declared.reply.Reply.TheVariants as reply
-use Rattle.ov_base.specs.declared.source.Source.{Source}
+use Rattle.ov_base.specs.declared.place.Place.{Place}
 use Rattle.layer_tree.specs.Tree.{mark_at, own_at}
 use Rattle.plain_model.specs.Changes.{opened}
 use Rattle.plain_model.specs.Tree.{is_data_low}
@@ -129,7 +129,7 @@ module _ (m : Mount) (s : State) (st : IsStateOf m s) (c : ℕ) (p : Path) (f : 
       (state-rewritten (record m { clients = new }) held held-state layers place.key law.node [] (open-leads m s st c (File file) d new ch file made place.key refl key) keeps empties)
 
 -- an open of a file that isn't emptied, for writing where it is the upper's and has bytes of its own
-pub open-whole : (m : Mount) (s : State) (st : IsStateOf m s) (c : ℕ) (p : Path) (f : OpenFlags) (mode : ℕ) → opening_fault (layers_of m.layers) p f mode (Some 0) ≡ None → f.truncate ≡ false → (place : Place) → (f.writes ≡ true → (place.layer ≡ 0) × (mark_at m.layers.upper place.key ≡ None)) → ShowsInode m.layers p place → (low : Option Source) → IsKept (the_lowers m) (read_mark m.layers place f.writes) low → (d : ℕ) (new : Clients) → OpensFile m.clients new c d (file_at place f low) (Ok tt) → Serves (refusal s c (call.Open p f mode)) s c (call.Open p f mode) (reply.Descriptor d) (record m { clients = new })
+pub open-whole : (m : Mount) (s : State) (st : IsStateOf m s) (c : ℕ) (p : Path) (f : OpenFlags) (mode : ℕ) → opening_fault (layers_of m.layers) p f mode (Some 0) ≡ None → f.truncate ≡ false → (place : Place) → (f.writes ≡ true → (place.layer ≡ 0) × (mark_at m.layers.upper place.key ≡ None)) → ShowsInode m.layers p place → (low : Option Place) → IsKept (the_lowers m) (read_mark m.layers place f.writes) low → (d : ℕ) (new : Clients) → OpensFile m.clients new c d (file_at place f low) (Ok tt) → Serves (refusal s c (call.Open p f mode)) s c (call.Open p f mode) (reply.Descriptor d) (record m { clients = new })
 open-whole m s st c p f mode fine t place own shown low kept d new ch = by (cases_Bool f.writes)
   where
     by : (f.writes ≡ true) ⊎ (f.writes ≡ false) → Serves (refusal s c (call.Open p f mode)) s c (call.Open p f mode) (reply.Descriptor d) (record m { clients = new })

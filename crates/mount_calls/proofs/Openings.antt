@@ -13,7 +13,7 @@ use Rattle.plain_model.specs.Changes.{new_handle, view_by, view_of}
 use Rattle.plain_model.proofs.Looking.{when-not}
 use Rattle.layer_tree.specs.Tree.{mark_at}
 use Rattle.merged_lookup.specs.Merged.{upper_of}
-use Rattle.ov_base.specs.declared.source.Source.{Source}
+use Rattle.ov_base.specs.declared.place.Place.{Place}
 use Rattle.std.proofs.lemmas.Bool.{lt-ltb}
 use Rattle.merged_lookup.proofs.Filled.{IsInodeOf, raw-inode}
 use Rattle.merged_lookup.proofs.Looking.{inode_in, inode-shown}
@@ -32,7 +32,7 @@ use Rattle.std.specs.Ordering.{nat_cmp}
 use Rattle.notice_laws.proofs.Numbers.{some-is}
 use Rattle.mount_calls.specs.Attaching.{ChangesClient}
 use Rattle.mount_calls.specs.FreeDescriptors.{IsFull, IsLowestFree}
-use Rattle.mount_calls.specs.Files.{is_leaf, low_place, read_mark, IsFrozen, IsKept, KeepsBytes, IsOf, IsOpenOn, AreOne, SeesFile, source_at, file_at}
+use Rattle.mount_calls.specs.Files.{is_leaf, read_mark, IsFrozen, IsKept, KeepsBytes, IsOf, IsOpenOn, AreOne, SeesFile, source_at, file_at}
 use Rattle.mount_calls.specs.Opening.{inode_refusal, OpensAt, OpensFile}
 use Rattle.mount_calls.specs.States.{IsLeft, AreTables, IsStateOf, Serves}
 use Rattle.mount_calls.proofs.Answering.{serve-done}
@@ -101,20 +101,20 @@ source-below : (j k : ℕ) → source_at (record { layer = suc j; key = k }) ≡
 source-below j k = ap (λ b. cond b (Upper k) (Lower (suc j) k)) (ne_eqb (suc j) 0 (λ e. absurd (omega arith)))
 
 -- who writes keeps no bytes
-pub writes-kept : (lowers : List Layer) (q : Option Path) (low : Option Source) (b z : Bool) → b ≡ true → IsKept lowers (cond (b || z) None q) low → low ≡ None
+pub writes-kept : (lowers : List Layer) (q : Option Path) (low : Option Place) (b z : Bool) → b ≡ true → IsKept lowers (cond (b || z) None q) low → low ≡ None
 writes-kept lowers q low b z on kept = subst (λ x. IsKept lowers (cond (x || z) None q) low) on kept
 
 -- nor who opens a file of a lower layer
-below-kept : (lowers : List Layer) (q : Option Path) (low : Option Source) (b z : Bool) → z ≡ true → IsKept lowers (cond (b || z) None q) low → low ≡ None
+below-kept : (lowers : List Layer) (q : Option Path) (low : Option Place) (b z : Bool) → z ≡ true → IsKept lowers (cond (b || z) None q) low → low ≡ None
 below-kept lowers q low true z on kept = kept
 below-kept lowers q low false z on kept = subst (λ x. IsKept lowers (cond x None q) low) on kept
 
 -- who reads a file of the upper alone keeps those at its mark
-reads-kept : (lowers : List Layer) (q : Option Path) (low : Option Source) (b : Bool) → b ≡ false → IsKept lowers (cond (b || false) None q) low → IsKept lowers q low
+reads-kept : (lowers : List Layer) (q : Option Path) (low : Option Place) (b : Bool) → b ≡ false → IsKept lowers (cond (b || false) None q) low → IsKept lowers q low
 reads-kept lowers q low b off kept = subst (λ x. IsKept lowers (cond (x || false) None q) low) off kept
 
 -- and sees the file as it comes to be, but for those
-kept-view : (l : Layers) (k : ℕ) (i : Inode) (bytes : List ℕ) (low : Option Source) (h : Handle) → (upper_of l).inodes k ≡ Some i → i.content ≡ content.File bytes → IsKept (lowers_of l) (mark_at l.upper k) low → h.view ≡ inode_view 0 (Some i) → h.writes ≡ false → SeesFile (lowers_of l) low h
+kept-view : (l : Layers) (k : ℕ) (i : Inode) (bytes : List ℕ) (low : Option Place) (h : Handle) → (upper_of l).inodes k ≡ Some i → i.content ≡ content.File bytes → IsKept (lowers_of l) (mark_at l.upper k) low → h.view ≡ inode_view 0 (Some i) → h.writes ≡ false → SeesFile (lowers_of l) low h
 kept-view l k i bytes low h is file kept view alone = by i.mark refl (subst (λ q. IsKept (lowers_of l) q low) (mark-there l k i is) kept)
   where
     seen-so : (q : Option Path) → i.mark ≡ q → h.view ≡ view_by (Own (is_some q)) bytes i.attributes
@@ -124,7 +124,7 @@ kept-view l k i bytes low h is file kept view alone = by i.mark refl (subst (λ 
     by None e none = subst (λ x. SeesFile (lowers_of l) x h) (sym none) (seen-so None e)
     by (Some q) e there =
         let keeps : KeepsBytes (lowers_of l) there.0 h =
-        record { bytes = bytes; low = low-shown l k i bytes q (low_place there.0) is e file there.2; view = seen-so (Some q) e; reads_alone = alone } in
+        record { bytes = bytes; low = low-shown l k i bytes q there.0 is e file there.2; view = seen-so (Some q) e; reads_alone = alone } in
         subst (λ x. SeesFile (lowers_of l) x h) (sym there.1) keeps
 
 -- a node that is seen as a file or link is one
@@ -325,7 +325,7 @@ module _ (m : Mount) (s : State) (st : IsStateOf m s) (c : ℕ) where
           }
 
       -- the handle that the machine makes for a file is of its inode
-      of-shown : (j k : ℕ) → IsShownFile (shows 0 (the_layers m) p) j k → f.writes ≡ false → (o : OpensReading (the_layers m) s c p f mode) → (low : Option Source) → IsKept (the_lowers m) (read_mark m.layers (record { layer = j; key = k }) f.writes) low → IsOf (the_upper m) (the_lowers m) s.tree (source_at (record { layer = j; key = k })) low (new_handle f o.node (way_of s.tree p) (s.tree o.node))
+      of-shown : (j k : ℕ) → IsShownFile (shows 0 (the_layers m) p) j k → f.writes ≡ false → (o : OpensReading (the_layers m) s c p f mode) → (low : Option Place) → IsKept (the_lowers m) (read_mark m.layers (record { layer = j; key = k }) f.writes) low → IsOf (the_upper m) (the_lowers m) s.tree (source_at (record { layer = j; key = k })) low (new_handle f o.node (way_of s.tree p) (s.tree o.node))
       of-shown zero k file w o low kept = (
         law_of_live_shown (the_upper m) (the_lowers m) s st.layers p k file.inode file.bytes o.node file.shown file.content o.at,
         kept-view m.layers k file.inode file.bytes low (new_handle f o.node (way_of s.tree p) (s.tree o.node))
@@ -337,7 +337,7 @@ module _ (m : Mount) (s : State) (st : IsStateOf m s) (c : ℕ) where
           (frozen j k file w o, below-kept (the_lowers m) (mark_at m.layers.upper k) low f.writes (nat_lt 0 (suc j)) (lt-ltb 0 (suc j) (omega arith)) kept)
 
       -- an open of a file
-      pub open-file : (place : Place) → ShowsInode m.layers p place → f.writes ≡ false → (low : Option Source) → IsKept (the_lowers m) (read_mark m.layers place f.writes) low → (d : ℕ) (new : Clients) → OpensFile m.clients new c d (file_at place f low) (Ok tt) → Serves (refusal s c asked) s c asked (reply.Descriptor d) (record m { clients = new })
+      pub open-file : (place : Place) → ShowsInode m.layers p place → f.writes ≡ false → (low : Option Place) → IsKept (the_lowers m) (read_mark m.layers place f.writes) low → (d : ℕ) (new : Clients) → OpensFile m.clients new c d (file_at place f low) (Ok tt) → Serves (refusal s c asked) s c asked (reply.Descriptor d) (record m { clients = new })
       open-file place i w low kept d new ch =
           let file : IsShownFile (shows 0 (the_layers m) p) place.layer place.key = file-there place i in
           let there : is_some (shows 0 (the_layers m) p) ≡ true = ap is_some file.shown in

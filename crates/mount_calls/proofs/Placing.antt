@@ -21,7 +21,7 @@ use Rattle.copy_up.specs.Showing.{GainsParents, KeepsPath}
 use Rattle.copy_up.proofs.Texts.{texts-gained}
 use Rattle.rename_redirect.specs.Renaming.{KeepsMoved}
 use Rattle.work_dir.specs.declared.next.Lack.TheVariants as lack
-use Rattle.ov_base.specs.declared.source.Source.{Source}
+use Rattle.ov_base.specs.declared.place.Place.{Place}
 use Rattle.mount_calls.specs.Keeping.{BringsNone, KeepsAround, KeepsLayers, KeepsRenamed, LeavesPaths, marked_path}
 use Rattle.mount_calls.specs.Lacks.{file_lack, lack_among, lack_of, lacking, lacking_to, copied_file, data_at, parent_lack, path_of_call, CanBeHad, OpensToChange}
 use Rattle.mount_calls.specs.declared.mount.Mount.{Mount}
@@ -31,7 +31,7 @@ use Rattle.mount_calls.proofs.Frames.{around-parents, none-parents}
 use Rattle.mount_calls.proofs.Lacking.{rename_lack, open_lack}
 
 -- a rename that lacks a parent is not of one object
-apart-lacking : (U : Layer) (p q : Path) (one : Bool) (file : Option Source) (second : Bool) (count : ℕ) → rename_lack U p q one file ≡ lack.Parent second count → one ≡ false
+apart-lacking : (U : Layer) (p q : Path) (one : Bool) (file : Option Place) (second : Bool) (count : ℕ) → rename_lack U p q one file ≡ lack.Parent second count → one ≡ false
 apart-lacking U p q true file second count h = cc
 apart-lacking U p q false file second count h = refl
 
@@ -133,20 +133,20 @@ opening-shown Ls p f mode free h =
 
 -- a call lacks nothing whose paths have their parents, and whose file is the upper's
 module _ (U : Layer) where
-  pub nothing-one : (p : Path) (file : Option Source) → lacking U p ≡ None → file ≡ None → lack_among U false (p ∷ []) file ≡ lack.Nothing
+  pub nothing-one : (p : Path) (file : Option Place) → lacking U p ≡ None → file ≡ None → lack_among U false (p ∷ []) file ≡ lack.Nothing
   nothing-one p file h e = ap₂ (λ o d. parent_lack false o (file_lack d)) h e
 
-  pub nothing-both : (p q : Path) (file : Option Source) → lacking U p ≡ None → lacking U q ≡ None → file ≡ None → lack_among U false (p ∷ (q ∷ [])) file ≡ lack.Nothing
+  pub nothing-both : (p q : Path) (file : Option Place) → lacking U p ≡ None → lacking U q ≡ None → file ≡ None → lack_among U false (p ∷ (q ∷ [])) file ≡ lack.Nothing
   nothing-both p q file h g e = ap₂ (λ o l. parent_lack false o l) h (ap₂ (λ o d. parent_lack true o (file_lack d)) g e)
 
-  pub nothing-moved : (p q : Path) (one : Bool) (file : Option Source) → lacking U p ≡ None → lacking U q ≡ None → file ≡ None → rename_lack U p q one file ≡ lack.Nothing
+  pub nothing-moved : (p q : Path) (one : Bool) (file : Option Place) → lacking U p ≡ None → lacking U q ≡ None → file ≡ None → rename_lack U p q one file ≡ lack.Nothing
   nothing-moved p q true file h g e = refl
   nothing-moved p q false file h g e = nothing-both p q file h g e
 
-  pub nothing-read : (p : Path) (writes absent : Bool) (d : Option Source) → writes ≡ false → absent ≡ false → open_lack U p writes absent d ≡ lack.Nothing
+  pub nothing-read : (p : Path) (writes absent : Bool) (d : Option Place) → writes ≡ false → absent ≡ false → open_lack U p writes absent d ≡ lack.Nothing
   nothing-read p writes absent d h g = ap₂ (λ w b. open_lack U p w b d) h g
 
-  pub nothing-opened : (p : Path) (writes absent : Bool) (d : Option Source) → lacking U p ≡ None → d ≡ None → open_lack U p writes absent d ≡ lack.Nothing
+  pub nothing-opened : (p : Path) (writes absent : Bool) (d : Option Place) → lacking U p ≡ None → d ≡ None → open_lack U p writes absent d ≡ lack.Nothing
   nothing-opened p true absent d h e = nothing-one p d h e
   nothing-opened p false true d h e = nothing-one p None h refl
   nothing-opened p false false d h e = refl

@@ -19,9 +19,19 @@ module _ (m : Mount) (s : State) (st : IsStateOf m s) (c : ℕ) (p : Path) where
   lists : ListsAttributes (the_layers m) s c p
   lists = law_of_list_attributes (upper_of m.layers) (lowers_of m.layers) s st.layers c p
 
+  -- a get that the layers don't refuse isn't refused
+  pub get-allowed : (n : List ℕ) → get_fault (the_layers m) p n ≡ None →
+      refusal s c (call.GetAttribute p n) ≡ None
+  get-allowed n ok = (gets n).refused ∙ ok
+
+  -- nor is such a list
+  pub list-attributes-allowed : chown_fault (the_layers m) p ≡ None →
+      refusal s c (call.ListAttributes p) ≡ None
+  list-attributes-allowed ok = lists.refused ∙ ok
+
   -- a get of a user attribute that is set
   pub get-done : (n value : List ℕ) → get_fault (the_layers m) p n ≡ None → value_of (shown_user (shows 0 (the_layers m) p)) n ≡ Some value → Serves (refusal s c (call.GetAttribute p n)) s c (call.GetAttribute p n) (reply.Value value) m
-  get-done n value ok is = serve-done _ s c _ _ m ((gets n).refused ∙ ok) (sym ((gets n).answer value is)) st
+  get-done n value ok is = serve-done _ s c _ _ m (get-allowed n ok) (sym ((gets n).answer value is)) st
 
   -- and its refusal
   pub get-refused : (n : List ℕ) (e : Errno) → get_fault (the_layers m) p n ≡ Some e → Serves (refusal s c (call.GetAttribute p n)) s c (call.GetAttribute p n) (reply.Refused e) m
@@ -29,7 +39,7 @@ module _ (m : Mount) (s : State) (st : IsStateOf m s) (c : ℕ) (p : Path) where
 
   -- a list of the user attributes
   pub list-attributes-done : (names : List (List ℕ)) → chown_fault (the_layers m) p ≡ None → names ≡ map (λ x. x.0) (shown_user (shows 0 (the_layers m) p)) → Serves (refusal s c (call.ListAttributes p)) s c (call.ListAttributes p) (reply.AttributeNames names) m
-  list-attributes-done names ok is = serve-done _ s c _ _ m (lists.refused ∙ ok) (ap reply.AttributeNames is ∙ sym lists.answer) st
+  list-attributes-done names ok is = serve-done _ s c _ _ m (list-attributes-allowed ok) (ap reply.AttributeNames is ∙ sym lists.answer) st
 
   -- and its refusal
   pub list-attributes-refused : (e : Errno) → chown_fault (the_layers m) p ≡ Some e → Serves (refusal s c (call.ListAttributes p)) s c (call.ListAttributes p) (reply.Refused e) m

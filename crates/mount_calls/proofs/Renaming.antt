@@ -10,14 +10,12 @@ use Rattle.mount_calls.proofs.Words.{after, AreLayers, At, Attributes, base, Err
 use Rattle.ov_base.specs.declared.call.Call.TheVariants as call
 use Rattle.ov_base.specs.declared.errno.Errno.TheVariants.{EBUSY, ENOTDIR, ENOTEMPTY}
 use Rattle.ov_base.specs.declared.reply.Reply.TheVariants as reply
-use Rattle.plain_model.specs.Laws.{IsOutside}
 use Rattle.plain_model.specs.Machine.{has_names, is_below, is_root}
 use Rattle.copy_up.specs.Showing.{StaysThin}
 use Rattle.copy_up.proofs.Keeping.{lowers-same}
 use Rattle.mount_laws.specs.Looks.{parents_fault, walk_fault}
 use Rattle.mount_laws.specs.Removals.{rmdir_fault, ShowsNoName}
-use Rattle.mount_laws.specs.Renaming.{CanMove, is_one, move_fault, rename_fault, Renames, RenamesSame}
-use Rattle.mount_laws.proofs.CanMove.{law_of_can_move}
+use Rattle.mount_laws.specs.Renaming.{is_one, move_fault, rename_fault, Renames, RenamesSame}
 use Rattle.mount_laws.proofs.Renaming.{law_of_rename, law_of_same_rename, told}
 use Rattle.object_table.specs.Opened as places
 use Rattle.object_table.specs.Opened.{NoneBelow}
@@ -29,7 +27,7 @@ use Rattle.mount_calls.specs.Renaming.{RenamesHeld, RenamesOpen, SamePlaces}
 use Rattle.mount_calls.specs.States.{AreTables, HasStateOf, IsHandle, IsOpenAs, IsStateOf, Serves, StaysState}
 use Rattle.mount_calls.proofs.Answering.{serve-done, walk-none}
 use Rattle.mount_calls.proofs.Carrying.{AreCounted, CarriesFiles, files-held, state-stays}
-use Rattle.mount_calls.proofs.Changing.{AreHeld, folder-has, none-below, open-there, refused}
+use Rattle.mount_calls.proofs.Changing.{AreHeld, folder-has, none-below, open-there}
 use Rattle.mount_calls.proofs.Directories.{shown-directory}
 use Rattle.mount_calls.proofs.Lasting.{rename-leaves}
 use Rattle.mount_calls.proofs.Named.{reads-named}
@@ -92,14 +90,6 @@ module _ (m : Mount) (s : State) (st : IsStateOf m s) where
       let there = open-there m s st counted k p is in
       let shown = shown-directory (the_upper m) (the_lowers m) s st.layers p there.0 there.1 there.2 in
       rmdir-fine p (walk_fault (the_layers m) p) (is_directory (shows 0 (the_layers m) p)) root (walk-none m s st c p shown) shown
-
-  -- a rename that is refused, where each open directory stands where it stood
-  pub rename-refused :
-      (new : Layers) (clients : Clients) → SamePlaces m.clients clients → (c : ℕ) (p q : Path) (e : Errno) →
-      refusal s c (call.Rename p q) ≡ Some e → new ≡ m.layers →
-      Serves (refusal s c (call.Rename p q)) s c (call.Rename p q) (reply.Refused e) (record m { layers = new; clients = clients })
-  rename-refused new clients same c p q e =
-      refused (record m { clients = clients }) s (same-state m s st clients same) new c (call.Rename p q) e
 
   module _ (c : ℕ) (p q : Path) (fine : rename_fault (the_upper m) (the_lowers m) m.redirects p q false ≡ None) where
     -- no fault by the state's option
@@ -211,16 +201,6 @@ module _
       (∥∥₁_elim prepared-state ⊥_prop
       (λ x. nowhere (open-found prepared x.0 x.1 0 q root held k is) k (sym (same.places.located k) ∙ is)))
   replaced-copied root (Some a) nowhere k is = refl
-
--- what moves is outside the place that it leaves
-pub outside :
-    (m : Mount) → ∥ HasStateOf m ∥₁ → (p q : Path) → ShowsNoName (the_layers m) q →
-    rename_fault (the_upper m) (the_lowers m) m.redirects p q false ≡ None → is_one (the_upper m) p q ≡ false → IsOutside p q
-outside m state p q bare fine two r e =
-    ∥∥₁_elim state ⊥_prop (λ x. (can x.1.layers.layers).apart r e)
-  where
-    can : AreLayers (the_layers m) → CanMove (the_upper m) (the_lowers m) p q
-    can are = law_of_can_move (the_upper m) (the_lowers m) are m.redirects p q bare fine two
 
 -- and no needless whiteout is left where none is while the layers are ones
 pub thin-on : (m : Mount) (new : Layers) → ∥ HasStateOf m ∥₁ → (AreLayers (the_layers m) → StaysThin m.layers new) → StaysThin m.layers new

@@ -9,7 +9,7 @@ use Rattle.layer_tree.specs.Tree.{layer_of, mark_at, IsHeldTogether}
 use Rattle.merged_lookup.specs.declared.layers.Layers.{Layers}
 use Rattle.merged_lookup.specs.declared.found.Topmost.{Topmost}
 use Rattle.merged_lookup.specs.declared.found.Topmost.TheVariants as topmost
-use Rattle.merged_lookup.specs.declared.stack.Place.{Place}
+use Rattle.ov_base.specs.declared.place.Place.{Place}
 use Rattle.merged_lookup.specs.declared.stack.Stack.{Stack}
 use Rattle.merged_lookup.specs.Merged.{upper_of, layers_of, lowers_of, parent, top_of, IsStackOf, IsTopmost}
 use Rattle.mount_laws.specs.Renaming.{is_one}
@@ -17,7 +17,8 @@ use Rattle.copy_up.proofs.Keeping.{held-on-top}
 use Rattle.work_dir.specs.declared.next.Lack.TheVariants as lack
 use Rattle.mount_calls.specs.declared.look.Look.{Look}
 use Rattle.mount_calls.specs.declared.looks.Looks.{Looks}
-use Rattle.mount_calls.specs.Lacks.{copied_file, data_at, lack_among, lack_of, lacking, marked_file, HasAllAt, HasAllOf}
+use Rattle.mount_calls.specs.Files.{place_below}
+use Rattle.mount_calls.specs.Lacks.{copied_file, data_at, lack_among, lack_of, lacking, HasAllAt, HasAllOf}
 use Rattle.mount_calls.specs.Looking.{looked_paths, AreLooks, IsLook, SawEach}
 use Rattle.mount_calls.proofs.Lacking.{copied-none, low-none}
 use Rattle.mount_calls.proofs.Marks.{data-own, none-mark}
@@ -47,7 +48,7 @@ pub no-low-directory : (l : Layers) (p : Path) (d : Place) → IsTopmost l p (So
 no-low-directory l p d at = ap (data_at (lowers_of l)) at.1
 
 pub no-low-inode : (l : Layers) (p : Path) (d : Place) → IsTopmost l p (Some (topmost.Inode d)) → d.layer ≡ 0 → is_some (mark_at l.upper d.key) ≡ false → data_at (lowers_of l) (shows 0 (layers_of l) p) ≡ None
-no-low-inode l p d at own bare = sym (data-own l p d at own) ∙ ap (marked_file (lowers_of l)) (none-mark (mark_at l.upper d.key) bare)
+no-low-inode l p d at own bare = sym (data-own l p d at own) ∙ ap (place_below (lowers_of l)) (none-mark (mark_at l.upper d.key) bare)
 
 -- so it is no file of a lower layer
 own : (l : Layers) (metacopy : Bool) (p : Path) → HasAllAt l p → copied_file metacopy (shows 0 (layers_of l) p) ≡ None

@@ -1,7 +1,7 @@
 -- The handles of what a client has open, and the states in which one of its descriptors changes.
 use Rattle.std.proofs.Common.{◌≡◌, ℕ, ◌<◌, true, List, Option, None, Some, refl, sym, ap, ◌∙◌, subst, is_some, length, option_map, arith}
 use Rattle.mount_calls.proofs.Words.{ChangesSlot, DESCRIPTORS_MAX, Directory, File, file_in, FileSource, Handle, handle_of, handles_of, IsLive, Layer, Lower, NodeId, OpenDirectory, OpenFile, SetsSlot, State, Tree, Upper, with_handle, with_place}
-use Rattle.ov_base.specs.declared.source.Source.{Source}
+use Rattle.ov_base.specs.declared.place.Place.{Place}
 use Rattle.open_handles.specs.declared.handle.Handle as handles
 use Rattle.mount_calls.specs.declared.clients.Clients.{Clients}
 use Rattle.mount_calls.specs.declared.mount.Mount.{Mount}
@@ -34,17 +34,17 @@ pub file-open : (o : Option handles.Handle) (f : OpenFile) → file_in o ≡ Som
 file-open o f h = grind arith
 
 -- a handle on a file of the upper is on a live one
-pub upper-live : (U : Layer) (lowers : List Layer) (t : Tree) (x : FileSource) (low : Option Source) (h : Handle) (k : ℕ) → x ≡ Upper k → IsOf U lowers t x low h → IsLive U t h.node k × SeesFile lowers low h
+pub upper-live : (U : Layer) (lowers : List Layer) (t : Tree) (x : FileSource) (low : Option Place) (h : Handle) (k : ℕ) → x ≡ Upper k → IsOf U lowers t x low h → IsLive U t h.node k × SeesFile lowers low h
 upper-live U lowers t (Upper j) low h k is of = let e : j ≡ k = cc in (subst (λ z. IsLive U t h.node z) e of.0, of.1)
 upper-live U lowers t (Lower i j) low h k is of = cc
 
 -- a handle that sees as another saw sees the same of a file of the upper
-sees-on : (lowers : List Layer) (low : Option Source) (h g : Handle) → g.view ≡ h.view → g.writes ≡ h.writes → SeesFile lowers low h → SeesFile lowers low g
+sees-on : (lowers : List Layer) (low : Option Place) (h g : Handle) → g.view ≡ h.view → g.writes ≡ h.writes → SeesFile lowers low h → SeesFile lowers low g
 sees-on lowers None h g view writes s = view ∙ s
 sees-on lowers (Some d) h g view writes s = record { bytes = s.bytes; low = s.low; view = view ∙ s.view; reads_alone = writes ∙ s.reads_alone }
 
 -- a handle that sees as another saw, where live files stay so and files stay files, is of the inode that that was of
-pub of-on : (U V : Layer) (lowers : List Layer) (t u : Tree) (x : FileSource) (low : Option Source) (h g : Handle) → g.view ≡ h.view → g.writes ≡ h.writes → ((k : ℕ) → x ≡ Upper k → IsLive U t h.node k → IsLive V u g.node k) → (is_leaf (t h.node) ≡ true → is_leaf (u g.node) ≡ true) → IsOf U lowers t x low h → IsOf V lowers u x low g
+pub of-on : (U V : Layer) (lowers : List Layer) (t u : Tree) (x : FileSource) (low : Option Place) (h g : Handle) → g.view ≡ h.view → g.writes ≡ h.writes → ((k : ℕ) → x ≡ Upper k → IsLive U t h.node k → IsLive V u g.node k) → (is_leaf (t h.node) ≡ true → is_leaf (u g.node) ≡ true) → IsOf U lowers t x low h → IsOf V lowers u x low g
 of-on U V lowers t u (Upper k) low h g view writes live leaf s = (live k refl s.0, sees-on lowers low h g view writes s.1)
 of-on U V lowers t u (Lower j k) low h g view writes live leaf s = (
   record {

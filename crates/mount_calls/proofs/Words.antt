@@ -9,7 +9,7 @@ pub use Rattle.copy_up.specs.Showing.{StaysLayers, StaysMount}
 pub use Rattle.layer_tree.specs.Tree.{bytes_at, file_bytes, inode_of, layer_of}
 pub use Rattle.merged_lookup.specs.Merged.{layers_of, lowers_of, node_in, ShowsInode, trees}
 pub use Rattle.merged_lookup.specs.declared.layers.Layers.{Layers}
-pub use Rattle.merged_lookup.specs.declared.stack.Place.{Place}
+pub use Rattle.ov_base.specs.declared.place.Place.{Place}
 pub use Rattle.mount_laws.specs.Looks.{IsMountOf, or_else, parents_fault, shows_link}
 pub use Rattle.mount_laws.specs.OpenFiles.{IsLive, rewritten}
 pub use Rattle.mount_laws.specs.Opening.{live_handle, opening_fault}

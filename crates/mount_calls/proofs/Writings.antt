@@ -7,7 +7,7 @@ use Rattle.ov_base.specs.declared.bytes.Content.TheVariants as content
 use Rattle.ov_base.specs.declared.call.Call.TheVariants as call
 use Rattle.ov_base.specs.declared.errno.Errno.TheVariants as errno
 use Rattle.ov_base.specs.declared.reply.Reply.TheVariants as reply
-use Rattle.ov_base.specs.declared.source.Source.{Source}
+use Rattle.ov_base.specs.declared.place.Place.{Place}
 use Rattle.plain_model.specs.Layers.{IsLayer}
 use Rattle.plain_model.specs.Tree.{IsThin}
 use Rattle.plain_model.specs.Machine.{bytes_of_node}
@@ -127,7 +127,7 @@ to-upper : (f : OpenFile) → is_none (written_key f) ≡ false → (key : ℕ) 
 to-upper f h = grind arith
 
 -- who writes keeps no bytes
-none-kept : (lowers : List Layer) (low : Option Source) (h : Handle) → SeesFile lowers low h → h.writes ≡ true → low ≡ None
+none-kept : (lowers : List Layer) (low : Option Place) (h : Handle) → SeesFile lowers low h → h.writes ≡ true → low ≡ None
 none-kept lowers None h sees on = refl
 none-kept lowers (Some d) h sees on = absurd (false≢true (sym sees.reads_alone ∙ on))
 
@@ -173,6 +173,11 @@ module _ (m : Mount) (s : State) (st : IsStateOf m s) (c d : ℕ) where
         (λ f h on is. (law_of_truncate s c d h on).refused size ∙ ap (λ b. or_else (when b errno.EINVAL) (when (nat_lt s.options.file_limit size) errno.EFBIG)) (not-writing (the_upper m) (the_lowers m) s.tree f h is) ∙ ap (λ (k : ℕ). or_else (when (is_none (written_key f)) errno.EINVAL) (when (nat_lt k size) errno.EFBIG)) st.limit)
         (λ o h on is. (law_of_directory_handle s c d h on is.directory).sizing (ap (λ (z : Handle). z.writes) is.access) size)
 
+    -- where that isn't there it isn't refused
+    pub truncate-allowed : truncate_fault m.file_limit (opened_by m.clients c d) size ≡ None →
+        refusal s c (call.Truncate d size) ≡ None
+    truncate-allowed good = truncate-refusal ∙ good
+
     -- it is refused so
     pub truncate-refused : (e : Errno) → truncate_fault m.file_limit (opened_by m.clients c d) size ≡ Some e → Truncates (reply.Refused e) m
     truncate-refused e h = serve-refused _ s c _ e m (truncate-refusal ∙ h) st
@@ -180,7 +185,7 @@ module _ (m : Mount) (s : State) (st : IsStateOf m s) (c d : ℕ) where
     -- else the file gets the size
     pub truncate-done : (f : OpenFile) → file_by m.clients c d ≡ Some f → truncate_fault m.file_limit (opened_by m.clients c d) size ≡ None → (new : Layers) → StaysLayers m.layers new → ((k : ℕ) (old : List ℕ) → f.source ≡ Upper k → own_at m.layers.upper k ≡ Some old → SetsFile m.layers new k (sized old size)) → Truncates reply.Done (record m { layers = new })
     truncate-done f is good new keeps sets =
-        serve-done _ s c _ _ (record m { layers = new }) (truncate-refusal ∙ good) (sym (law.answer size))
+        serve-done _ s c _ _ (record m { layers = new }) (truncate-allowed good) (sym (law.answer size))
         (subst (IsStateOf (record m { layers = new })) (ap (λ (t : Tree). record s { tree = t }) (sym same) ∙ sym (law.state size))
         (state-rewritten m s st new w.key h.node bytes (open-on f h w) keeps (sets w.key w.live.bytes w.source (bytes-there f h w))))
       where
@@ -267,11 +272,18 @@ module _ (m : Mount) (s : State) (st : IsStateOf m s) (c d : ℕ) where
         pub write-unfitting : (e : Errno) → count_fitting m.file_limit start (length bytes) ≡ Err e → Writes (reply.Refused e) m
         write-unfitting e none = serve-refused _ s c _ e m (placed-refusal ∙ unfitting m.file_limit (length bytes) start e none) st
 
-        -- else what fits is written, and the handle's place is after it
+        -- else it isn't refused
+        pub write-allowed : (count : ℕ) →
+            count_fitting m.file_limit start (length bytes) ≡ Ok count →
+            refusal s c (call.Write d bytes) ≡ None
+        write-allowed count fit = placed-refusal
+            ∙ (fits m.file_limit (length bytes) start count fit).0
+
+        -- what fits is written, and the handle's place is after it
         pub write-done : nat_eq (length bytes) 0 ≡ false → (count : ℕ) → count_fitting m.file_limit start (length bytes) ≡ Ok count → (given : List ℕ) → given ≡ fitting m.file_limit start bytes → (new : Layers) → StaysLayers m.layers new → ((k : ℕ) (old : List ℕ) → f.source ≡ Upper k → own_at m.layers.upper k ≡ Some old → SetsFile m.layers new k (written old start given)) → (clients : Clients) → ChangesClient m.clients clients c (λ x y. ChangesSlot x y d (with_place (start + count))) → Writes (reply.Written count) (record m { layers = new; clients = clients })
         write-done full count fit given fitted new keeps sets clients moves =
             serve-done _ s c _ _ (record m { layers = new; clients = clients })
-            (placed-refusal ∙ (fits m.file_limit (length bytes) start count fit).0)
+            (write-allowed count fit)
             (ap reply.Written counted ∙ sym (law.answer bytes))
             (subst (IsStateOf (record m { layers = new; clients = clients })) (steps ∙ sym (law.state bytes (some-there bytes full)))
             (place-moved (record m { layers = new }) (record s { tree = rewritten s.tree h.node now }) made c d h w.on f opens (start + count) clients moves))

@@ -38,21 +38,21 @@ abbrev pub AltersStates : Layers → Layers → Bool → Path → Call → Type 
 AltersStates old new metacopy p k =
     (s : State) → IsMountOf (upper_of old) (lowers_of old) s → s.options.metacopy ≡ metacopy → (c : ℕ) → AltersState (upper_of new) (lowers_of new) s c p k
 
--- A call that changes attributes at a path is refused with its fault, where there is one, and
--- changes nothing then; else each state with this option is altered as the call alters it, and the key is that under
--- which the upper has what the path shows. Files that are open stay live. An allocation failure
--- leaves all that is shown, and no call changes a lower layer, nor what the upper holds around the
--- path, but for missing parents of it that it gains, and no mark but for one of the path's spelling.
-pub record AltersUnless (x : AttributeCall) (old new : Layers) (metacopy : Bool) (p : Path) (result : Result (Result ℕ Errno) AllocError) : Type 0 where
-  pub refused : IfOk result (λ r. IfErr r (λ e. asked_fault (layers_of old) p x ≡ Some e))
-  pub unchanged : IfOk result (λ r. OnErr r (new ≡ old))
-  pub allowed : IfOk result (λ r. OnOk r (asked_fault (layers_of old) p x ≡ None))
-  pub alters : IfOk result (λ r. OnOk r (AltersStates old new metacopy p (call_at p x)))
-  pub key : IfOk result (λ r. IfOk r (λ k. number_of (held (layer_of new.upper) p) ≡ Some k))
+-- A call that changes attributes at a path, and was judged, alters each state with this option as the
+-- call alters it, and the key is that under which the upper has what the path shows. Files that are
+-- open stay live. An allocation failure leaves all that is shown, and no call changes a lower
+-- layer,
+-- nor what the upper holds around the path, but for missing parents of it that it gains, and no
+-- mark
+-- but for one of the path's spelling.
+pub record AltersUnless (x : AttributeCall) (old new : Layers) (metacopy : Bool) (p : Path)
+    (result : Result ℕ AllocError) : Type 0 where
+  pub alters : OnOk result (AltersStates old new metacopy p (call_at p x))
+  pub key : IfOk result (λ k. number_of (held (layer_of new.upper) p) ≡ Some k)
   pub lowers : new.lowers ≡ old.lowers
   pub around : KeepsAround old new p
   pub texts : KeepsTexts old new (Some p)
-  pub live : IfOk result (λ r. OnOk r (KeepsLive old new metacopy (call_at p x)))
+  pub live : OnOk result (KeepsLive old new metacopy (call_at p x))
   pub no_memory : OnErr result (ChangesNoSight old new (StaysLive old new))
   pub sound : StaysSound old new
 

@@ -5,13 +5,12 @@ use Rattle.ov_base.specs.declared.attributes.Attributes.{Attributes}
 use Rattle.ov_base.specs.declared.bytes.Content.TheVariants as content
 use Rattle.ov_base.specs.declared.call.OpenFlags.{OpenFlags}
 use Rattle.ov_base.specs.declared.node_id.NodeId.{NodeId}
-use Rattle.ov_base.specs.declared.source.Source.{Source}
+use Rattle.ov_base.specs.declared.place.Place.{Place}
 use Rattle.layer_tree.specs.Tree.{mark_at}
 use Rattle.plain_model.specs.Layers.{Path, Inode, Layer, shows}
 use Rattle.plain_model.specs.Tree.{Node, Leaf, Tree, is_data_low}
 use Rattle.plain_model.specs.Machine.{Live, Frozen, Kept, Handle, Table, handle_of}
 use Rattle.merged_lookup.specs.declared.layers.Layers.{Layers}
-use Rattle.merged_lookup.specs.declared.stack.Place.{Place}
 pub use Rattle.merged_lookup.specs.Lower.{lower_inode}
 use Rattle.merged_lookup.specs.Lower.{lower_bytes}
 use Rattle.merged_lookup.specs.Marking.{file_place}
@@ -33,21 +32,17 @@ abbrev pub source_inode : Layer → List Layer → FileSource → Option Inode
 source_inode U lowers (Upper k) = U.inodes k
 source_inode U lowers (Lower layer k) = lower_inode lowers layer k
 
--- where a lower file is
-abbrev pub low_place : Source → Place
-low_place d = record { layer = d.layer; key = d.key }
-
 -- an inode as of a file of these bytes
 abbrev pub with_file : List ℕ → Inode → Inode
 with_file bytes i = record i { content = content.File bytes }
 
 -- the inode of an open file with the bytes that it keeps
-abbrev pub with_kept : List Layer → Option Source → Option Inode → Option Inode
+abbrev pub with_kept : List Layer → Option Place → Option Inode → Option Inode
 with_kept lowers None o = o
-with_kept lowers (Some d) o = option_map (with_file (unwrap_or (lower_bytes lowers (low_place d)) [])) o
+with_kept lowers (Some d) o = option_map (with_file (unwrap_or (lower_bytes lowers d) [])) o
 
 -- the inode that an open file is, as it sees it
-abbrev pub seen_inode : Layer → List Layer → FileSource → Option Source → Option Inode
+abbrev pub seen_inode : Layer → List Layer → FileSource → Option Place → Option Inode
 seen_inode U lowers source low = with_kept lowers low (source_inode U lowers source)
 
 -- whether a node is a file or a symbolic link
@@ -68,19 +63,19 @@ pub record IsFrozen (lowers : List Layer) (t : Tree) (layer k : ℕ) (h : Handle
   pub reads_alone : h.writes ≡ false
 
 -- A handle for reading alone keeps the bytes of a lower file: those that a marked file of the upper had as it was opened.
-pub record KeepsBytes (lowers : List Layer) (d : Source) (h : Handle) : Type 0 where
+pub record KeepsBytes (lowers : List Layer) (d : Place) (h : Handle) : Type 0 where
   pub bytes : List ℕ
-  pub low : lower_bytes lowers (low_place d) ≡ Some bytes
+  pub low : lower_bytes lowers d ≡ Some bytes
   pub view : h.view ≡ Kept bytes
   pub reads_alone : h.writes ≡ false
 
 -- what a handle sees of a file of the upper: all as it comes to be, or but for the bytes that it keeps
-abbrev pub SeesFile : List Layer → Option Source → Handle → Type 0
+abbrev pub SeesFile : List Layer → Option Place → Handle → Type 0
 SeesFile lowers None h = h.view ≡ Live
 SeesFile lowers (Some d) h = KeepsBytes lowers d h
 
 -- a handle is of the inode that an open file is, with the bytes that it keeps
-abbrev pub IsOf : Layer → List Layer → Tree → FileSource → Option Source → Handle → Type 0
+abbrev pub IsOf : Layer → List Layer → Tree → FileSource → Option Place → Handle → Type 0
 IsOf U lowers t (Upper k) low h = IsLive U t h.node k × SeesFile lowers low h
 IsOf U lowers t (Lower layer k) low h = IsFrozen lowers t layer k h × (low ≡ None)
 
@@ -122,7 +117,7 @@ source_place (Upper k) = record { layer = 0; key = k }
 source_place (Lower layer k) = record { layer = layer; key = k }
 
 -- a file that is opened with these flags, where it is shown at this place, with the bytes that it keeps
-abbrev pub file_at : Place → OpenFlags → Option Source → OpenFile
+abbrev pub file_at : Place → OpenFlags → Option Place → OpenFile
 file_at d f low = record { source = source_at d; low = low; reads = f.reads; writes = f.writes; append = f.append; place = 0 }
 
 -- the place of the file that the lower layers show at a mark
@@ -135,9 +130,9 @@ abbrev pub read_mark : Layers → Place → Bool → Option Path
 read_mark l d writes = cond (writes || nat_lt 0 d.layer) None (mark_at l.upper d.key)
 
 -- of a file with a mark the lower file that is shown there is kept, and else none
-abbrev pub IsKept : List Layer → Option Path → Option Source → Type 0
+abbrev pub IsKept : List Layer → Option Path → Option Place → Type 0
 IsKept lowers None low = low ≡ None
-IsKept lowers (Some q) low = (d : Source) × (low ≡ Some d) × (file_place (shows 1 lowers q) ≡ Some (low_place d))
+IsKept lowers (Some q) low = (d : Place) × (low ≡ Some d) × (file_place (shows 1 lowers q) ≡ Some d)
 
 -- a client has the upper's file of this key open
 pub record HasFile (clients : Clients) (k : ℕ) : Type 0 where

@@ -15,7 +15,7 @@ use Rattle.plain_model.specs.Machine.{State}
 use Rattle.plain_model.specs.Refusals.{refusal}
 use Rattle.layer_tree.specs.Tree.{layer_of}
 use Rattle.merged_lookup.specs.declared.layers.Layers.{Layers}
-use Rattle.merged_lookup.specs.declared.stack.Place.{Place}
+use Rattle.ov_base.specs.declared.place.Place.{Place}
 use Rattle.merged_lookup.specs.Lower.{lower_bytes}
 use Rattle.merged_lookup.specs.Merged.{upper_of, layers_of, lowers_of, parent, parents_fault}
 use Rattle.mount_laws.specs.Renaming.{is_one}
@@ -24,7 +24,6 @@ use Rattle.copy_up.specs.declared.needs.Need.TheVariants as need
 use Rattle.copy_up.specs.Needs.{IsNeed}
 use Rattle.work_dir.specs.declared.next.Lack.{Lack}
 use Rattle.work_dir.specs.declared.next.Lack.TheVariants as lacks
-use Rattle.ov_base.specs.declared.source.Source.{Source}
 use Rattle.mount_calls.specs.declared.mount.Mount.{Mount}
 use Rattle.mount_calls.specs.Files.{place_below}
 use Rattle.mount_calls.specs.States.{IsStateOf}
@@ -83,38 +82,30 @@ changed_paths U lowers (call.Rename old new) = cond (is_one U old new) [] (old �
 changed_paths U lowers _ = []
 
 -- where a file is; a symbolic link is no file
-abbrev pub source_of : ℕ → ℕ → Content → Option Source
+abbrev pub source_of : ℕ → ℕ → Content → Option Place
 source_of layer key (content.File bytes) = Some (record { layer = layer; key = key })
 source_of layer key (content.SymbolicLink target) = None
 
 -- where a file of a lower layer is that is shown
-abbrev pub low_file : Option Shown → Option Source
+abbrev pub low_file : Option Shown → Option Place
 low_file (Some (Contents layer key (Some i))) =
     cond (nat_lt 0 layer) (source_of layer key i.content) None
 low_file _ = None
 
--- what stands at a place of a lower layer
-abbrev pub source_in : Place → Source
-source_in d = record { layer = d.layer; key = d.key }
-
--- where the lower file is whose bytes a marked file shows
-abbrev pub marked_file : List Layer → Option Path → Option Source
-marked_file lowers m = option_map source_in (place_below lowers m)
-
 -- where the bytes are of a file that is shown, if they are a lower file's: its own, or those that a
 -- marked file of the upper shows
-abbrev pub data_at : List Layer → Option Shown → Option Source
-data_at lowers (Some (Contents zero key (Some i))) = marked_file lowers i.mark
+abbrev pub data_at : List Layer → Option Shown → Option Place
+data_at lowers (Some (Contents zero key (Some i))) = place_below lowers i.mark
 data_at lowers s = low_file s
 
 -- where the bytes are that a change of attributes or names copies up: those of a lower file that is
 -- shown, and none where files are copied up without them
-abbrev pub copied_file : Bool → Option Shown → Option Source
+abbrev pub copied_file : Bool → Option Shown → Option Place
 copied_file metacopy s = cond metacopy None (low_file s)
 
 -- where the bytes are that a call copies up: of a file that it changes, links or moves, and of one
 -- that it opens for writing, marked or not
-abbrev pub data_place : Layer → List Layer → Bool → Call → Option Source
+abbrev pub data_place : Layer → List Layer → Bool → Call → Option Place
 data_place U lowers metacopy (call.Chmod p mode) = copied_file metacopy (shows 0 (U ∷ lowers) p)
 data_place U lowers metacopy (call.Chown p uid gid) = copied_file metacopy (shows 0 (U ∷ lowers) p)
 data_place U lowers metacopy (call.SetAttribute p n v) = copied_file metacopy (shows 0 (U ∷ lowers) p)
@@ -126,7 +117,7 @@ data_place U lowers metacopy (call.Rename old new) =
 data_place U lowers metacopy _ = None
 
 -- a file's bytes, where some are lacking
-abbrev pub file_lack : Option Source → Lack
+abbrev pub file_lack : Option Place → Lack
 file_lack None = lacks.Nothing
 file_lack (Some d) = lacks.File d
 
@@ -137,7 +128,7 @@ parent_lack second None besides = besides
 parent_lack second (Some count) besides = lacks.Parent second count
 
 -- the first of what is lacking on the way to these paths, and last a file's bytes
-abbrev pub lack_among : Layer → Bool → List Path → Option Source → Lack
+abbrev pub lack_among : Layer → Bool → List Path → Option Place → Lack
 lack_among U second [] d = file_lack d
 lack_among U second (p ∷ ps) d =
     parent_lack second (lacking U p) (lack_among U true ps d)
@@ -160,7 +151,7 @@ HasAllOf l (p ∷ []) = HasAllAt l p
 HasAllOf l (p ∷ (q ∷ qs)) = HasAllAt l p × (lacking (layer_of l.upper) q ≡ None)
 
 -- the bytes of a lower file
-abbrev pub bytes_at : List Layer → Source → Option (List ℕ)
+abbrev pub bytes_at : List Layer → Place → Option (List ℕ)
 bytes_at lowers d = lower_bytes lowers (record { layer = d.layer; key = d.key })
 
 -- how many bytes the file has that is lacking

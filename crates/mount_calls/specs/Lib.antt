@@ -15,5 +15,6 @@ pub mod AttributeCalls
 pub mod Altering
 pub mod Living
 pub mod Looking
+pub mod JudgedNames
 pub mod Renaming
 pub mod Reading

@@ -1,5 +1,5 @@
 -- What a call says that a mount made for a client.
-use Rattle.std.specs.Prelude.{◌≡◌, ℕ, None, Result, IfOk, OnErr}
+use Rattle.std.specs.Prelude.{◌≡◌, ℕ, None, Some, Result, IfOk, OnErr}
 use Rattle.std.specs.declared.alloc.AllocError.{AllocError}
 use Rattle.ov_base.specs.declared.call.Call.{Call}
 use Rattle.ov_base.specs.declared.errno.Errno.{Errno}
@@ -13,6 +13,14 @@ use Rattle.mount_calls.specs.Attaching.{KeepsAttached}
 use Rattle.mount_calls.specs.Keeping.{KeepsLayers}
 use Rattle.mount_calls.specs.Living.{KeepsNamed, StaysLive}
 use Rattle.mount_calls.specs.States.{IsStateOf, Serves, StaysState}
+
+-- each state that the mount stands for refuses the call so, whoever makes it
+abbrev pub Refuses : Mount → Call → Errno → Type 0
+Refuses m k e = (c : ℕ) (s : State) → IsStateOf m s → refusal s c k ≡ Some e
+
+-- none of them refuses it
+abbrev pub Allows : Mount → Call → Type 0
+Allows m k = (c : ℕ) (s : State) → IsStateOf m s → refusal s c k ≡ None
 
 -- each state that the mount stood for answers the call so, and the mount stands for the state after it
 abbrev pub ServesEach : ℕ → Call → Mount → Mount → Reply → Type 0

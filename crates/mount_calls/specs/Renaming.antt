@@ -1,11 +1,9 @@
 -- What renames leave of what is open (POSIX.1-2017, rename(): a directory or file that is open stays so, also where it is replaced).
-use Rattle.std.specs.Prelude.{◌≡◌, ℕ, Bool, true, false, Option, Some, option_map}
+use Rattle.std.specs.Prelude.{◌≡◌, ℕ, Bool, false, Option, option_map}
 use Rattle.ov_base.specs.declared.attributes.Attributes.{Attributes}
 use Rattle.ov_base.specs.declared.call.Call.TheVariants as call
-use Rattle.ov_base.specs.declared.errno.Errno.{Errno}
 use Rattle.plain_model.specs.Layers.{Path}
 use Rattle.plain_model.specs.Machine.{State}
-use Rattle.plain_model.specs.Refusals.{refusal}
 use Rattle.layer_tree.specs.Tree.{layer_of}
 use Rattle.merged_lookup.specs.declared.layers.Layers.{Layers}
 use Rattle.merged_lookup.specs.Merged.{upper_of, layers_of, lowers_of}
@@ -33,12 +31,6 @@ pub record RenamesOpen (old new : Clients) (p q : Path) (replaced : Option Attri
   pub places : Moves old.directories new.directories p q (option_map unlisted.Removed replaced)
   pub next : new.next ≡ old.next
 
--- rename is refused so in every state with this option whose mount has these layers
-abbrev pub RefusesRenames : Layers → Bool → Path → Path → Errno → Type 0
-RefusesRenames l redirects p q e =
-    (s : State) → IsMountOf (upper_of l) (lowers_of l) s → s.options.redirects ≡ redirects →
-    (c : ℕ) → refusal s c (call.Rename p q) ≡ Some e
-
 -- What p shows moves to q, in which no name was shown, and leaves these marks: every state with these options goes on so by rename, and of
 -- the upper's files what handles hold stays live, and what has a name then.
 pub record RenamesHeld (clients : Clients) (old new : Layers) (redirects metacopy : Bool) (p q : Path) : Type 0 where
@@ -54,8 +46,3 @@ pub record RenamesHeld (clients : Clients) (old new : Layers) (redirects metacop
       (s : State) → IsMountOf (upper_of old) (lowers_of old) s → s.options.redirects ≡ redirects →
       s.options.metacopy ≡ metacopy → (c : ℕ) →
       KeepsNamed s c old new (call.Rename p q)
-
--- the object moved, or both paths were one object and nothing changed
-abbrev pub MovesOrStays : Bool → Clients → Layers → Layers → Bool → Bool → Path → Path → Type 0
-MovesOrStays true clients old new redirects metacopy p q = RenamesHeld clients old new redirects metacopy p q
-MovesOrStays false clients old new redirects metacopy p q = (is_one (layer_of old.upper) p q ≡ true) × (new ≡ old)

@@ -68,12 +68,8 @@ abbrev pub target_reply : Option (List ℕ) → Reply
 target_reply None = reply.Refused EINVAL
 target_reply (Some target) = reply.Target target
 
--- how a change is answered that was made, whatever it tells, or that was refused
-abbrev pub outcome_reply : {A : Type 0} → Result A Errno → Reply
-outcome_reply (Ok told) = reply.Done
-outcome_reply (Err errno) = reply.Refused errno
-
--- and how it is answered where memory may run out
-abbrev pub outcome_result : {A : Type 0} → Result (Result A Errno) AllocError → Result Reply AllocError
-outcome_result (Ok outcome) = Ok (outcome_reply outcome)
-outcome_result (Err e) = Err e
+-- how a change is answered that was judged before: it is done, whatever it tells, or memory runs
+-- out
+abbrev pub done_result : {A : Type 0} → Result A AllocError → Result Reply AllocError
+done_result (Ok told) = Ok reply.Done
+done_result (Err e) = Err e

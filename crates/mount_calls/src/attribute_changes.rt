@@ -6,7 +6,7 @@ ghost use Rattle.ov_base.specs.declared.attributes.Attributes.{Attributes};
 ghost use Rattle.plain_model.specs.Changes.{with_mode};
 ghost use Rattle.plain_model.specs.Layers.{Path as Names};
 ghost use Rattle.plain_model.specs.Refusals.{bad_mode, bad_attribute};
-ghost use Rattle.mount_calls.specs.Altering.{target_of, AltersUnless, Judges};
+ghost use Rattle.mount_calls.specs.Altering.{target_of, AltersUnless, IsTarget, Judges};
 ghost use Rattle.mount_calls.specs.AttributeCalls.{asked, asking_fault, user_fault};
 ghost use Rattle.mount_calls.specs.Looking.{IsLook};
 
@@ -72,27 +72,24 @@ impl<'a> AttributeCall<'a> {
     }
 }
 
-/// Makes a call on the attributes of what was seen at a path, and gives the key under which that
-/// stands in the upper then. With `metacopy` a file is copied up without its bytes.
-pub(crate) fn alter_seen(
+/// Makes a call on the attributes of what `judged` found at a path, and gives the key under which
+/// that stands in the upper then. With `metacopy` a file is copied up without its bytes.
+pub(crate) fn alter_found(
     alloc: Global,
     layers: &mut Layers,
     path: &Path,
-    look: &Look,
+    found: (&Stack, Topmost),
     call: &AttributeCall,
     metacopy: bool,
-) -> Result<Result<usize, Errno>, AllocError>
-    requires { IsLook layers.old path.now look.now }
+) -> Result<usize, AllocError>
+    requires { IsTarget layers.old path.now call.now (found.0.now, found.1) }
     ensures { AltersUnless call.now layers.old layers.new metacopy path.now result }
 {
-    let (directory, top) = match judged(layers, look, call) {
-        Ok(target) => target,
-        Err(errno) => return Ok(Err(errno)),
-    };
+    let (directory, top) = found;
     let change = call.change()?;
     layers.lawful();
     let key = alter(alloc, layers, path, directory, top, change, metacopy)?;
-    Ok(Ok(key))
+    Ok(key)
 }
 
 /// What a call changes at a path that was looked at, and the merged directory in which that stands;

@@ -9,8 +9,8 @@ ghost use Rattle.merged_lookup.specs.Merged.{layers_of, IsTopmost, ShowsInode};
 ghost use Rattle.mount_calls.specs.Altering.{IsOpenTo, ShowsAttributes};
 
 use layer_tree::{Inode, Node};
-use merged_lookup::{Layers, Place, Topmost};
-use ov_base::{Attributes, Content, Errno, Path};
+use merged_lookup::{Layers, Topmost};
+use ov_base::{Attributes, Content, Errno, Path, Place};
 
 /// The attributes of what a path shows, refused as chown(2) is: on the way to the last name a name
 /// that shows nothing is ENOENT, a file ENOTDIR and a symbolic link ELOOP; then nothing is ENOENT

@@ -1,12 +1,15 @@
 // The calls on open files, and `lseek` and `fstat` on directories, by the plain machine (POSIX.1-2017, read(), lseek() and fstat()).
-ghost use Rattle.std.specs.Prelude.{◌≡◌, None, Some, Ok, IfOk, IfErr, IsSome, length};
+ghost use Rattle.std.specs.Prelude.{◌≡◌, None, Some, Ok, IfOk, IfErr, OnErr, IsSome, length};
 ghost use Rattle.std.specs.Prelude.{option_copied};
 ghost use Rattle.ov_base.specs.declared.attributes.Attributes.{Attributes as DirectoryAttributes};
+ghost use Rattle.plain_model.specs.Machine.{State};
+ghost use Rattle.plain_model.specs.Refusals.{refusal};
 ghost use Rattle.mount_calls.specs.Attaching.{directory_by, file_by, opened_by};
 ghost use Rattle.mount_calls.specs.Making.{MakesCall, TellsCall};
 ghost use Rattle.mount_calls.specs.Opening as opening;
 ghost use Rattle.mount_calls.specs.Opening.{read_fault, seek_fault};
 ghost use Rattle.mount_calls.specs.Reading.{read_reply, KeepsRoom};
+ghost use Rattle.mount_calls.specs.States.{IsStateOf};
 ghost use Rattle.mount_calls.specs.Status.{stat_with};
 
 use crate::files::{bytes_in, read_at, read_into, size_of, status_in};
@@ -17,12 +20,14 @@ use ov_base::{Attributes, Call, Errno, ObjectKind, Reply, Stat};
 use std::alloc::AllocError;
 
 /// The most bytes of one read or write.
-const TRANSFER_MAX: usize = 65_536;
+pub const TRANSFER_MAX: usize = 65_536;
 
 impl Mount {
     /// Reads the next bytes of an open file, at most so many.
     pub fn read(&mut self, client: u64, descriptor: u32, count: u32) -> Result<Reply, AllocError>
-        ensures { MakesCall client (Call.Read descriptor count) self.old self.new result }
+        ensures makes { MakesCall client (Call.Read descriptor count) self.old self.new result }
+        ensures allowed { OnErr result ((s : State) → IsStateOf self.old s →
+            refusal s client (Call.Read descriptor count) ≡ None) }
     {
         let file = match self.file_to_read(client, descriptor, count as usize) {
             Ok(file) => file,
@@ -131,7 +136,9 @@ impl Mount {
 
     /// What stat(2) shows of what a client has open.
     pub fn fstat(&self, client: u64, descriptor: u32) -> Result<Reply, AllocError>
-        ensures { IfOk result (TellsCall client (Call.Fstat descriptor) self.now) }
+        ensures tells { IfOk result (TellsCall client (Call.Fstat descriptor) self.now) }
+        ensures allowed { OnErr result ((s : State) → IsStateOf self.now s →
+            refusal s client (Call.Fstat descriptor) ≡ None) }
     {
         match self.clients.opened(client, descriptor) {
             None => Ok(Reply::Refused(Errno::EBADF)),
@@ -154,7 +161,9 @@ impl Mount {
     // What stat(2) shows of an open directory.
     fn directory_status(&self, client: u64, descriptor: u32) -> Result<Reply, AllocError>
         requires { IsSome (directory_by self.now.clients client descriptor) }
-        ensures { IfOk result (TellsCall client (Call.Fstat descriptor) self.now) }
+        ensures tells { IfOk result (TellsCall client (Call.Fstat descriptor) self.now) }
+        ensures allowed { OnErr result ((s : State) → IsStateOf self.now s →
+            refusal s client (Call.Fstat descriptor) ≡ None) }
     {
         let status = match self.clients.path(self.alloc, client, descriptor)? {
             Some(path) => status_at(&self.layers, &path),

@@ -7,20 +7,20 @@ ghost use Rattle.layer_tree.specs.Tree.{inode_of, mark_at};
 ghost use Rattle.merged_lookup.specs.Lower.{lower_bytes};
 ghost use Rattle.merged_lookup.specs.Merged.{upper_of, lowers_of};
 ghost use Rattle.mount_calls.specs.Files as files;
-ghost use Rattle.mount_calls.specs.Files.{low_place, place_below, read_mark, seen_inode};
+ghost use Rattle.mount_calls.specs.Files.{place_below, read_mark, seen_inode};
 ghost use Rattle.mount_calls.specs.Files.{source_inode, bytes_of_inode, with_file, IsKept};
 ghost use Rattle.mount_calls.specs.Status.{stat_of_inode};
 
 use crate::status::{file_status, inode_status};
 use layer_tree::Node;
-use merged_lookup::{Layers, Place};
+use merged_lookup::Layers;
 use open_handles::{FileSource, OpenFile};
-use ov_base::{Bytes, Content, Errno, FileBytes, OpenFlags, Source, Stat};
+use ov_base::{Bytes, Content, Errno, FileBytes, OpenFlags, Place, Stat};
 use std::alloc::{AllocError, Global};
 
 /// A file that is opened with these flags, where it is shown at this place, with the bytes that it
 /// keeps.
-pub(crate) fn file_at(place: Place, flags: OpenFlags, low: Option<Source>) -> OpenFile
+pub(crate) fn file_at(place: Place, flags: OpenFlags, low: Option<Place>) -> OpenFile
     ensures { result ≡ files.file_at place flags low }
 {
     let source = if place.layer == 0 {
@@ -48,7 +48,7 @@ pub(crate) fn kept_low(
     layers: &Layers,
     place: Place,
     flags: OpenFlags,
-) -> Result<Option<Source>, AllocError>
+) -> Result<Option<Place>, AllocError>
     ensures { IfOk result (IsKept (lowers_of layers.now) (read_mark layers.now place flags.writes)) }
 {
     if flags.writes || place.layer > 0 {
@@ -58,10 +58,7 @@ pub(crate) fn kept_low(
         return Ok(None);
     };
     match layers.low_file(mark) {
-        Some(low) => Ok(Some(Source {
-            layer: low.layer,
-            key: low.key,
-        })),
+        Some(low) => Ok(Some(low)),
         None => Err(AllocError),
     }
 }
@@ -95,8 +92,8 @@ fn place_of(source: FileSource) -> Place
 }
 
 /// The bytes of the file that a lower layer has at a place, if it has one there.
-pub(crate) fn low_bytes(layers: &Layers, source: Source) -> Option<&FileBytes>
-    ensures { option_copied result ≡ lower_bytes (lowers_of layers.now) (low_place source) }
+pub(crate) fn low_bytes(layers: &Layers, source: Place) -> Option<&FileBytes>
+    ensures { option_copied result ≡ lower_bytes (lowers_of layers.now) source }
 {
     if source.layer == 0 {
         return None;

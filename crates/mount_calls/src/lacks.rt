@@ -15,15 +15,13 @@ ghost use Rattle.mount_calls.specs.Looking.{AreLooks, SawEach};
 ghost use Rattle.mount_calls.specs.States.{IsStateOf};
 ghost use Rattle.work_dir.specs.declared.next.Lack.TheVariants as Lacking;
 
-use crate::attribute_changes::{AttributeCall, judged, mode_fault};
+use crate::attribute_changes::AttributeCall;
 use crate::files::marked_place;
 use crate::looks::Looks;
 use crate::mount::Mount;
 use copy_up::{Need, need_at};
-use make_remove::{leaf_at, removable, vacant};
-use merged_lookup::{Found, Layers, Place, Topmost};
-use ov_base::{Bytes, Call, Content, Errno, LinkTarget, OpenFlags, Path, Source};
-use rename_redirect::{linkable, movable};
+use merged_lookup::{Found, Layers, Topmost};
+use ov_base::{Bytes, Call, Content, Errno, OpenFlags, Path, Place};
 use work_dir::Lack;
 
 /// Whether a call changes what paths show, or opens what one shows, so that it may lack something.
@@ -120,8 +118,8 @@ impl Mount {
     {
         let look = looks.one();
         let near = look.saw_parents(&self.layers);
-        let (_, top) = match judged(&self.layers, look, &ask) {
-            Ok(target) => target,
+        let (_, top) = match self.judge_alter(look, &ask) {
+            Ok(found) => found,
             Err(errno) => return Err(errno),
         };
         let file = copied_file(&self.layers, self.metacopy, top);
@@ -133,11 +131,8 @@ impl Mount {
         requires { SawEach self.now.layers (path.now ∷ []) looks }
         ensures { (c : ℕ) → TellsLack self.now c (Call.Mkdir path.now mode) result }
     {
-        if let Some(errno) = mode_fault(mode) {
-            return Err(errno);
-        }
         let look = looks.one();
-        match vacant(&look.shown) {
+        match self.judge_mkdir(path, look, mode) {
             Ok(_) => Ok(lack_on(&self.layers, path, false, None)),
             Err(errno) => Err(errno),
         }
@@ -148,11 +143,8 @@ impl Mount {
         requires { SawEach self.now.layers (path.now ∷ []) looks }
         ensures { (c : ℕ) → TellsLack self.now c (Call.Symlink target.now path.now) result }
     {
-        if let Some(errno) = LinkTarget::fault(target.as_slice()) {
-            return Err(errno);
-        }
         let look = looks.one();
-        match vacant(&look.shown) {
+        match self.judge_symlink(target, path, look) {
             Ok(_) => Ok(lack_on(&self.layers, path, false, None)),
             Err(errno) => Err(errno),
         }
@@ -194,7 +186,7 @@ impl Mount {
         ensures { (c : ℕ) → TellsLack self.now c (Call.Unlink path.now) result }
     {
         let look = looks.one();
-        match leaf_at(path, &look.shown) {
+        match self.judge_unlink(path, look) {
             Ok(_) => Ok(lack_on(&self.layers, path, false, None)),
             Err(errno) => Err(errno),
         }
@@ -206,7 +198,7 @@ impl Mount {
         ensures { (c : ℕ) → TellsLack self.now c (Call.Rmdir path.now) result }
     {
         let look = looks.one();
-        match removable(&self.layers, path, &look.shown) {
+        match self.judge_rmdir(path, look) {
             Ok(_) => Ok(lack_on(&self.layers, path, false, None)),
             Err(errno) => Err(errno),
         }
@@ -220,7 +212,7 @@ impl Mount {
         let (from, onto) = looks.both();
         let from_near = from.saw_parents(&self.layers);
         let onto_near = onto.saw_parents(&self.layers);
-        let (_, _, place) = match linkable(&from.shown, &onto.shown) {
+        let (_, _, place) = match self.judge_link(from, onto) {
             Ok(found) => found,
             Err(errno) => return Err(errno),
         };
@@ -236,14 +228,13 @@ impl Mount {
         let (from, onto) = looks.both();
         let from_near = from.saw_parents(&self.layers);
         let onto_near = onto.saw_parents(&self.layers);
-        let layers = &self.layers;
-        let moved = match movable(layers, old, new, self.redirects, &from.shown, &onto.shown) {
-            Ok(Some(moved)) => moved,
+        let moving = match self.judge_rename(old, new, from, onto) {
+            Ok(Some(moving)) => moving,
             Ok(None) => return Ok(Lack::Nothing),
             Err(errno) => return Err(errno),
         };
-        let file = found_file(layers, self.metacopy, &moved.1);
-        Ok(lack_on_both(layers, old, new, (from_near, onto_near), file))
+        let file = found_file(&self.layers, self.metacopy, &moving.found);
+        Ok(lack_on_both(&self.layers, old, new, (from_near, onto_near), file))
     }
 }
 
@@ -256,7 +247,7 @@ fn may_change(flags: OpenFlags) -> bool
 
 // What is lacking on the way to a path, where its parents weren't seen in the upper, and else a
 // file's bytes.
-fn lack_on(layers: &Layers, path: &Path, near: bool, file: Option<Source>) -> Lack
+fn lack_on(layers: &Layers, path: &Path, near: bool, file: Option<Place>) -> Lack
     requires { near ≡ true → lacking (layer_of layers.now.upper) path.now ≡ None }
     ensures { result ≡ lack_among (layer_of layers.now.upper) false (path.now ∷ []) file }
 {
@@ -270,7 +261,7 @@ fn lack_on_both(
     old: &Path,
     new: &Path,
     near: (bool, bool),
-    file: Option<Source>,
+    file: Option<Place>,
 ) -> Lack
     requires old { near.0 ≡ true → lacking (layer_of layers.now.upper) old.now ≡ None }
     requires new { near.1 ≡ true → lacking (layer_of layers.now.upper) new.now ≡ None }
@@ -297,7 +288,7 @@ fn way_lack(layers: &Layers, path: &Path, near: bool, second: bool, besides: Lac
 }
 
 // A file's bytes, where some are lacking.
-fn file_lack(file: Option<Source>) -> Lack
+fn file_lack(file: Option<Place>) -> Lack
     ensures { result ≡ lacks.file_lack file }
 {
     match file {
@@ -308,7 +299,7 @@ fn file_lack(file: Option<Source>) -> Lack
 
 // Where the bytes are of a file of a lower layer that is shown as the topmost object, if a change of
 // its attributes copies them.
-fn copied_file(layers: &Layers, metacopy: bool, top: Topmost) -> Option<Source>
+fn copied_file(layers: &Layers, metacopy: bool, top: Topmost) -> Option<Place>
     requires { (p : Names) × IsTopmost layers.now p (Some top) }
     ensures { (p : Names) → IsTopmost layers.now p (Some top) →
         result ≡ lacks.copied_file metacopy (shows 0 (layers_of layers.now) p) }
@@ -320,7 +311,7 @@ fn copied_file(layers: &Layers, metacopy: bool, top: Topmost) -> Option<Source>
 }
 
 // Where the bytes are of a file that is shown as the topmost object, if they are a lower file's.
-fn data_file(layers: &Layers, top: Topmost) -> Option<Source>
+fn data_file(layers: &Layers, top: Topmost) -> Option<Place>
     requires { (p : Names) × IsTopmost layers.now p (Some top) }
     ensures { (p : Names) → IsTopmost layers.now p (Some top) →
         result ≡ lacks.data_at (lowers_of layers.now) (shows 0 (layers_of layers.now) p) }
@@ -332,32 +323,19 @@ fn data_file(layers: &Layers, top: Topmost) -> Option<Source>
 }
 
 // Where the bytes are of a file that is shown at a place, if they are a lower file's.
-fn data_inode(layers: &Layers, place: Place) -> Option<Source>
+fn data_inode(layers: &Layers, place: Place) -> Option<Place>
     requires { (p : Names) × ShowsInode layers.now p place }
     ensures { (p : Names) → ShowsInode layers.now p place →
         result ≡ lacks.data_at (lowers_of layers.now) (shows 0 (layers_of layers.now) p) }
 {
     if place.layer == 0 {
-        return marked_source(layers, place.key);
+        return marked_place(layers, place.key);
     }
     low_inode(layers, place)
 }
 
-// Where the lower file is whose bytes a marked file of the upper shows.
-fn marked_source(layers: &Layers, key: usize) -> Option<Source>
-    ensures { result ≡ lacks.marked_file (lowers_of layers.now) (mark_at layers.now.upper key) }
-{
-    match marked_place(layers, key) {
-        Some(place) => Some(Source {
-            layer: place.layer,
-            key: place.key,
-        }),
-        None => None,
-    }
-}
-
 // Where the bytes are of a file of a lower layer that was found, if a rename of it copies them.
-fn found_file(layers: &Layers, metacopy: bool, found: &Found) -> Option<Source>
+fn found_file(layers: &Layers, metacopy: bool, found: &Found) -> Option<Place>
     requires { (p : Names) × IsFound layers.now p found.now }
     ensures { (p : Names) → IsFound layers.now p found.now →
         result ≡ lacks.copied_file metacopy (shows 0 (layers_of layers.now) p) }
@@ -370,7 +348,7 @@ fn found_file(layers: &Layers, metacopy: bool, found: &Found) -> Option<Source>
 
 // Where the bytes are of a file of a lower layer that is shown at a place, if they are copied with its
 // attributes.
-fn copied_inode(layers: &Layers, metacopy: bool, place: Place) -> Option<Source>
+fn copied_inode(layers: &Layers, metacopy: bool, place: Place) -> Option<Place>
     requires { (p : Names) × ShowsInode layers.now p place }
     ensures { (p : Names) → ShowsInode layers.now p place →
         result ≡ lacks.copied_file metacopy (shows 0 (layers_of layers.now) p) }
@@ -382,7 +360,7 @@ fn copied_inode(layers: &Layers, metacopy: bool, place: Place) -> Option<Source>
 }
 
 // Where a file of a lower layer is that is shown at a place.
-fn low_inode(layers: &Layers, place: Place) -> Option<Source>
+fn low_inode(layers: &Layers, place: Place) -> Option<Place>
     requires { (p : Names) × ShowsInode layers.now p place }
     ensures { (p : Names) → ShowsInode layers.now p place →
         result ≡ lacks.low_file (shows 0 (layers_of layers.now) p) }
@@ -395,14 +373,11 @@ fn low_inode(layers: &Layers, place: Place) -> Option<Source>
 }
 
 // Where a file is; a symbolic link is no file.
-fn source_of(place: Place, content: &Content) -> Option<Source>
+fn source_of(place: Place, content: &Content) -> Option<Place>
     ensures { result ≡ lacks.source_of place.layer place.key content.now }
 {
     match content {
-        Content::File(_) => Some(Source {
-            layer: place.layer,
-            key: place.key,
-        }),
+        Content::File(_) => Some(place),
         Content::SymbolicLink(_) => None,
     }
 }

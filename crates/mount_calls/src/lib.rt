@@ -15,6 +15,7 @@ mod link_calls;
 mod look;
 mod looks;
 mod mount;
+mod name_calls;
 mod object;
 mod open_calls;
 mod remembered;

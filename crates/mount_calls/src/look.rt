@@ -6,7 +6,6 @@ ghost use Rattle.notice_laws.specs.Objects.{IsObject};
 ghost use Rattle.mount_calls.specs.Looking.{IsLook, topmost_of};
 
 use crate::mount::Mount;
-use crate::object::object_in;
 use merged_lookup::{Stack, Topmost};
 use notice_laws::Object;
 use ov_base::{Errno, Path};
@@ -40,14 +39,14 @@ impl Mount {
         }
     }
 
-    /// What stands at a path that was looked at, as `object_at` returns it.
+    /// What stands at a path that was looked at; where the way there is refused, nothing that is
+    /// tracked.
     pub fn object_seen(&self, look: &Look) -> Object
         requires { (p : Names) × IsLook self.now.layers p look.now }
         ensures { (p : Names) → IsLook self.now.layers p look.now → IsObject (upper_of self.now.layers) (lowers_of self.now.layers) p result }
     {
         match look.topmost() {
-            Some(Topmost::Directory(_)) => Object::Directory,
-            Some(Topmost::Inode(place)) => object_in(&self.layers, place),
+            Some(top) => self.object_of(top),
             None => Object::Other,
         }
     }

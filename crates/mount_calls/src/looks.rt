@@ -11,8 +11,8 @@ ghost use Rattle.mount_calls.specs.Looking.{paths_of, IsLook, SawEach};
 
 use crate::files::is_marked;
 use crate::look::Look;
-use merged_lookup::{Layers, Place, Topmost};
-use ov_base::{Call, Path};
+use merged_lookup::{Layers, Topmost};
+use ov_base::{Call, Path, Place};
 
 /// The paths of a call that are looked at once for all that it asks: the one of a change of
 /// attributes, of an open, or of what is made or removed, or both of a link or a rename. Other calls

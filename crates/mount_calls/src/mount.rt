@@ -2,22 +2,18 @@
 ghost use Rattle.std.specs.Prelude.{◌≡◌, ◌<◌, ◌+◌, ◌^◌, ℕ, false, List, Some, None, Ok, IfOk, IfErr, OnOk, OnErr, IsSome, IsSomeAnd, is_some, MatchResult, option_copied, true};
 ghost use Rattle.plain_model.specs.Layers.{AreLayers};
 ghost use Rattle.merged_lookup.specs.Merged.{upper_of, layers_of, lowers_of};
-ghost use Rattle.notice_laws.specs.Objects.{IsObject};
 ghost use Rattle.mount_calls.specs.States.{AreNamesIn};
 ghost use Rattle.mount_calls.specs.Files.{key_in_upper};
-ghost use Rattle.mount_calls.specs.Status.{outcome_result, target_reply, content_target};
+ghost use Rattle.mount_calls.specs.Status.{target_reply, content_target};
 ghost use Rattle.std.specs.Option.{option_and_then};
 
 use crate::clients::Clients;
-use crate::look::Look;
-use crate::removals::{free_closed, rmdir_and_free, unlink_and_free};
+use crate::removals::free_closed;
 use crate::status::status_at;
 use dir_listing::{Cursor, names};
-use make_remove::{mkdir, symlink};
 use merged_lookup::{Found, Layers, Topmost};
-use notice_laws::Object;
 use open_handles::{FileSource, Handle, OpenFile};
-use ov_base::{Bytes, Call, Content, Errno, LinkTarget, Mode, NameList, Path, Reply};
+use ov_base::{Call, Content, Errno, NameList, Path, Reply};
 use std::alloc::{AllocError, Global};
 use std::hash::RandomState;
 
@@ -48,13 +44,11 @@ impl Mount {
     ghost use Rattle.plain_model.specs.Refusals.{refusal};
     ghost use Rattle.mount_calls.specs.Attaching as attaching;
     ghost use Rattle.mount_calls.specs.Attaching.{HasNoRoom, Attaches, Detaches, TakesBack, IsSame, KeepsAttached, KeepsOthers, opened_by, directory_by};
-    ghost use Rattle.mount_calls.specs.States.{HasStateOf, IsStateOf, Serves, StaysState, Pages};
-    ghost use Rattle.mount_calls.specs.Looking.{IsLook};
+    ghost use Rattle.mount_calls.specs.States.{IsStateOf, Serves, StaysState, Pages};
     ghost use Rattle.mount_calls.specs.Opening.{list_fault};
     ghost use Rattle.mount_calls.specs.Living.{KeepsNamed, StaysLive};
     ghost use Rattle.mount_calls.specs.Keeping.{KeepsLayers};
-    ghost use Rattle.mount_calls.specs.LeftMarks.{MarksIfDone};
-    ghost use Rattle.mount_calls.specs.Making.{MakesCall, MakesEach, TellsEach};
+    ghost use Rattle.mount_calls.specs.Making.{MakesCall, TellsEach};
     ghost use Rattle.copy_up.specs.Showing.{StaysThin};
 
     /// A mount of these layers without a client, whose renames of directories make redirects or not, and whose changes of attributes and
@@ -181,7 +175,9 @@ impl Mount {
 
     /// The target of the symbolic link at a path.
     pub fn readlink(&self, path: &Path) -> Result<Reply, AllocError>
-        ensures { IfOk result (TellsEach (Call.Readlink path.now) self.now) }
+        ensures tells { IfOk result (TellsEach (Call.Readlink path.now) self.now) }
+        ensures allowed { OnErr result ((s : State) → IsStateOf self.now s → (c : ℕ) →
+            refusal s c (Call.Readlink path.now) ≡ None) }
     {
         match self.layers.walk_topmost(path) {
             Ok(Topmost::Inode(place)) => read_link(self.layers.content_at(place)),
@@ -190,82 +186,12 @@ impl Mount {
         }
     }
 
-    /// Makes a directory at a path that was looked at.
-    pub fn mkdir(&mut self, path: &Path, look: &Look, mode: u32) -> Result<Reply, AllocError>
-        requires { IsLook self.old.layers path.now look.now }
-        ensures makes { MakesEach (Call.Mkdir path.now mode) self.old self.new result }
-        ensures marks { MarksIfDone (Call.Mkdir path.now mode) self.old.layers self.new.layers result }
-        ensures clients { self.new.clients ≡ self.old.clients }
-    {
-        let mode = match Mode::parse(mode) {
-            Ok(mode) => mode,
-            Err(errno) => return Ok(Reply::Refused(errno)),
-        };
-        match mkdir(self.alloc, &mut self.layers, path, &look.shown, mode)? {
-            Ok(()) => Ok(Reply::Done),
-            Err(errno) => Ok(Reply::Refused(errno)),
-        }
-    }
-
-    /// Makes a symbolic link at a path that was looked at.
-    pub fn symlink(&mut self, target: &Bytes, path: &Path, look: &Look) -> Result<Reply, AllocError>
-        requires { IsLook self.old.layers path.now look.now }
-        ensures makes { MakesEach (Call.Symlink target.now path.now) self.old self.new result }
-        ensures clients { self.new.clients ≡ self.old.clients }
-    {
-        let target = match LinkTarget::parse(target.clone()?) {
-            Ok(target) => target,
-            Err(errno) => return Ok(Reply::Refused(errno)),
-        };
-        match symlink(self.alloc, &mut self.layers, target, path, &look.shown)? {
-            Ok(()) => Ok(Reply::Done),
-            Err(errno) => Ok(Reply::Refused(errno)),
-        }
-    }
-
-    /// Removes the name of the file or link that was seen at a path, and returns what stood there. An
-    /// allocation failure leaves all that is shown as it was.
-    pub fn unlink_telling(
-        &mut self,
-        path: &Path,
-        look: &Look,
-    ) -> Result<Result<Object, Errno>, AllocError>
-        requires { IsLook self.old.layers path.now look.now }
-        ensures makes { MakesEach (Call.Unlink path.now) self.old self.new (outcome_result result) }
-        ensures marks { MarksIfDone (Call.Unlink path.now) self.old.layers self.new.layers
-            (outcome_result result) }
-        ensures object { IfOk result (λ outcome. IfOk outcome (IsObject (upper_of self.old.layers) (lowers_of self.old.layers) path.now)) }
-        ensures clients { self.new.clients ≡ self.old.clients }
-    {
-        self.clients.lawful();
-        let outcome = unlink_and_free(&mut self.layers, &self.clients, path, look)?;
-        Ok(outcome)
-    }
-
-    /// Removes the empty directory that was seen at a path; handles on it stay, and keep its
-    /// attributes.
-    pub fn rmdir(&mut self, path: &Path, look: &Look) -> Result<Reply, AllocError>
-        requires state { ∥ HasStateOf self.old ∥₁ }
-        requires look { IsLook self.old.layers path.now look.now }
-        ensures makes { MakesEach (Call.Rmdir path.now) self.old self.new result }
-        ensures marks { MarksIfDone (Call.Rmdir path.now) self.old.layers self.new.layers result }
-    {
-        self.clients.lawful();
-        let attributes = self.attributes_seen(path, look)?;
-        match rmdir_and_free(&mut self.layers, &self.clients, path, look)? {
-            Ok(()) => {
-                if let Some(attributes) = attributes {
-                    self.clients.remove(path, attributes);
-                }
-                Ok(Reply::Done)
-            }
-            Err(errno) => Ok(Reply::Refused(errno)),
-        }
-    }
-
     /// Gives the next names of an open directory, at most so many.
     pub fn list(&mut self, client: u64, descriptor: u32, count: u32) -> Result<Reply, AllocError>
-        ensures { MakesCall client (Call.ListNames descriptor count) self.old self.new result }
+        ensures makes { MakesCall client (Call.ListNames descriptor count)
+            self.old self.new result }
+        ensures allowed { OnErr result ((s : State) → IsStateOf self.old s →
+            refusal s client (Call.ListNames descriptor count) ≡ None) }
     {
         if let Some(errno) = self.list_refusal(client, descriptor, count) {
             return Ok(Reply::Refused(errno));
@@ -339,9 +265,11 @@ pub(crate) fn upper_key(file: Option<OpenFile>) -> Option<usize>
     }
 }
 
-// The reply to readlink of a file or symbolic link: a file is EINVAL.
+// The reply to readlink of a file or symbolic link: a file is EINVAL. Only a target takes memory.
 fn read_link(content: Option<&Content>) -> Result<Reply, AllocError>
-    ensures { IfOk result (λ reply. reply ≡ target_reply (option_and_then content_target (option_copied content.entry))) }
+    ensures reply { IfOk result (λ reply. reply ≡ target_reply (option_and_then content_target (option_copied content.entry))) }
+    ensures link { OnErr result (IsSome
+        (option_and_then content_target (option_copied content.entry))) }
 {
     match content {
         Some(Content::SymbolicLink(target)) => Ok(Reply::Target(target.as_bytes().clone()?)),

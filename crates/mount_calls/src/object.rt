@@ -3,26 +3,27 @@ ghost use Rattle.std.specs.Prelude.{◌≡◌, ℕ, Bool, List, ◌∷◌, Some,
 ghost use Rattle.plain_model.specs.Layers as held;
 ghost use Rattle.plain_model.specs.Layers.{Layer, Path as Names, shows};
 ghost use Rattle.layer_tree.specs.Tree.{inode_of};
-ghost use Rattle.merged_lookup.specs.Merged.{upper_of, lowers_of, fill_at, ShowsInode};
+ghost use Rattle.merged_lookup.specs.Merged.{upper_of, lowers_of, fill_at, IsTopmost, ShowsInode};
 ghost use Rattle.notice_laws.specs.Objects.{IsObject};
 ghost use Rattle.mount_calls.specs.Attaching.{file_by};
 ghost use Rattle.mount_calls.specs.Files.{key_in_upper};
 
 use crate::mount::{Mount, upper_key};
 use layer_tree::{Inode, Node};
-use merged_lookup::{Layers, Place, Topmost};
+use merged_lookup::{Layers, Topmost};
 use notice_laws::Object;
-use ov_base::{Content, Path};
+use ov_base::{Content, Place};
 
 impl Mount {
-    /// What stands at a path; where a walk to it is refused, nothing that is tracked.
-    pub fn object_at(&self, path: &Path) -> Object
-        ensures { IsObject (upper_of self.now.layers) (lowers_of self.now.layers) path.now result }
+    /// What stands at a path, as the topmost object that was found there; a link isn't tracked.
+    pub fn object_of(&self, top: Topmost) -> Object
+        requires { (p : Names) × IsTopmost self.now.layers p (Some top) }
+        ensures { (p : Names) → IsTopmost self.now.layers p (Some top) →
+            IsObject (upper_of self.now.layers) (lowers_of self.now.layers) p result }
     {
-        match self.layers.walk_topmost(path) {
-            Ok(Topmost::Directory(_)) => Object::Directory,
-            Ok(Topmost::Inode(place)) => object_in(&self.layers, place),
-            Err(_) => Object::Other,
+        match top {
+            Topmost::Directory(_) => Object::Directory,
+            Topmost::Inode(place) => object_in(&self.layers, place),
         }
     }
 

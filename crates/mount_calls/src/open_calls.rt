@@ -10,7 +10,7 @@ ghost use Rattle.plain_model.specs.Refusals as refusals;
 ghost use Rattle.plain_model.specs.Refusals.{refusal, when};
 ghost use Rattle.layer_tree.specs.Tree.{layer_of, bytes_at, mark_at, SameObjects};
 ghost use Rattle.merged_lookup.specs.declared.found.Topmost.TheVariants as topmost;
-ghost use Rattle.merged_lookup.specs.declared.stack.Place.{Place as ShownPlace};
+ghost use Rattle.ov_base.specs.declared.place.Place.{Place as ShownPlace};
 ghost use Rattle.merged_lookup.specs.Merged.{upper_of, layers_of, parent, parents_fault, IsStackOf, IsTopmost, ShowsInode};
 ghost use Rattle.mount_laws.specs.Looks.{or_else};
 ghost use Rattle.mount_laws.specs.OpenFiles.{ChangesFile};
@@ -33,9 +33,9 @@ use crate::mount::Mount;
 use copy_up::{all_at_once, fill};
 use layer_tree::{Inode, Node};
 use make_remove::create;
-use merged_lookup::{Layers, Place, Stack, Topmost};
+use merged_lookup::{Layers, Stack, Topmost};
 use open_handles::FileSource;
-use ov_base::{Call, Content, Errno, Mode, OpenFlags, Path, Reply};
+use ov_base::{Call, Content, Errno, Mode, OpenFlags, Path, Place, Reply};
 use std::alloc::AllocError;
 
 /// An open that was judged, which nothing refuses: the descriptor and the mode that it gets, and what

@@ -1,47 +1,92 @@
 // `rename` of a mount, by the plain machine (POSIX.1-2017, rename()).
-ghost use Rattle.std.specs.Prelude.{◌≡◌, IfOk, IfNone, IfSome, None, false, is_some, not};
+ghost use Rattle.std.specs.Prelude.{
+  ◌≡◌,
+  ℕ,
+  IfOk,
+  IfErr,
+  IfNone,
+  IfSome,
+  None,
+  Ok,
+  OnOk,
+  Some,
+  false,
+  true,
+};
+ghost use Rattle.std.specs.Result.{result_and};
+ghost use Rattle.plain_model.specs.Machine.{State};
+ghost use Rattle.plain_model.specs.Refusals.{refusal};
 ghost use Rattle.layer_tree.specs.Tree.{layer_of};
 ghost use Rattle.mount_laws.specs.Removals.{rmdir_fault};
 ghost use Rattle.mount_laws.specs.Renaming.{is_one};
 ghost use Rattle.merged_lookup.specs.Merged.{layers_of};
 ghost use Rattle.object_table.specs.Renames.{IsSettled};
+ghost use Rattle.rename_redirect.specs.Judging.{MayMove};
 ghost use Rattle.mount_calls.specs.LeftMarks.{MarksIfDone};
 ghost use Rattle.mount_calls.specs.Looking.{IsKeyAt, IsLook};
 ghost use Rattle.mount_calls.specs.Making.{MakesEach};
 ghost use Rattle.mount_calls.specs.Removing.{HasAttributes, IsOpenNowhere};
-ghost use Rattle.mount_calls.specs.States.{HasStateOf};
-ghost use Rattle.mount_calls.specs.Status.{outcome_result};
+ghost use Rattle.mount_calls.specs.States.{HasStateOf, IsStateOf};
 
 use crate::look::Look;
 use crate::mount::Mount;
 use crate::removals::rename_and_free;
 use merged_lookup::Topmost;
 use ov_base::{Attributes, Call, Errno, Path, Reply};
+use rename_redirect::{JudgedRename, movable};
 use std::alloc::AllocError;
 
 impl Mount {
-    /// Moves what stands at the old path to the new one, with what is open there, on the layers on
-    /// which both were looked at. Returns the key under which the upper has the file that moved, 0 for
-    /// a directory, and nothing where both paths are one object, so that nothing moved. An allocation
-    /// failure leaves all that is shown as it was.
+    /// Judges a rename by what was seen at its two paths, in the order of rename(2), and tells what
+    /// moves: nothing where both paths are one object. Nothing changes, and it takes no memory.
+    pub fn judge_rename<'a>(
+        &self,
+        old: &Path,
+        new: &Path,
+        from: &'a Look,
+        onto: &'a Look,
+    ) -> Result<Option<JudgedRename<'a>>, Errno>
+        requires from { IsLook self.now.layers old.now from.now }
+        requires onto { IsLook self.now.layers new.now onto.now }
+        ensures refused { IfErr result (λ errno. (s : State) → IsStateOf self.now s → (c : ℕ) →
+            refusal s c (Call.Rename old.now new.now) ≡ Some errno) }
+        ensures allowed { OnOk result ((s : State) → IsStateOf self.now s → (c : ℕ) →
+            refusal s c (Call.Rename old.now new.now) ≡ None) }
+        ensures one { IfOk result (λ judged. IfNone judged
+            (is_one (layer_of self.now.layers.upper) old.now new.now ≡ true)) }
+        ensures stays { IfOk result (λ judged. IfNone judged
+            (MakesEach (Call.Rename old.now new.now) self.now self.now (Ok Reply.Done))) }
+        ensures moves { IfOk result (λ judged. IfSome judged
+            (MayMove self.now.layers self.now.redirects old.now new.now)) }
+    {
+        movable(
+            &self.layers,
+            old,
+            new,
+            self.redirects,
+            &from.shown,
+            &onto.shown,
+        )
+    }
+
+    /// Moves what was judged to move to its new path, which was looked at, with what is open there.
+    /// Returns the key under which the upper has the file that moved, 0 for a directory. An
+    /// allocation failure leaves all that is shown as it was.
     pub fn rename_moving(
         &mut self,
         old: &Path,
         new: &Path,
-        from: &Look,
         onto: &Look,
-    ) -> Result<Result<Option<usize>, Errno>, AllocError>
+        moving: JudgedRename<'_>,
+    ) -> Result<usize, AllocError>
         requires state { ∥ HasStateOf self.old ∥₁ }
-        requires from { IsLook self.old.layers old.now from.now }
         requires onto { IsLook self.old.layers new.now onto.now }
+        requires moving { MayMove self.old.layers self.old.redirects old.now new.now moving }
         ensures makes { MakesEach (Call.Rename old.now new.now) self.old self.new
-            (outcome_result result) }
+            (result_and result (Ok Reply.Done)) }
         ensures marks { MarksIfDone (Call.Rename old.now new.now) self.old.layers self.new.layers
-            (outcome_result result) }
-        ensures moves { IfOk result (λ outcome. IfOk outcome (λ moved.
-            is_one (layer_of self.old.layers.upper) old.now new.now ≡ not (is_some moved))) }
-        ensures key { IfOk result (λ outcome. IfOk outcome (λ moved.
-            IfSome moved (IsKeyAt self.new.layers new.now))) }
+            (result_and result (Ok Reply.Done)) }
+        ensures key { IfOk result (IsKeyAt self.new.layers new.now) }
         ensures settled { IsSettled self.old.clients.directories →
             IsSettled self.new.clients.directories }
     {
@@ -54,22 +99,12 @@ impl Mount {
             &self.clients,
             old,
             new,
-            self.redirects,
             self.metacopy,
-            from,
-            onto,
+            moving,
         ) {
-            Ok(Ok(Some(key))) => {
+            Ok(key) => {
                 self.clients.rename(old, new, replaced);
-                Ok(Ok(Some(key)))
-            }
-            Ok(Ok(None)) => {
-                self.clients.cancel_rename();
-                Ok(Ok(None))
-            }
-            Ok(Err(errno)) => {
-                self.clients.cancel_rename();
-                Ok(Err(errno))
+                Ok(key)
             }
             Err(fault) => {
                 self.clients.cancel_rename();

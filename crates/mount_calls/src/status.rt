@@ -9,8 +9,8 @@ ghost use Rattle.merged_lookup.specs.Marking.{inode_over};
 ghost use Rattle.merged_lookup.specs.Merged.{layers_of};
 
 use layer_tree::{Inode, Node};
-use merged_lookup::{Layers, Place, Topmost};
-use ov_base::{Attributes, Content, Errno, ObjectKind, Path, Stat};
+use merged_lookup::{Layers, Topmost};
+use ov_base::{Attributes, Content, Errno, ObjectKind, Path, Place, Stat};
 
 /// What stat(2) answers at a path. On the way to its last name a name that shows nothing is ENOENT, a file ENOTDIR and a symbolic
 /// link ELOOP; where nothing is shown it is ENOENT.

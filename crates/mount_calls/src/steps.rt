@@ -15,8 +15,8 @@ ghost use Rattle.work_dir.specs.declared.next.Lack.TheVariants as Lacking;
 use crate::files::low_bytes;
 use crate::mount::Mount;
 use copy_up::place_dir;
-use merged_lookup::{Place, Prepared};
-use ov_base::{Call, FileBytes, Path, Source};
+use merged_lookup::Prepared;
+use ov_base::{Call, FileBytes, Path, Place};
 use std::alloc::AllocError;
 
 /// The path of a call that changes something, or its second one.
@@ -66,7 +66,7 @@ impl Mount {
     }
 
     /// The bytes of the file that a lower layer has at a place, if it has one there.
-    pub fn low_bytes(&self, source: Source) -> Option<&FileBytes>
+    pub fn low_bytes(&self, source: Place) -> Option<&FileBytes>
         ensures { option_copied result ≡ bytes_at (lowers_of self.now.layers) source }
     {
         low_bytes(&self.layers, source)
@@ -74,12 +74,14 @@ impl Mount {
 
     /// Offers the bytes of a lower file, which the next copy of it takes in place of sharing them
     /// anew.
-    pub fn offer(&mut self, source: Source, bytes: FileBytes)
+    pub fn offer(&mut self, source: Place, bytes: FileBytes)
         requires { bytes_at (lowers_of self.old.layers) source ≡ Some bytes }
         ensures { self.new ≡ self.old }
     {
-        let place = place_of(source);
-        self.layers.offer(Prepared { place, bytes });
+        self.layers.offer(Prepared {
+            place: source,
+            bytes,
+        });
     }
 
     /// Drops the bytes that are offered and weren't taken.
@@ -87,15 +89,5 @@ impl Mount {
         ensures { self.new ≡ self.old }
     {
         self.layers.withdraw();
-    }
-}
-
-// A lower file's place in the layers.
-fn place_of(source: Source) -> Place
-    ensures { result ≡ record { layer = source.layer; key = source.key } }
-{
-    Place {
-        layer: source.layer,
-        key: source.key,
     }
 }

@@ -1,5 +1,5 @@
 // User attributes: why they are refused, and those of what a path shows.
-ghost use Rattle.std.specs.Prelude.{◌≡◌, ◌&&◌, not, None, Some, IfOk, IfErr, OnOk, is_none, length, map, nat_lt};
+ghost use Rattle.std.specs.Prelude.{◌≡◌, ◌&&◌, not, None, Some, IfOk, IfErr, OnErr, OnOk, is_none, length, map, nat_lt};
 ghost use Rattle.std.specs.Result.{result_err};
 ghost use Rattle.ov_base.specs.AttributeNames.{attribute_of};
 ghost use Rattle.ov_base.specs.UserValues.{value_of};
@@ -43,6 +43,7 @@ pub(crate) fn get_attribute(
 ) -> Result<Result<Bytes, Errno>, AllocError>
     ensures refused { IfOk result (λ r. IfErr r (λ e. get_fault (layers_of layers.now) path.now name.now ≡ Some e)) }
     ensures allowed { IfOk result (λ r. OnOk r (get_fault (layers_of layers.now) path.now name.now ≡ None)) }
+    ensures judged { OnErr result (get_fault (layers_of layers.now) path.now name.now ≡ None) }
     ensures value { IfOk result (λ r. IfOk r (λ v. value_of (shown_user (shows 0 (layers_of layers.now) path.now)) name.now ≡ Some v)) }
 {
     if let Some(errno) = name_fault(name) {
@@ -67,6 +68,7 @@ pub(crate) fn list_attributes(
 ) -> Result<Result<Texts, Errno>, AllocError>
     ensures refused { IfOk result (λ r. IfErr r (λ e. chown_fault (layers_of layers.now) path.now ≡ Some e)) }
     ensures allowed { IfOk result (λ r. OnOk r (chown_fault (layers_of layers.now) path.now ≡ None)) }
+    ensures judged { OnErr result (chown_fault (layers_of layers.now) path.now ≡ None) }
     ensures names { IfOk result (λ r. IfOk r (λ names. names ≡ map (λ x. x.0) (shown_user (shows 0 (layers_of layers.now) path.now)))) }
 {
     match attributes_at(layers, path) {

@@ -1,18 +1,19 @@
 // `write` and `ftruncate`, by the plain machine (POSIX.1-2017, write() and ftruncate()).
-ghost use Rattle.std.specs.Prelude.{◌≡◌, None, Some, IfOk, IfErr, is_some};
+ghost use Rattle.std.specs.Prelude.{◌≡◌, None, Some, IfOk, IfErr, OnErr, is_some};
+ghost use Rattle.plain_model.specs.Machine.{State};
+ghost use Rattle.plain_model.specs.Refusals.{refusal};
 ghost use Rattle.mount_calls.specs.Attaching.{file_by, opened_by};
 ghost use Rattle.mount_calls.specs.Making.{MakesCall};
 ghost use Rattle.mount_calls.specs.Opening.{write_fault, truncate_fault, written_key};
+ghost use Rattle.mount_calls.specs.States.{IsStateOf};
 
+use crate::file_calls::TRANSFER_MAX;
 use crate::file_changes::{resize_file, write_file};
 use crate::files::{bytes_in, size_of};
 use crate::mount::Mount;
 use open_handles::{FileSource, Handle, OpenFile, fitting};
 use ov_base::{Bytes, Call, Errno, Reply};
 use std::alloc::AllocError;
-
-/// The most bytes of one write.
-const TRANSFER_MAX: usize = 65_536;
 
 impl Mount {
     /// Writes bytes to an open file, at its place or at its end: as many as fit below the most bytes of a file.
@@ -22,7 +23,10 @@ impl Mount {
         descriptor: u32,
         bytes: &Bytes,
     ) -> Result<Reply, AllocError>
-        ensures { MakesCall client (Call.Write descriptor bytes.now) self.old self.new result }
+        ensures makes { MakesCall client (Call.Write descriptor bytes.now)
+            self.old self.new result }
+        ensures allowed { OnErr result ((s : State) → IsStateOf self.old s →
+            refusal s client (Call.Write descriptor bytes.now) ≡ None) }
     {
         let bytes = bytes.as_slice();
         let file = match self.file_to_write(client, descriptor, bytes.len()) {
@@ -68,6 +72,8 @@ impl Mount {
     /// Cuts an open file to a size, or fills it with zero bytes up to it.
     pub fn truncate(&mut self, client: u64, descriptor: u32, size: u64) -> Result<Reply, AllocError>
         ensures makes { MakesCall client (Call.Truncate descriptor size) self.old self.new result }
+        ensures allowed { OnErr result ((s : State) → IsStateOf self.old s →
+            refusal s client (Call.Truncate descriptor size) ≡ None) }
         ensures clients { self.new.clients ≡ self.old.clients }
     {
         let file = match self.file_to_truncate(client, descriptor, size) {

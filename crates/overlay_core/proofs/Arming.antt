@@ -1,5 +1,7 @@
 -- A watch is armed by the number under which what stands at its path is held, or refused.
-use Rattle.std.proofs.Common.{◌≡◌, ◌≢◌, ℕ, pos, true, false, not, ◌&&◌, inl, inr, List, ◌∷◌, Option, None, Some, is_none, nat_lt, refl, sym, ap, ◌∙◌, subst}
+use Rattle.std.proofs.Common.{◌≡◌, ◌≢◌, ℕ, pos, Bool, true, false, cond, not, ◌&&◌, inl, inr, List, [], ◌∷◌, Option, None, Some, is_none, is_some, nat_eq, nat_lt, refl, sym, ap, ◌∙◌, subst}
+use Rattle.std.specs.List.{list_any}
+use Rattle.std.proofs.lemmas.Bool.{false≢true}
 use Rattle.ov_base.specs.declared.call.Call.TheVariants.{Arm}
 use Rattle.ov_base.specs.declared.errno.Errno.{Errno}
 use Rattle.ov_base.specs.declared.errno.Errno.TheVariants.{EBUSY, ELOOP, ENOENT, ENOSPC}
@@ -8,13 +10,14 @@ use Rattle.ov_base.specs.declared.node_id.NodeId.TheVariants.{New}
 use Rattle.ov_base.specs.declared.reply.Reply.TheVariants.{Refused, Watch}
 use Rattle.plain_model.specs.Layers.{Layer, Path, Shown, shows}
 use Rattle.plain_model.specs.Tree.{node_at}
-use Rattle.plain_model.specs.Alike.{AnswersAlike}
-use Rattle.plain_model.specs.Watching.{Rule}
+use Rattle.plain_model.specs.Alike.{AnswersAlike, AreAllAlike, AreAlikeWatches, Identities}
+use Rattle.plain_model.specs.Watching.{Instance, Rule}
 use Rattle.plain_model.specs.Machine.{State, armed_of, hooks_of, instance_of, watch_on, watches_of}
 use Rattle.plain_model.specs.Refusals.{◌or_else◌, WATCHES_MAX, is_busy, refusal, when}
 use Rattle.plain_model.specs.Changes.{after}
 use Rattle.plain_model.specs.Replies.{next_number, number_of}
 use Rattle.plain_model.specs.Runs.{Called}
+use Rattle.plain_model.proofs.Alike.{zip-any}
 use Rattle.plain_model.proofs.Looking.{when-not}
 use Rattle.merged_lookup.specs.Merged.{layers_of, lowers_of}
 use Rattle.mount_laws.specs.Attributes.{chown_fault}
@@ -30,10 +33,12 @@ use Rattle.notice_laws.proofs.ArmedWatches.{law_of_armed}
 use Rattle.notice_laws.proofs.Clients.{law_of_asked}
 use Rattle.notice_laws.proofs.FewerObjects.{law_of_fewer_numbers}
 use Rattle.notice_laws.proofs.GivenNumbers.{law_of_held_number}
-use Rattle.notice_laws.proofs.Numbers.{number-at, law_of_numbers}
-use Rattle.notifier.specs.Arming.{ArmsAt, IsArmRefused, IsLeft, refusal_of, watch_of}
+use Rattle.notice_laws.proofs.Numbers.{number-at, law_of_numbers, node-shown}
+use Rattle.notice_laws.proofs.Told.{unheard}
+use Rattle.notifier.specs.Arming.{ArmsAt, IsArmJudged, IsLeft, refusal_of, watch_of}
 use Rattle.notifier.specs.Opening.{HoldsObject}
 use Rattle.watch_table.specs.Listening.{slot_refusal}
+use Rattle.watch_table.proofs.Arming.{unwatched-arm}
 use Rattle.mount_calls.specs.declared.mount.Mount.{Mount}
 use Rattle.mount_calls.specs.Attaching.{is_attached}
 use Rattle.mount_calls.specs.States.{Serves}
@@ -48,20 +53,111 @@ pub no-link : (Ls : List Layer) (p : Path) (mask : ℕ) → arm_fault Ls p mask 
 no-link Ls p mask h =
     when-not (shows_link (shows 0 Ls p)) ELOOP (second-none (walk_fault Ls p) _ (first-none (chown_fault Ls p) _ h))
 
--- and something stands there that is tracked
+-- and something is shown there
+pub is-shown : (Ls : List Layer) (p : Path) (mask : ℕ) → arm_fault Ls p mask ≡ None →
+    is_some (shows 0 Ls p) ≡ true
+is-shown Ls p mask h = shown (shows 0 Ls p) (second-none (parents_fault Ls p) _ walk)
+  where
+    walk : walk_fault Ls p ≡ None
+    walk = first-none (walk_fault Ls p) _ (first-none (chown_fault Ls p) _ h)
+
+    shown : (x : Option Shown) → absent x ≡ None → is_some x ≡ true
+    shown None h = let no : Some ENOENT ≡ None = h in cc
+    shown (Some x) h = refl
+
+-- so something stands there that is tracked
 pub is-tracked : (U : Layer) (lowers : List Layer) (p : Path) (mask : ℕ) (o : Object) → arm_fault (U ∷ lowers) p mask ≡ None → IsObject U lowers p o →
     o ≢ object.Other
 is-tracked U lowers p mask o h is other = elim (subst (IsObject U lowers p) other is) [
-  | inl none ↦ shown (shows 0 (U ∷ lowers) p) (second-none (parents_fault (U ∷ lowers) p) _ walk) none
+  | inl none ↦ neither (shows 0 (U ∷ lowers) p) none (is-shown (U ∷ lowers) p mask h)
   | inr link ↦ (let no : true ≡ false = sym link ∙ no-link (U ∷ lowers) p mask h in cc)
 ]
   where
-    walk : walk_fault (U ∷ lowers) p ≡ None
-    walk = first-none (walk_fault (U ∷ lowers) p) _ (first-none (chown_fault (U ∷ lowers) p) _ h)
+    neither : (x : Option Shown) → is_none x ≡ true → is_some x ≡ true → ⊥
+    neither None none some = false≢true some
+    neither (Some x) none some = false≢true none
 
-    shown : (x : Option Shown) → absent x ≡ None → is_none x ≡ true → ⊥
-    shown None h none = let no : Some ENOENT ≡ None = h in cc
-    shown (Some x) h none = let no : false ≡ true = none in cc
+-- of instances that are alike a client's slot has a watch on both sides, or on neither
+slot-alike : (of : Identities) (es fs : List Instance) → AreAllAlike of es fs → (c slot : ℕ) →
+    list_any (λ w. nat_eq w.slot slot) (watches_of (instance_of es c)) ≡ list_any
+    (λ w. nat_eq w.slot slot) (watches_of (instance_of fs c))
+slot-alike of [] [] alike c slot = refl
+slot-alike of [] (f ∷ fs) alike c slot = absurd alike
+slot-alike of (e ∷ es) [] alike c slot = absurd alike
+slot-alike of (e ∷ es) (f ∷ fs) alike c slot =
+    ap (λ n. has (cond (nat_eq n c) (Some e) (instance_of es c))) alike.0.client
+    ∙ by (nat_eq f.client c) (slot-alike of es fs alike.1 c slot)
+  where
+    has : Option Instance → Bool
+    has o = list_any (λ w. nat_eq w.slot slot) (watches_of o)
+
+    by : (b : Bool) → has (instance_of es c) ≡ has (instance_of fs c) →
+        has (cond b (Some e) (instance_of es c)) ≡ has (cond b (Some f) (instance_of fs c))
+    by true rest =
+        zip-any (AreAlikeWatches of) (λ w. nat_eq w.slot slot) (λ w. nat_eq w.slot slot)
+        (λ v w k. ap (λ n. nat_eq n slot) k.slot)
+        e.watches f.watches alike.0.watches
+    by false rest = rest
+
+module _ (U : Layer) (lowers : List Layer) (s : State) (m : IsMountOf U lowers s) (k : Notified)
+    (t : Tracks U s k) (p : Path) (c slot : ℕ) where
+  -- a client's instance answers as the state's does
+  asked : AnswersAlike (stands_for k.objects t.bearers) (instance_of k.instances c)
+      (instance_of s.instances c)
+  asked = law_of_asked U s k t c
+
+  -- the refusal of an arm of a node
+  abbrev refused-on : Option NodeId → Option Errno
+  refused-on d =
+      when (is_busy (watches_of (instance_of s.instances c)) slot d) EBUSY
+      or_else when (is_none (watch_on (watches_of (instance_of s.instances c)) d) && not (nat_lt (armed_of (instance_of s.instances c)) WATCHES_MAX)) ENOSPC
+
+  -- an arm of what a number means is refused as one of the node is
+  number-refusal : (number : ℕ) → Means k.objects t.bearers (Some number) (node_at s.tree p) →
+      node_refusal s c slot p ≡ refusal_of k c slot (Some number)
+  number-refusal number means = ap refused-on (found-at s.tree p) ∙ by (node_at s.tree p) means
+    where
+      by : (d : Option NodeId) → Means k.objects t.bearers (Some number) d →
+          refused-on d ≡ refusal_of k c slot (Some number)
+      by None h = absurd h
+      by (Some d) h =
+          let one : stands_for k.objects t.bearers (New number) d = (number, refl, h.0, h.1) in
+          ap (λ b. when b EBUSY or_else when (is_none (watch_on (watches_of (instance_of s.instances c)) (Some d)) && not (nat_lt (armed_of (instance_of s.instances c)) WATCHES_MAX)) ENOSPC)
+          (sym (asked.busy (New number) d slot one))
+          ∙ ap (λ b. when (is_busy (watches_of (instance_of k.instances c)) slot (Some (New number))) EBUSY or_else when (b && not (nat_lt (armed_of (instance_of s.instances c)) WATCHES_MAX)) ENOSPC)
+          (sym (asked.free (New number) d one))
+          ∙ ap (λ n. when (is_busy (watches_of (instance_of k.instances c)) slot (Some (New number))) EBUSY or_else when (is_none (watch_on (watches_of (instance_of k.instances c)) (Some (New number))) && not (nat_lt n WATCHES_MAX)) ENOSPC)
+          (sym asked.armed)
+
+  -- and one of what none means as one that nobody watches
+  unknown-refusal : (d : NodeId) → node_at s.tree p ≡ Some d →
+      Means k.objects t.bearers None (Some d) →
+      node_refusal s c slot p ≡ refusal_of k c slot None
+  unknown-refusal d at unknown =
+      ap refused-on (found-at s.tree p ∙ at)
+      ∙ unwatched-arm s.instances c slot d
+      (unheard k.objects t.bearers d unknown k.instances s.instances t.heard)
+      ∙ ap (λ b. when b EBUSY or_else when
+      (not (nat_lt (armed_of (instance_of s.instances c)) WATCHES_MAX)) ENOSPC)
+      (sym (slot-alike (stands_for k.objects t.bearers) k.instances s.instances t.heard c slot))
+      ∙ ap (λ n. when (list_any (λ w. nat_eq w.slot slot) (watches_of (instance_of k.instances c)))
+      EBUSY or_else when (not (nat_lt n WATCHES_MAX)) ENOSPC)
+      (sym asked.armed)
+
+  -- so it is refused as it was judged
+  pub judged-refusal : (o : Object) → IsObject U lowers p o →
+      is_some (shows 0 (U ∷ lowers) p) ≡ true → (r : Option Errno) → IsArmJudged k c slot p o r →
+      node_refusal s c slot p ≡ r
+  judged-refusal o is shown r judged =
+      by judged.number (law_of_numbers U lowers s m k.objects t.bearers t.borne p o judged.number is
+      judged.found) ∙ sym judged.judged
+    where
+      by : (number : Option ℕ) → Means k.objects t.bearers number (node_at s.tree p) →
+          node_refusal s c slot p ≡ refusal_of k c slot number
+      by (Some number) means = number-refusal number means
+      by None means =
+          let there = node-shown U lowers s m p shown in
+          unknown-refusal there.0 there.1 (subst (Means k.objects t.bearers None) there.1 means)
 
 module _ (U : Layer) (lowers : List Layer) (s : State) (m : IsMountOf U lowers s) (k : Notified) (t : Tracks U s k)
     (p : Path) (o : Object) (is : IsObject U lowers p o) (file : shows_link (shows 0 (U ∷ lowers) p) ≡ false)
@@ -80,28 +176,7 @@ module _ (U : Layer) (lowers : List Layer) (s : State) (m : IsMountOf U lowers s
   asked-held : (c : ℕ) → AnswersAlike (stands_for held tracks-held.bearers) (instance_of k.instances c) (instance_of s.instances c)
   asked-held c = law_of_asked U s (record k { objects = held }) tracks-held c
 
-  -- an arm of it is refused as one of the node is
-  pub held-refusal : (c slot : ℕ) → node_refusal s c slot p ≡ refusal_of k c slot number
-  held-refusal c slot = ap of (found-at s.tree p) ∙ by (node_at s.tree p) means-held
-    where
-      of : Option NodeId → Option Errno
-      of d =
-          when (is_busy (watches_of (instance_of s.instances c)) slot d) EBUSY
-          or_else when (is_none (watch_on (watches_of (instance_of s.instances c)) d) && not (nat_lt (armed_of (instance_of s.instances c)) WATCHES_MAX)) ENOSPC
-
-      by : (d : Option NodeId) → Means held tracks-held.bearers (Some number) d → of d ≡ refusal_of k c slot number
-      by None h = absurd h
-      by (Some d) h =
-          let a = asked-held c in
-          let one : stands_for held tracks-held.bearers (New number) d = (number, refl, h.0, h.1) in
-          ap (λ b. when b EBUSY or_else when (is_none (watch_on (watches_of (instance_of s.instances c)) (Some d)) && not (nat_lt (armed_of (instance_of s.instances c)) WATCHES_MAX)) ENOSPC)
-          (sym (a.busy (New number) d slot one))
-          ∙ ap (λ b. when (is_busy (watches_of (instance_of k.instances c)) slot (Some (New number))) EBUSY or_else when (b && not (nat_lt (armed_of (instance_of s.instances c)) WATCHES_MAX)) ENOSPC)
-          (sym (a.free (New number) d one))
-          ∙ ap (λ n. when (is_busy (watches_of (instance_of k.instances c)) slot (Some (New number))) EBUSY or_else when (is_none (watch_on (watches_of (instance_of k.instances c)) (Some (New number))) && not (nat_lt n WATCHES_MAX)) ENOSPC)
-          (sym a.armed)
-
-  -- and gives the same watch
+  -- an arm of it gives the watch that one of the node gives
   pub held-number : (c : ℕ) → watch_of k c number ≡ number_of (watch_on (watches_of (instance_of s.instances c)) (node_at s.tree p)) (next_number (instance_of s.instances c))
   held-number c = by (node_at s.tree p) means-held
     where
@@ -153,31 +228,37 @@ left-stays m old new left known s a = record {
   tracks = left-tracks (mount_upper m) s old new left known a.tracks;
 }
 
+-- an arm that passes its slot and its path is refused as it was judged
+pub arm-judged : (m : Mount) (k : Notified) (c slot : ℕ) (p : Path) (mask : ℕ) (o : Object) →
+    slot_refusal (hooks_of (instance_of k.instances c)) slot mask ≡ None →
+    arm_fault (layers_of m.layers) p mask ≡ None →
+    IsObject (mount_upper m) (lowers_of m.layers) p o → (r : Option Errno) →
+    IsArmJudged k c slot p o r → (s : State) → Agrees m k s →
+    refusal s c (Arm slot p mask) ≡ r
+arm-judged m k c slot p mask o slots fault is r judged s a =
+    refusal-by m k s a c slot p mask None None r slots fault
+    (judged-refusal (mount_upper m) (lowers_of m.layers) s a.stands.layers k a.tracks p c slot o is
+    (is-shown (layers_of m.layers) p mask fault) r judged)
+
+-- AN ARM IS REFUSED for what stands at its path
+pub object-refused : (shows : Rule) (m : Mount) (k : Notified) (c slot : ℕ) (p : Path) (mask : ℕ)
+    (o : Object) → is_attached m.clients c ≡ true →
+    slot_refusal (hooks_of (instance_of k.instances c)) slot mask ≡ None →
+    arm_fault (layers_of m.layers) p mask ≡ None →
+    IsObject (mount_upper m) (lowers_of m.layers) p o → (e : Errno) →
+    IsArmJudged k c slot p o (Some e) →
+    Goes shows m k c (Called (Arm slot p mask) (Refused e)) m k
+object-refused shows m k c slot p mask o there slots fault is e judged =
+    goes-refused shows m k c (Arm slot p mask) e there
+    (arm-judged m k c slot p mask o slots fault is (Some e) judged)
+
 module _ (shows : Rule) (m : Mount) (old new : Notified) (c slot : ℕ) (p : Path) (mask : ℕ) (o : Object)
     (there : is_attached m.clients c ≡ true)
     (slots : slot_refusal (hooks_of (instance_of old.instances c)) slot mask ≡ None)
     (fault : arm_fault (layers_of m.layers) p mask ≡ None)
     (is : IsObject (mount_upper m) (lowers_of m.layers) p o)
+    (judged : IsArmJudged old c slot p o None)
     (known : AreKnown new) where
-  -- an arm that passes its path is refused as the object of its number is
-  refusal-held : (s : State) → Agrees m old s → (held : Objects) (number : ℕ) → HoldsObject old.objects held p o number →
-      refusal s c (Arm slot p mask) ≡ refusal_of old c slot number
-  refusal-held s a held number at =
-      refusal-by m old s a c slot p mask None None (refusal_of old c slot number) slots fault
-      (held-refusal (mount_upper m) (lowers_of m.layers) s a.stands.layers old a.tracks p o is (no-link (layers_of m.layers) p mask fault) held
-      number at c slot)
-
-  -- AN ARM IS REFUSED for what stands at its path
-  pub object-refused : (e : Errno) → IsArmRefused old c slot p o e → IsLeft old new → Goes shows m old c (Called (Arm slot p mask) (Refused e)) m new
-  object-refused e not left =
-      goes-agreed shows c (Arm slot p mask) (Refused e) m m old new there
-      (λ s a. subst (λ x. Serves x s c (Arm slot p mask) (Refused e) m) (sym (refused s a)) (refl, a.stands))
-      (λ s a f same. left-tracks (mount_upper m) s old new left known a.tracks)
-      (λ s a fine. absurd (let no : None ≡ Some e = sym fine ∙ refused s a in cc))
-    where
-      refused : (s : State) → Agrees m old s → refusal s c (Arm slot p mask) ≡ Some e
-      refused s a = refusal-held s a not.held not.number not.holds ∙ not.refused
-
   -- AN ARM GOES
   pub arm-goes : (n : ℕ) → ArmsAt old new c slot mask p o n → Goes shows m old c (Called (Arm slot p mask) (Watch (pos n))) m new
   arm-goes n arms =
@@ -201,5 +282,5 @@ module _ (shows : Rule) (m : Mount) (old new : Notified) (c slot : ℕ) (p : Pat
 
       serves : (s : State) → Agrees m old s → Serves (refusal s c (Arm slot p mask)) s c (Arm slot p mask) (Watch (pos n)) m
       serves s a =
-          subst (λ x. Serves x s c (Arm slot p mask) (Watch (pos n)) m) (sym (refusal-held s a arms.held arms.arms.number arms.holds ∙ arms.allowed))
+          subst (λ x. Serves x s c (Arm slot p mask) (Watch (pos n)) m) (sym (arm-judged m old c slot p mask o slots fault is None judged s a))
           (ap (λ i. Watch (pos i)) (answer s a), with-instances m s (after s c (Arm slot p mask)).instances a.stands)

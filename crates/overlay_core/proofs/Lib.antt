@@ -4,14 +4,15 @@ pub mod Performing
 pub mod Instances
 pub mod Arriving
 pub mod Leaving
-pub mod Names
 pub mod Bare
 pub mod Lifted
 pub mod Altering
 pub mod Uses
 pub mod Making
+pub mod NeverRefused
 pub mod WatchCalls
 pub mod ArmCalls
+pub mod ArmFaults
 pub mod Arming
 pub mod Opens
 pub mod OpenedNodes

@@ -1,5 +1,5 @@
 -- Calls that a mount made, and what is kept for watches then.
-use Rattle.std.proofs.Common.{◌≡◌, ◌≢◌, ℕ, true, false, Result, Ok, Err, refl, sym, ap, subst}
+use Rattle.std.proofs.Common.{◌≡◌, ◌≢◌, ℕ, true, false, Some, Result, Ok, Err, refl, sym, ap, subst}
 use Rattle.std.specs.Prelude.{IfOk, IsErr, OnErr}
 use Rattle.std.specs.declared.alloc.AllocError.{AllocError}
 use Rattle.ov_base.specs.declared.call.Call.{Call}
@@ -8,6 +8,7 @@ use Rattle.ov_base.specs.declared.reply.Reply.{Reply}
 use Rattle.ov_base.specs.declared.reply.Reply.TheVariants.{Done, Refused}
 use Rattle.plain_model.specs.Watching.{Rule}
 use Rattle.plain_model.specs.Machine.{State}
+use Rattle.plain_model.specs.Refusals.{refusal}
 use Rattle.plain_model.specs.Replies.{reply_of}
 use Rattle.plain_model.specs.Runs.{Called}
 use Rattle.merged_lookup.specs.Merged.{lowers_of}
@@ -17,8 +18,10 @@ use Rattle.mount_calls.specs.declared.mount.Mount.{Mount}
 use Rattle.mount_calls.specs.Attaching.{is_attached}
 use Rattle.mount_calls.specs.LeftMarks.{LeavesMarks}
 use Rattle.mount_calls.specs.Making.{MakesCall, TellsCall, TellsEach}
+use Rattle.mount_calls.specs.States.{IsStateOf}
 use Rattle.mount_calls.proofs.LeftMarks.{marks-none}
-use Rattle.mount_calls.proofs.MakingCalls.{attached-same, makes-nothing, makes-read}
+use Rattle.mount_calls.proofs.MakingCalls.{attached-same, makes-nothing, makes-read, makes-unmade}
+use Rattle.mount_calls.proofs.Named.{is_refused}
 use Rattle.overlay_core.specs.declared.watched.Watched.{Watched}
 use Rattle.overlay_core.specs.Performing.{Performs}
 use Rattle.overlay_core.specs.Watching.{Agrees, Goes, Keeps, Stays}
@@ -91,6 +94,18 @@ module _ {F G : Type 0} {shows : Rule} where
     performs-silent there keeps silent (Ok r) m marks =
         performs-told m (goes-silent shows c k r old.mount new old.notifier (performed-by there m) keeps (λ s st fine. silent s)) (λ is. marks)
     performs-silent there keeps silent (Err e) m marks = performs-out m (Err e) refl
+
+  -- one that was judged and refused changes nothing
+  pub performs-judged : {c : ℕ} {k : Call} {old : Watched F G} (e : Errno) →
+      is_attached old.mount.clients c ≡ true →
+      ((s : State) → reply_of s c k ≡ Done) →
+      ((s : State) → IsStateOf old.mount s → (d : ℕ) → refusal s d k ≡ Some e) →
+      Performs shows c k old old (Ok (Refused e))
+  performs-judged {c} {k} {old} e there answers refuses =
+      performs-refused (Refused e) there
+      (makes-unmade c k old.mount old.mount.layers e (λ s. ap is_refused (answers s))
+      (λ s st. refuses s st c) refl) answers
+      (λ same. let no : Refused e ≡ Done = same in cc)
 
   -- and so does one that only asks
   pub performs-asked : {c : ℕ} {k : Call} {old : Watched F G} → is_attached old.mount.clients c ≡ true →

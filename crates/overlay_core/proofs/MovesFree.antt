@@ -1,5 +1,5 @@
 -- What a rename that moves something needs of what is kept for watches, also where the state isn't told: the key and the place are free.
-use Rattle.std.proofs.Common.{◌≡◌, ◌≢◌, ◌∷◌, ◌||◌, ◌⊎◌, inl, inr, ℕ, suc, Bool, true, false, List, [], Option, None, Some, is_some, refl, sym, ap, subst, ◌∙◌}
+use Rattle.std.proofs.Common.{◌≡◌, ◌∷◌, ◌||◌, ◌⊎◌, inl, inr, ℕ, suc, Bool, true, false, List, Option, None, Some, is_some, refl, sym, ap, subst, ◌∙◌}
 use Rattle.std.proofs.lemmas.Bool.{false≢true}
 use mathlib.Core.Logic.{∥∥₁_elim}
 use mathlib.Core.HLevel.{⊥_prop}
@@ -26,11 +26,6 @@ use Rattle.notifier.specs.Notifying.{IsBareAt}
 use Rattle.overlay_core.proofs.Bare.{bare-squashed, lower-bare}
 use Rattle.overlay_core.proofs.Shown.{none-some}
 use Rattle.overlay_core.proofs.Renamed.{directory-onto, lifted-there, lifted-vacant, loses-spot, moved-apart, nothing-there}
-
--- a rename onto the root is refused in each state
-pub root-refused : (s : State) (c : ℕ) (p : Path) → refusal s c (Rename p []) ≢ None
-root-refused s c [] fine = let z : Some EBUSY ≡ None = by-path s c (Rename [] []) fine in cc
-root-refused s c (n ∷ p) fine = let z : Some EBUSY ≡ None = by-path s c (Rename (n ∷ p) []) fine in cc
 
 -- what is there is found
 there-found : (l : Look) → there l ≡ None → is_found l ≡ true

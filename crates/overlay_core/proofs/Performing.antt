@@ -23,7 +23,6 @@ use Rattle.mount_calls.specs.Attaching.{is_attached}
 use Rattle.mount_calls.specs.Living.{KeepsNamed}
 use Rattle.mount_calls.specs.Making.{MakesCall}
 use Rattle.mount_calls.specs.States.{HasStateOf, IsStateOf, Serves}
-use Rattle.mount_calls.specs.Status.{outcome_reply}
 use Rattle.mount_calls.proofs.Frames.{same-layers}
 use Rattle.overlay_core.specs.Watching.{Agrees, Goes, HasState, Keeps}
 use Rattle.overlay_core.proofs.Watching.{goes, passes, tracks-same, mount_upper}
@@ -83,11 +82,6 @@ kept-by m = record { clients = m.attached; layers = m.layers; lowers = m.lowers;
 pub performed-by : {c : ℕ} {k : Call} {old new : Mount} {r : Reply} → is_attached old.clients c ≡ true → MakesCall c k old new (Ok r) →
     Performed c k r old new
 performed-by there m = record { there = there; serves = m.answers.serves; lowers = m.lowers; named = m.answers.named; refused = m.answers.refused }
-
--- and where its outcome is this one
-pub outcome-so : {A : Type 0} (c : ℕ) (k : Call) (is outcome : Result A Errno) (old new : Mount) → is ≡ outcome → is_attached old.clients c ≡ true →
-    MakesCall c k old new (Ok (outcome_reply outcome)) → Performed c k (outcome_reply is) old new
-outcome-so c k is outcome old new same there made = subst (λ o. Performed c k (outcome_reply o) old new) (sym same) (performed-by there made)
 
 -- a call goes as what it is
 pub goes-as : {E : Type 0} (rule : Rule) (c : ℕ) (k j : Call) (result : Result Reply E) (old new : Mount) (from to : Notified) → k ≡ j →

@@ -1,5 +1,5 @@
 -- A call that may lack nothing is made in the same way whether or not there is an upper.
-use Rattle.std.proofs.Common.{◌≡◌, ℕ, Bool, true, false, ◌&&◌, cond, nat_lt, List, [], Option, None, refl, sym, ap, ◌∙◌, subst}
+use Rattle.std.proofs.Common.{◌≡◌, ℕ, Bool, true, false, ◌&&◌, cond, nat_lt, IsSome, List, [], Option, None, refl, sym, ap, ◌∙◌, subst}
 use Rattle.std.proofs.lemmas.Bool.{false≢true}
 use Rattle.ov_base.specs.declared.call.Call.{Call}
 use Rattle.ov_base.specs.declared.errno.Errno.{Errno}
@@ -29,6 +29,10 @@ use Rattle.overlay_core.specs.Watching.{Agrees, AgreesAs, Goes, GoesAs}
 use Rattle.overlay_core.proofs.ReadOnly.{agrees-plain, blank-on, closed-none, goes-reading, goes-writing, held-none}
 use Rattle.overlay_core.proofs.ReadRefusals.{refused-same}
 use Rattle.overlay_core.proofs.ReadSteps.{plain-held, plain-writes}
+
+-- nothing is there where there is nothing
+pub none-there : (o : Option Errno) → o ≡ None → IsSome o → ⊥
+none-there o none some = false≢true (subst IsSome none some)
 
 -- where both hold
 pub both : (a b : Bool) → (a && b) ≡ true → (a ≡ true) × (b ≡ true)
@@ -65,6 +69,16 @@ module _ (b : Bool) (k : Call) (plain : b ≡ true → may_lack k ≡ false) whe
           ap (next_by m j t) (refused-same s j.client j.call (plain-writes s j.call (ap may_lack call ∙ plain only)))
           ∙ is (writable s) a.0
       by false not = is s (agrees-plain b m u s not a)
+
+  -- what no state refuses that agreed is refused by none of its kind
+  pub allowed-plain : (m : Mount) (u : Notified) (c : ℕ) →
+      ((s : State) → Agrees m u s → refusal s c k ≡ None) →
+      (s : State) → AgreesAs b m u s → refusal s c k ≡ None
+  allowed-plain m u c none s a = by b refl
+    where
+      by : (d : Bool) → b ≡ d → refusal s c k ≡ None
+      by true only = refused-same s c k (plain-writes s k (plain only)) ∙ none (writable s) a.0
+      by false not = none s (agrees-plain b m u s not a)
 
   -- an upper that holds nothing does so still
   pub blank-plain : (old new : Layers) → new.lowers ≡ old.lowers → KeepsLayers k old new →

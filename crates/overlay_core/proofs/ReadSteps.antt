@@ -15,7 +15,7 @@ use Rattle.layer_tree.specs.Tree.{SameObjects, layer_of}
 use Rattle.merged_lookup.specs.declared.layers.Layers.{Layers}
 use Rattle.merged_lookup.specs.Merged.{upper_of, lowers_of}
 use Rattle.mount_laws.specs.Renaming.{is_one}
-use Rattle.ov_base.specs.declared.source.Source.{Source}
+use Rattle.ov_base.specs.declared.place.Place.{Place}
 use Rattle.work_dir.specs.NextSteps.{next_of}
 use Rattle.work_dir.specs.declared.next.Lack.TheVariants.{Nothing}
 use Rattle.work_dir.specs.declared.next.Next.TheVariants.{Finish}
@@ -107,7 +107,7 @@ open-keeps false c true p A B h keeps = absurd (no-empty p [] h)
 open-keeps false true false p A B h keeps = keeps
 open-keeps false false false p A B h keeps = keeps
 
-open-reads : (w absent : Bool) (p : Path) (d : Option Source) → cond (w || absent) (p ∷ []) [] ≡ [] → cond w d None ≡ None
+open-reads : (w absent : Bool) (p : Path) (d : Option Place) → cond (w || absent) (p ∷ []) [] ≡ [] → cond w d None ≡ None
 open-reads true absent p d h = absurd (no-empty p [] h)
 open-reads false absent p d h = refl
 

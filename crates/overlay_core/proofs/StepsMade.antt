@@ -1,5 +1,5 @@
 -- What each kind of step makes.
-use Rattle.std.proofs.Common.{◌≡◌, ◌≢◌, ℕ, ◌+◌, Bool, List, Option, None, Result, Ok, Err, IsOk, map, refl, sym, ap, ◌∙◌, subst}
+use Rattle.std.proofs.Common.{◌≡◌, ◌≢◌, ℕ, ◌+◌, Bool, List, Option, None, Result, Ok, Err, IsOk, OnErr, map, refl, sym, ap, ◌∙◌, subst}
 use Rattle.std.specs.declared.alloc.AllocError.{AllocError}
 use Rattle.ov_base.specs.declared.call.Call.{Call}
 use Rattle.ov_base.specs.declared.reply.Reply.{Reply}
@@ -160,6 +160,13 @@ module _ {F G : Type 0} (shows : Rule) where
 pub ended-over : (k : Job) (r : Result Reply AllocError) (turn : Turn) → EndsBy k r turn → turn ≢ More
 ended-over k (Ok r) turn ends is = let e : Done r ≡ More = sym ends.0 ∙ is in cc
 ended-over k (Err a) turn ends is = let e : NoMemory ≡ More = sym ends.0 ∙ is in cc
+
+pub ended-allowed : (k : Job) (r : Result Reply AllocError) (turn : Turn) (A : Type 0) →
+    EndsBy k r turn → OnErr r A →
+    turn ≡ NoMemory → A
+ended-allowed k (Ok r) turn A ends out is = let e : Done r ≡ NoMemory = sym ends.0
+    ∙ is in absurd (cc)
+ended-allowed k (Err a) turn A ends out is = out
 
 pub ended-memory : (k : Job) (r : Result Reply AllocError) (turn : Turn) → EndsBy k r turn → IsOk r → turn ≢ NoMemory
 ended-memory k (Ok r) turn ends fine is = let e : Done r ≡ NoMemory = sym ends.0 ∙ is in cc

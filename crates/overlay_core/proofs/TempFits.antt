@@ -2,7 +2,6 @@
 use Rattle.std.proofs.Common.{arith, mul-zero, ◌≡◌, ℕ, ◌*◌, ◌<◌, ◌≤◌, ◌⊎◌, inl, inr, Bool, true, false, cond, nat_lt, List, [], length, take, Option, None, Some, option_map, unwrap_or, refl, sym, ap, ◌∙◌, subst}
 use Rattle.std.specs.Option.{ForSome}
 use Rattle.std.proofs.lemmas.Bool.{ltb-true}
-use Rattle.std.proofs.lemmas.Option.{same_Some}
 use Rattle.std.proofs.lemmas.List.{take_all, length-take}
 use Rattle.plain_model.specs.Layers.{Layer}
 use Rattle.work_dir.specs.Beginnings.{Beginning, empty_beginning, longer_beginning}
@@ -11,7 +10,7 @@ use Rattle.work_dir.specs.Chunks.{chunk_of}
 use Rattle.work_dir.proofs.Chunks.{few_chunks}
 use Rattle.work_dir.specs.declared.limits.TheConstants.{CHUNKS_MAX}
 use Rattle.work_dir.specs.declared.next.Lack.TheVariants.{File}
-use Rattle.ov_base.specs.declared.source.Source.{Source}
+use Rattle.ov_base.specs.declared.place.Place.{Place}
 use Rattle.work_dir.specs.declared.table.OpenJob.{OpenJob}
 use Rattle.mount_calls.specs.Lacks.{bytes_at, lack_size}
 use Rattle.mount_calls.proofs.Words.{cases_eq}
@@ -106,12 +105,12 @@ held-fits lowers work j temps t e = by (nat_lt 0 j.begins) e
     by false h = cc
 
 -- a temp without a byte is one
-pub begun-fits : (lowers : List Layer) (d : Source) (b : List ℕ) → bytes_at lowers d ≡ Some b →
+pub begun-fits : (lowers : List Layer) (d : Place) (b : List ℕ) → bytes_at lowers d ≡ Some b →
     IsTemp lowers (empty_beginning d b)
 begun-fits lowers d b is = (is, ap (λ n. take n b) (sym (mul-zero (chunk_of (length b)))))
 
 -- which has the bytes that its file has
-pub begun-of : (lowers : List Layer) (d : Source) (b : List ℕ) → bytes_at lowers d ≡ Some b →
+pub begun-of : (lowers : List Layer) (d : Place) (b : List ℕ) → bytes_at lowers d ≡ Some b →
     empty_beginning d b ≡ begun lowers d
 begun-of lowers d b is = ap (λ o. empty_beginning d (unwrap_or o [])) (sym is)
 

@@ -12,8 +12,9 @@ use Rattle.work_dir.specs.Beginnings.{Beginning}
 use Rattle.work_dir.specs.NextSteps.{next_of, IsDue, IsPartial}
 use Rattle.work_dir.specs.declared.next.Lack.{Lack}
 use Rattle.work_dir.specs.declared.next.Lack.TheVariants.{File}
+use Rattle.work_dir.specs.declared.next.Next.TheVariants as next
 use Rattle.work_dir.specs.declared.next.Next.TheVariants.{Begin, Copy}
-use Rattle.ov_base.specs.declared.source.Source.{Source}
+use Rattle.ov_base.specs.declared.place.Place.{Place}
 use Rattle.mount_calls.specs.Lacks.{lack_of, lack_size}
 use Rattle.mount_calls.specs.States.{IsStateOf}
 use Rattle.mount_calls.specs.declared.mount.Mount.{Mount}
@@ -26,8 +27,15 @@ use Rattle.overlay_core.specs.Waits.{IsFor, WaitsFor, WaitsForAny}
 pub none-waits : (m : Mount) (waiting : List Waiting) → waiting ≡ [] → WaitsForAny m waiting
 none-waits m waiting none = subst (WaitsForAny m) (sym none) (λ w e. cc)
 
+-- a call whose next step places a parent is not refused
+pub placed-allowed : (refused : Option Errno) (l : Lack) (p b : ℕ) (t : Option Beginning) (size : ℕ)
+    (second : Bool) (count : ℕ) →
+    next_of refused l p b t size ≡ next.Place second count → refused ≡ None
+placed-allowed (Some e) l p b t size second count h = cc
+placed-allowed None l p b t size second count h = refl
+
 -- a call whose next step begins a copy is not refused
-pub begun-allowed : (refused : Option Errno) (l : Lack) (p b : ℕ) (t : Option Beginning) (size : ℕ) (d : Source) →
+pub begun-allowed : (refused : Option Errno) (l : Lack) (p b : ℕ) (t : Option Beginning) (size : ℕ) (d : Place) →
     next_of refused l p b t size ≡ Begin d → refused ≡ None
 begun-allowed (Some e) l p b t size d h = cc
 begun-allowed None l p b t size d h = refl
@@ -52,7 +60,7 @@ copies-part m w (Some x) waits part =
     let L = lowers_of m.layers in
     let e : File w.source ≡ File x.source = part.0 in
     let same : w.source ≡ x.source = cc in
-    subst (λ (d : Source). length x.bytes < lack_size L (File d)) same (subst (λ z. length x.bytes < z) (sym waits.2) part.1)
+    subst (λ (d : Place). length x.bytes < lack_size L (File d)) same (subst (λ z. length x.bytes < z) (sym waits.2) part.1)
 
 pub copies-due : (m : Mount) (w : Waiting) (j : Job) (t : Option Beginning) → WaitsFor m w →
     IsDue Copy None (File w.source) j.placings j.begins t w.size → IsNext m j t Copy

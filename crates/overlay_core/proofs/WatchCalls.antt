@@ -84,7 +84,11 @@ not-above count few = elim (cases_Bool (nat_lt 65 count)) [
   | inr f ↦ f
 ]
 
--- and else they are given
+-- so few aren't refused
+pub taking-allowed : (s : State) (c count : ℕ) → count ≤ 65 → refusal s c (TakeNotices count) ≡ None
+taking-allowed s c count few = taking-refusal s c count false (not-above count few)
+
+-- and are given
 pub taking-goes : (shows : Rule) (m : Mount) (old new : Notified) (c count : ℕ) (given : List Notice) → is_attached m.clients c ≡ true →
     count ≤ 65 → given ≡ take count (queue_of (instance_of old.instances c)) → Takes old new c count →
     Goes shows m old c (Called (TakeNotices count) (Unread given)) m new
@@ -95,7 +99,7 @@ taking-goes shows m old new c count given there few is takes =
     (passes s c (TakeNotices count) (Unread given) m m old refl a fine (serves s a) (λ d key q live at. live)) old new a.tracks takes)
   where
     serves : (s : State) → Agrees m old s → Serves (refusal s c (TakeNotices count)) s c (TakeNotices count) (Unread given) m
-    serves s a = subst (λ o. Serves o s c (TakeNotices count) (Unread given) m) (sym (taking-refusal s c count false (not-above count few))) (
+    serves s a = subst (λ o. Serves o s c (TakeNotices count) (Unread given) m) (sym (taking-allowed s c count few)) (
       ap Unread (is ∙ ap (take count) (law_of_asked (mount_upper m) s old a.tracks c).queue),
       with-instances m s (after s c (TakeNotices count)).instances a.stands,
     )

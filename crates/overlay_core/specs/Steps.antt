@@ -6,9 +6,12 @@ use Rattle.ov_base.specs.declared.reply.Reply.{Reply}
 use Rattle.ov_base.specs.declared.reply.Reply.TheVariants as replies
 use Rattle.ov_base.specs.declared.reply.Reply.TheVariants.{Refused}
 use Rattle.plain_model.specs.Layers.{Layer}
+use Rattle.plain_model.specs.Machine.{State}
+use Rattle.plain_model.specs.Refusals.{refusal}
 use Rattle.plain_model.specs.Runs.{Called}
 use Rattle.plain_model.specs.Watching.{Rule}
 use Rattle.merged_lookup.specs.Merged.{upper_of, lowers_of}
+use Rattle.notice_laws.specs.Notified.{Notified}
 use Rattle.copy_up.specs.Needs.{first_names}
 use Rattle.copy_up.specs.Showing.{GainsParent, StaysThin}
 use Rattle.work_dir.specs.Beginnings.{Beginning, empty_beginning, longer_beginning}
@@ -19,7 +22,7 @@ use Rattle.work_dir.specs.declared.next.Lack.{Lack}
 use Rattle.work_dir.specs.declared.next.Lack.TheVariants.{Parent, File}
 use Rattle.work_dir.specs.declared.next.Next.{Next}
 use Rattle.work_dir.specs.declared.next.Next.TheVariants.{Finish, Place, Begin, Copy, AtOnce}
-use Rattle.ov_base.specs.declared.source.Source.{Source}
+use Rattle.ov_base.specs.declared.place.Place as source
 use Rattle.work_dir.specs.declared.table.OpenJob.{OpenJob}
 use Rattle.mount_calls.specs.Attaching.{KeepsAttached}
 use Rattle.mount_calls.specs.Keeping.{KeepsLayers}
@@ -32,7 +35,7 @@ use Rattle.overlay_core.specs.declared.turn.Turn.{Turn}
 use Rattle.overlay_core.specs.declared.turn.Turn.TheVariants.{More, Done, NoMemory}
 use Rattle.overlay_core.specs.declared.watched.Watched.{Watched}
 use Rattle.overlay_core.specs.Temps.{AreTemps}
-use Rattle.overlay_core.specs.Watching.{Goes, Stays}
+use Rattle.overlay_core.specs.Watching.{Agrees, Goes, Stays}
 
 -- the temp that a job holds: the one under its number, where it began it
 abbrev pub held_by : List (Option OpenJob) → Job → Option Beginning
@@ -54,7 +57,7 @@ next_by m j temp refused =
     (lack_size (lowers_of m.layers) (lack_by m j))
 
 -- a beginning of this file without a byte
-abbrev pub begun : List Layer → Source → Beginning
+abbrev pub begun : List Layer → source.Place → Beginning
 begun lowers d = empty_beginning d (unwrap_or (bytes_at lowers d) [])
 
 -- the job goes on, open under a number that was free, with this temp, and no other job changes
@@ -133,6 +136,12 @@ module _ {F G : Type 0} (old new : Watched F G) (e w : List (Option OpenJob)) (j
 abbrev pub EndsBy : Job → Result Reply AllocError → Turn → Type 0
 EndsBy k (Ok r) turn = (turn ≡ Done r) × (k.standing ≡ standing.Answered) × (k.number ≡ None)
 EndsBy k (Err a) turn = (turn ≡ NoMemory) × (k.standing ≡ standing.GivenUp) × (k.number ≡ None)
+
+-- WHAT IS REFUSED NEVER RUNS OUT OF MEMORY: where a step of this job does, no state that agreed
+-- refuses its call
+abbrev pub FailsAllowed : Turn → Mount → Notified → Job → Type 0
+FailsAllowed turn m k j =
+    turn ≡ NoMemory → (s : State) → Agrees m k s → refusal s j.client j.call ≡ None
 
 -- the job is the same client's and the same call's, with one step more
 pub record IsStepped (j k : Job) : Type 0 where

@@ -1,18 +1,23 @@
 // Watches are armed on what stands at a path (inotify_add_watch(2)).
-ghost use Rattle.std.specs.Prelude.{◌≡◌, ℕ, IfOk, List, None, OnErr, Some, true};
+ghost use Rattle.std.specs.Prelude.{◌≡◌, ℕ, IfErr, IfOk, List, None, OnErr, OnOk, Some, true};
 ghost use Rattle.plain_model.specs.Layers as held;
 ghost use Rattle.plain_model.specs.Layers.{Layer, Path as Names, shows};
+ghost use Rattle.plain_model.specs.Machine.{State};
+ghost use Rattle.plain_model.specs.Refusals.{refusal};
 ghost use Rattle.plain_model.specs.Runs.{Called};
 ghost use Rattle.layer_tree.specs.Tree.{inode_of};
-ghost use Rattle.merged_lookup.specs.Merged.{fill_at, layers_of};
+ghost use Rattle.merged_lookup.specs.Merged.{fill_at, layers_of, lowers_of, upper_of, IsTopmost};
 ghost use Rattle.mount_laws.specs.Looks.{walk_fault};
+ghost use Rattle.notice_laws.specs.Objects.{IsObject};
 ghost use Rattle.mount_calls.specs.Attaching.{is_attached};
 ghost use Rattle.overlay_core.specs.PathFaults.{arm_fault};
-ghost use Rattle.overlay_core.specs.Watching.{Goes, HasState, Stays};
+ghost use Rattle.overlay_core.specs.Watching.{Agrees, Goes, HasState, Stays};
 
 use crate::watched::Watched;
 use layer_tree::{Inode, Node};
 use merged_lookup::{Layers, Topmost};
+use mount_calls::Mount;
+use notice_laws::Object;
 use ov_base::{Call, Content, Errno, Path, Reply};
 use std::alloc::AllocError;
 use watch_table::{Callback, Rule};
@@ -38,21 +43,42 @@ fn inode_fault(inode: &Inode, mask: u32) -> Option<Errno>
     }
 }
 
-// Why an arm is refused for its path: the walk, then a symbolic link, and last what is no directory where one is asked for.
-fn path_fault(layers: &Layers, path: &Path, mask: u32) -> Option<Errno>
-    ensures { result ≡ arm_fault (layers_of layers.now) path.now mask }
+// Why an arm is refused for what was found at its path.
+fn found_fault(layers: &Layers, top: Topmost, mask: u32) -> Option<Errno>
+    requires { (p : Names) × IsTopmost layers.now p (Some top) }
+    ensures { (p : Names) → IsTopmost layers.now p (Some top) →
+        walk_fault (layers_of layers.now) p ≡ None → result ≡ arm_fault (layers_of layers.now) p mask }
 {
-    match layers.walk_topmost(path) {
-        Err(errno) => Some(errno),
-        Ok(Topmost::Directory(_)) => None,
-        Ok(Topmost::Inode(place)) => inode_fault(layers.inode_at(place), mask),
+    match top {
+        Topmost::Directory(_) => None,
+        Topmost::Inode(place) => inode_fault(layers.inode_at(place), mask),
+    }
+}
+
+// What stands at the path of an arm, by one walk, or why the arm is refused for it: the walk, then
+// a symbolic link, and last what is no directory where one is asked for.
+fn object_to_arm(mount: &Mount, path: &Path, mask: u32) -> Result<Object, Errno>
+    ensures refused { IfErr result (λ e.
+        arm_fault (layers_of mount.now.layers) path.now mask ≡ Some e) }
+    ensures allowed { OnOk result (arm_fault (layers_of mount.now.layers) path.now mask ≡ None) }
+    ensures object { IfOk result (
+        IsObject (upper_of mount.now.layers) (lowers_of mount.now.layers) path.now) }
+{
+    let layers = mount.layers();
+    let top = match layers.walk_topmost(path) {
+        Ok(top) => top,
+        Err(errno) => return Err(errno),
+    };
+    match found_fault(layers, top, mask) {
+        Some(errno) => Err(errno),
+        None => Ok(mount.object_of(top)),
     }
 }
 
 impl<F: Callback, R: Rule> Watched<F, R> {
     /// Arms what stands at a path for a client through a slot, and gives the watch's number. It is
-    /// refused for the slot and the mask, then for the path, and last for what the client watches.
-    /// An allocation failure leaves what is watched.
+    /// refused for the slot and the mask, then for the path, and last for what the client watches,
+    /// before any memory is taken. An allocation failure leaves what is watched.
     pub(crate) fn arm(
         &mut self,
         client: u64,
@@ -64,24 +90,25 @@ impl<F: Callback, R: Rule> Watched<F, R> {
         requires state { ∥ HasState self.old.mount self.old.notifier ∥₁ }
         ensures goes { IfOk result (λ reply. Goes R.shows self.old.mount self.old.notifier client (Called (Call.Arm slot path.now mask) reply) self.new.mount self.new.notifier) }
         ensures err { OnErr result (Stays self.old.mount self.old.notifier self.new.mount self.new.notifier) }
+        ensures allowed { OnErr result ((s : State) → Agrees self.old.mount self.old.notifier s →
+            refusal s client (Call.Arm slot path.now mask) ≡ None) }
         ensures mount { self.new.mount ≡ self.old.mount }
     {
-        if let Err(errno) = self.notifier.may_arm(client, slot as u32, mask) {
+        let slot = slot as u32;
+        if let Err(errno) = self.notifier.may_arm(client, slot, mask) {
             return Ok(Reply::Refused(errno));
         }
-        if let Some(errno) = path_fault(self.mount.layers(), path, mask) {
+        let object = match object_to_arm(&self.mount, path, mask) {
+            Ok(object) => object,
+            Err(errno) => return Ok(Reply::Refused(errno)),
+        };
+        if let Some(errno) = self.notifier.arm_refusal(client, slot, path, object) {
             return Ok(Reply::Refused(errno));
         }
-        let object = self.mount.object_at(path);
         let alloc = self.mount.alloc();
+        let armed = self.notifier.armed(alloc, client, slot, path, object, mask);
         self.notifier.lawful();
-        let armed = self
-            .notifier
-            .armed(alloc, client, slot as u32, path, object, mask);
-        self.notifier.lawful();
-        match armed? {
-            Ok(number) => Ok(Reply::Watch(number as i32)),
-            Err(errno) => Ok(Reply::Refused(errno)),
-        }
+        let number = armed?;
+        Ok(Reply::Watch(number as i32))
     }
 }

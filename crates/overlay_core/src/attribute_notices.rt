@@ -1,5 +1,7 @@
 // What changes of attributes and further names tell; a file of a lower layer comes into the upper by them.
-ghost use Rattle.std.specs.Prelude.{◌≡◌, ℕ, Bool, true, IfOk, OnErr};
+ghost use Rattle.std.specs.Prelude.{◌≡◌, ℕ, Bool, true, None, IfOk, OnErr};
+ghost use Rattle.plain_model.specs.Machine.{State};
+ghost use Rattle.plain_model.specs.Refusals.{refusal};
 ghost use Rattle.plain_model.specs.Runs.{Called};
 ghost use Rattle.layer_tree.specs.Tree.{layer_of};
 ghost use Rattle.merged_lookup.specs.Merged.{lowers_of};
@@ -7,7 +9,7 @@ ghost use Rattle.notice_laws.specs.Objects.{IsObject};
 ghost use Rattle.mount_calls.specs.Attaching.{is_attached};
 ghost use Rattle.mount_calls.specs.Looking.{IsLook};
 ghost use Rattle.mount_calls.specs.AttributeCalls.{call_at};
-ghost use Rattle.overlay_core.specs.Watching.{Goes, HasState, Keeps, Stays};
+ghost use Rattle.overlay_core.specs.Watching.{Agrees, Goes, HasState, Keeps, Stays};
 
 use crate::watched::Watched;
 use mount_calls::{AttributeCall, Look};
@@ -17,7 +19,8 @@ use std::alloc::AllocError;
 use watch_table::{Callback, Rule};
 
 impl<F: Callback, R: Rule> Watched<F, R> {
-    /// Changes attributes of what was seen at a path, and notifies its directory and the object.
+    /// Changes attributes of what was seen at a path, and notifies its directory and the object. A
+    /// change that is refused takes no memory.
     pub(crate) fn alter(
         &mut self,
         client: u64,
@@ -32,22 +35,24 @@ impl<F: Callback, R: Rule> Watched<F, R> {
         ensures err { OnErr result (Stays self.old.mount self.old.notifier self.new.mount self.new.notifier) }
         ensures kept { Keeps (call_at path.now call.entry) self.old.mount self.new.mount }
         ensures refused { IfOk result (λ reply. (errno : Errno) → reply ≡ Reply.Refused errno → self.new.mount.layers ≡ self.old.mount.layers) }
+        ensures allowed { OnErr result ((s : State) → Agrees self.old.mount self.old.notifier s →
+            refusal s client (call_at path.now call.entry) ≡ None) }
     {
+        let found = match self.mount.judge_alter(look, &call) {
+            Ok(found) => found,
+            Err(errno) => return Ok(Reply::Refused(errno)),
+        };
         self.notifier.lawful();
         let object = self.mount.object_seen(look);
         self.notifier.prepare_lift(path, object)?;
-        match self.mount.alter(path, look, call)? {
-            Ok(key) => {
-                self.notifier.altered(path, object, key);
-                self.notifier.lawful();
-                Ok(Reply::Done)
-            }
-            Err(errno) => Ok(Reply::Refused(errno)),
-        }
+        let key = self.mount.alter(path, found, call)?;
+        self.notifier.altered(path, object, key);
+        self.notifier.lawful();
+        Ok(Reply::Done)
     }
 
     /// Gives what was seen at the old path the new path too, and notifies the directory of that and
-    /// the object.
+    /// the object. A link that is refused takes no memory.
     pub(crate) fn link(
         &mut self,
         client: u64,
@@ -66,17 +71,19 @@ impl<F: Callback, R: Rule> Watched<F, R> {
         ensures err { OnErr result (Stays self.old.mount self.old.notifier self.new.mount self.new.notifier) }
         ensures kept { Keeps call.now self.old.mount self.new.mount }
         ensures refused { IfOk result (λ reply. (errno : Errno) → reply ≡ Reply.Refused errno → self.new.mount.layers ≡ self.old.mount.layers) }
+        ensures allowed { OnErr result ((s : State) → Agrees self.old.mount self.old.notifier s →
+            refusal s client call.now ≡ None) }
     {
+        let found = match self.mount.judge_link(from, onto) {
+            Ok(found) => found,
+            Err(errno) => return Ok(Reply::Refused(errno)),
+        };
         self.notifier.lawful();
         let object = self.mount.object_seen(from);
         self.notifier.prepare_lift(old, object)?;
-        match self.mount.give_name(old, new, from, onto)? {
-            Ok(key) => {
-                self.notifier.linked(old, new, object, key);
-                self.notifier.lawful();
-                Ok(Reply::Done)
-            }
-            Err(errno) => Ok(Reply::Refused(errno)),
-        }
+        let key = self.mount.give_name(old, new, found)?;
+        self.notifier.linked(old, new, object, key);
+        self.notifier.lawful();
+        Ok(Reply::Done)
     }
 }

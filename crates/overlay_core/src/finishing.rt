@@ -9,7 +9,7 @@ ghost use Rattle.mount_calls.specs.Keeping.{takes_no_memory};
 ghost use Rattle.mount_calls.specs.Lacks as lacks;
 ghost use Rattle.mount_calls.specs.Lacks.{bytes_at};
 ghost use Rattle.mount_calls.specs.Looking.{AreLooks};
-ghost use Rattle.overlay_core.specs.Steps.{EndsBy, IsLast, IsStepped, Makes};
+ghost use Rattle.overlay_core.specs.Steps.{EndsBy, FailsAllowed, IsLast, IsStepped, Makes};
 ghost use Rattle.overlay_core.specs.Temps.{AreTemps, IsTemp};
 ghost use Rattle.overlay_core.specs.Watching.{HasState};
 
@@ -32,6 +32,7 @@ pub(crate) fn plain<F: Callback, R: Rule>(watched: &mut Watched<F, R>, job: &mut
         IsLast next → AreTemps (lowers_of watched.old.mount.layers) work →
         Makes watched.old watched.new work work job.old job.new R.shows result next t }
     ensures stepped { IsStepped job.old job.new }
+    ensures allowed { FailsAllowed result watched.old.mount watched.old.notifier job.old }
     ensures memory { takes_no_memory job.old.call ≡ true → result ≢ Turn.NoMemory }
     ensures over { result ≢ Turn.More }
 {
@@ -55,6 +56,7 @@ pub(crate) fn finish<F: Callback, R: Rule>(
         IsLast next → AreTemps (lowers_of watched.old.mount.layers) work →
         Makes watched.old watched.new work work job.old job.new R.shows result next t }
     ensures stepped { IsStepped job.old job.new }
+    ensures allowed { FailsAllowed result watched.old.mount watched.old.notifier job.old }
     ensures over { result ≢ Turn.More }
 {
     match looked_paths(job.call()) {
@@ -88,6 +90,7 @@ pub(crate) fn finish_seen<F: Callback, R: Rule>(
         IsLast next → AreTemps (lowers_of watched.old.mount.layers) work →
         Makes watched.old watched.new work work job.old job.new R.shows result next t }
     ensures stepped { IsStepped job.old job.new }
+    ensures allowed { FailsAllowed result watched.old.mount watched.old.notifier job.old }
     ensures over { result ≢ Turn.More }
 {
     offer(&mut watched.mount, temp);

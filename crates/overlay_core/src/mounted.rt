@@ -1,5 +1,5 @@
 // The core of a mount: what is done to it, each deed one of the plain machine.
-ghost use Rattle.std.specs.Prelude.{◌≡◌, ◌≢◌, ◌+◌, ◌-◌, ◌<◌, ◌≤◌, ◌^◌, ℕ, true, false, not, [], ◌∷◌, map, count_by, is_none, is_some, Some, None, All, MatchOption, cond, IfOk, IfErr, IfSome, OnOk, OnErr, length, option_map, unwrap_or, vec_len};
+ghost use Rattle.std.specs.Prelude.{◌≡◌, ◌≢◌, ◌+◌, ◌-◌, ◌<◌, ◌≤◌, ◌^◌, ℕ, true, false, not, [], ◌∷◌, map, count_by, is_none, is_some, Some, None, All, MatchOption, IsSome, cond, IfOk, IfErr, IfSome, OnOk, OnErr, length, option_map, unwrap_or, vec_len};
 ghost use Rattle.plain_model.specs.Blank.{IsBlank};
 ghost use Rattle.plain_model.specs.Layers.{AreLayers};
 ghost use Rattle.plain_model.specs.Runs.{Attached, Detached};
@@ -307,6 +307,8 @@ impl<F: Callback, R: Rule> Core<F, R> {
         ensures at_once { may_lack job.old.call ≡ false → result ≢ Turn.More }
         ensures read_only { core_read_only self.old ≡ true → result ≢ Turn.More }
         ensures memory { takes_no_memory job.old.call ≡ true → result ≢ Turn.NoMemory }
+        ensures refusals { (s : State) → CoreAgrees self.old s →
+            IsSome (refusal s job.old.client job.old.call) → result ≢ Turn.NoMemory }
         ensures finished { core_finished self.new ≡ finished_after result (core_finished self.old) }
         ensures clients { KeepsAttached (core_clients self.old) (core_clients self.new) }
         ensures layers { KeepsLayers job.old.call (core_layers self.old) (core_layers self.new) }
@@ -342,6 +344,8 @@ impl<F: Callback, R: Rule> Core<F, R> {
         ensures steps { job.new.steps ≡ job.old.steps + 1 }
         ensures at_once { result ≢ Turn.More }
         ensures memory { takes_no_memory job.old.call ≡ true → result ≢ Turn.NoMemory }
+        ensures refusals { (s : State) → CoreAgrees self.old s →
+            IsSome (refusal s job.old.client job.old.call) → result ≢ Turn.NoMemory }
         ensures finished { core_finished self.new ≡ finished_after result (core_finished self.old) }
         ensures clients { KeepsAttached (core_clients self.old) (core_clients self.new) }
         ensures layers { KeepsLayers job.old.call (core_layers self.old) (core_layers self.new) }
@@ -382,6 +386,8 @@ impl<F: Callback, R: Rule> Core<F, R> {
             (held_by (core_work self.old) job.old) (refusal s job.old.client job.old.call)) }
         ensures over { result ≢ Turn.More }
         ensures memory { takes_no_memory job.old.call ≡ true → result ≢ Turn.NoMemory }
+        ensures refusals { (s : State) → CoreAgrees self.old s →
+            IsSome (refusal s job.old.client job.old.call) → result ≢ Turn.NoMemory }
         ensures finished { core_finished self.new ≡ finished_after result (core_finished self.old) }
         ensures clients { KeepsAttached (core_clients self.old) (core_clients self.new) }
         ensures layers { KeepsLayers job.old.call (core_layers self.old) (core_layers self.new) }

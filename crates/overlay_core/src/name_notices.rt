@@ -1,9 +1,12 @@
-// Names that come and go: what making and removing directories, links and files tells.
-ghost use Rattle.std.specs.Prelude.{◌≡◌, true};
+// Names that come and go: what making and removing directories, links and files tells. What is
+// refused takes no memory.
+ghost use Rattle.std.specs.Prelude.{◌≡◌, None, true, OnErr};
+ghost use Rattle.plain_model.specs.Machine.{State};
+ghost use Rattle.plain_model.specs.Refusals.{refusal};
 ghost use Rattle.mount_calls.specs.Attaching.{is_attached};
 ghost use Rattle.mount_calls.specs.Looking.{IsLook};
 ghost use Rattle.overlay_core.specs.Performing.{Performs};
-ghost use Rattle.overlay_core.specs.Watching.{HasState};
+ghost use Rattle.overlay_core.specs.Watching.{Agrees, HasState};
 
 use crate::watched::Watched;
 use mount_calls::Look;
@@ -23,12 +26,16 @@ impl<F: Callback, R: Rule> Watched<F, R> {
     ) -> Result<Reply, AllocError>
         requires there { is_attached self.old.mount.clients client ≡ true }
         requires look { IsLook self.old.mount.layers path.now look.now }
-        ensures { Performs R.shows client (Call.Mkdir path.now mode) self.old self.new result }
+        ensures performs { Performs R.shows client (Call.Mkdir path.now mode) self.old self.new
+            result }
+        ensures allowed { OnErr result ((s : State) → Agrees self.old.mount self.old.notifier s →
+            refusal s client (Call.Mkdir path.now mode) ≡ None) }
     {
-        let reply = self.mount.mkdir(path, look, mode)?;
-        let Reply::Done = reply else {
-            return Ok(reply);
+        let (directory, mode) = match self.mount.judge_mkdir(path, look, mode) {
+            Ok(found) => found,
+            Err(errno) => return Ok(Reply::Refused(errno)),
         };
+        self.mount.mkdir(path, directory, mode)?;
         self.notifier.made(path, CREATE + ISDIR);
         self.notifier.lawful();
         Ok(Reply::Done)
@@ -45,12 +52,16 @@ impl<F: Callback, R: Rule> Watched<F, R> {
     ) -> Result<Reply, AllocError>
         requires there { is_attached self.old.mount.clients client ≡ true }
         requires look { IsLook self.old.mount.layers path.now look.now }
-        ensures { Performs R.shows client (Call.Symlink target.now path.now) self.old self.new result }
+        ensures performs { Performs R.shows client (Call.Symlink target.now path.now) self.old
+            self.new result }
+        ensures allowed { OnErr result ((s : State) → Agrees self.old.mount self.old.notifier s →
+            refusal s client (Call.Symlink target.now path.now) ≡ None) }
     {
-        let reply = self.mount.symlink(target, path, look)?;
-        let Reply::Done = reply else {
-            return Ok(reply);
+        let directory = match self.mount.judge_symlink(target, path, look) {
+            Ok(directory) => directory,
+            Err(errno) => return Ok(Reply::Refused(errno)),
         };
+        self.mount.symlink(target, path, directory)?;
         self.notifier.made(path, CREATE);
         self.notifier.lawful();
         Ok(Reply::Done)
@@ -67,16 +78,18 @@ impl<F: Callback, R: Rule> Watched<F, R> {
         requires there { is_attached self.old.mount.clients client ≡ true }
         requires state { ∥ HasState self.old.mount self.old.notifier ∥₁ }
         requires look { IsLook self.old.mount.layers path.now look.now }
-        ensures { Performs R.shows client (Call.Unlink path.now) self.old self.new result }
+        ensures performs { Performs R.shows client (Call.Unlink path.now) self.old self.new result }
+        ensures allowed { OnErr result ((s : State) → Agrees self.old.mount self.old.notifier s →
+            refusal s client (Call.Unlink path.now) ≡ None) }
     {
-        match self.mount.unlink_telling(path, look)? {
-            Ok(object) => {
-                self.notifier.unlinked(path, object);
-                self.notifier.lawful();
-                Ok(Reply::Done)
-            }
-            Err(errno) => Ok(Reply::Refused(errno)),
-        }
+        let (directory, place) = match self.mount.judge_unlink(path, look) {
+            Ok(leaf) => leaf,
+            Err(errno) => return Ok(Reply::Refused(errno)),
+        };
+        let object = self.mount.unlink_telling(path, directory, place)?;
+        self.notifier.unlinked(path, object);
+        self.notifier.lawful();
+        Ok(Reply::Done)
     }
 
     /// Removes the directory that was seen at a path, and notifies the directory that it was in,
@@ -90,12 +103,15 @@ impl<F: Callback, R: Rule> Watched<F, R> {
         requires there { is_attached self.old.mount.clients client ≡ true }
         requires state { ∥ HasState self.old.mount self.old.notifier ∥₁ }
         requires look { IsLook self.old.mount.layers path.now look.now }
-        ensures { Performs R.shows client (Call.Rmdir path.now) self.old self.new result }
+        ensures performs { Performs R.shows client (Call.Rmdir path.now) self.old self.new result }
+        ensures allowed { OnErr result ((s : State) → Agrees self.old.mount self.old.notifier s →
+            refusal s client (Call.Rmdir path.now) ≡ None) }
     {
-        let reply = self.mount.rmdir(path, look)?;
-        let Reply::Done = reply else {
-            return Ok(reply);
+        let directory = match self.mount.judge_rmdir(path, look) {
+            Ok(directory) => directory,
+            Err(errno) => return Ok(Reply::Refused(errno)),
         };
+        self.mount.rmdir(path, look, directory)?;
         self.notifier.removed(path);
         self.notifier.lawful();
         Ok(Reply::Done)

@@ -1,5 +1,5 @@
 // What opens tell: those of what stands at a path, and those that make a file.
-ghost use Rattle.std.specs.Prelude.{◌≡◌, ◌≢◌, true, IfOk, IsOk, IsSome, OnErr, OnOk};
+ghost use Rattle.std.specs.Prelude.{◌≡◌, ◌≢◌, true, IfOk, None, OnErr, OnOk};
 ghost use Rattle.plain_model.specs.Machine.{State};
 ghost use Rattle.plain_model.specs.Refusals.{refusal};
 ghost use Rattle.plain_model.specs.Runs.{Called};
@@ -114,7 +114,9 @@ impl<F: Callback, R: Rule> Watched<F, R> {
         ensures err { OnErr result (Stays self.old.mount self.old.notifier self.new.mount self.new.notifier) }
         ensures kept { Keeps (Call.Open path.now flags mode) self.old.mount self.new.mount }
         ensures refused { IfOk result (λ reply. (errno : Errno) → reply ≡ Reply.Refused errno → self.new.mount.layers ≡ self.old.mount.layers) }
-        ensures memory { (s : State) → Agrees self.old.mount self.old.notifier s → IsSome (refusal s client (Call.Open path.now flags mode)) → IsOk result }
+        ensures allowed { OnErr result ((s : State) →
+            Agrees self.old.mount self.old.notifier s →
+            refusal s client (Call.Open path.now flags mode) ≡ None) }
     {
         let object = self.mount.object_seen(look);
         let judged = match self.mount.judge_open(client, look, flags, mode) {

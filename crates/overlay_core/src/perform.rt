@@ -1,11 +1,13 @@
 // Each call of a client is made, and told to who watches.
-ghost use Rattle.std.specs.Prelude.{◌≡◌, true, false, IsOk};
+ghost use Rattle.std.specs.Prelude.{◌≡◌, true, false, IsOk, None, OnErr};
+ghost use Rattle.plain_model.specs.Machine.{State};
+ghost use Rattle.plain_model.specs.Refusals.{refusal};
 ghost use Rattle.mount_calls.specs.Attaching.{is_attached};
 ghost use Rattle.mount_calls.specs.Keeping.{takes_no_memory};
 ghost use Rattle.mount_calls.specs.Lacks.{may_lack};
 ghost use Rattle.mount_calls.specs.Looking.{AreLooks};
 ghost use Rattle.overlay_core.specs.Performing.{Performs};
-ghost use Rattle.overlay_core.specs.Watching.{HasState};
+ghost use Rattle.overlay_core.specs.Watching.{Agrees, HasState};
 
 use crate::watched::Watched;
 use mount_calls::{AttributeCall, Looks};
@@ -15,13 +17,16 @@ use watch_table::{Callback, Rule};
 
 impl<F: Callback, R: Rule> Watched<F, R> {
     /// Makes a call of a client that is attached and that may lack nothing in the upper, and notifies
-    /// of it. An allocation failure leaves all that is shown as it was, and notifies nobody.
+    /// of it. An allocation failure leaves all that is shown as it was, and notifies nobody; a call
+    /// that is refused takes no memory.
     pub fn perform_plain(&mut self, client: u64, call: &Call) -> Result<Reply, AllocError>
         requires there { is_attached self.old.mount.clients client ≡ true }
         requires state { ∥ HasState self.old.mount self.old.notifier ∥₁ }
         requires plain { may_lack call.now ≡ false }
         ensures performs { Performs R.shows client call.now self.old self.new result }
         ensures memory { takes_no_memory call.now ≡ true → IsOk result }
+        ensures allowed { OnErr result ((s : State) →
+            Agrees self.old.mount self.old.notifier s → refusal s client call.now ≡ None) }
     {
         match call {
             Call::Stat { path } => Ok(self.mount.stat(path)),
@@ -60,7 +65,9 @@ impl<F: Callback, R: Rule> Watched<F, R> {
         requires state { ∥ HasState self.old.mount self.old.notifier ∥₁ }
         requires may { may_lack call.now ≡ true }
         requires looks { AreLooks self.old.mount.layers call.now looks }
-        ensures { Performs R.shows client call.now self.old self.new result }
+        ensures performs { Performs R.shows client call.now self.old self.new result }
+        ensures allowed { OnErr result ((s : State) →
+            Agrees self.old.mount self.old.notifier s → refusal s client call.now ≡ None) }
     {
         match call {
             Call::Chmod { path, mode } => {

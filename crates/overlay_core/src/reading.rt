@@ -12,7 +12,7 @@ ghost use Rattle.mount_calls.specs.Looking.{AreLooks};
 ghost use Rattle.mount_calls.specs.States.{IsStateOf};
 ghost use Rattle.overlay_core.specs.Reading.{Reads};
 ghost use Rattle.overlay_core.specs.Steps.{IsStepped};
-ghost use Rattle.overlay_core.specs.Watching.{HasState};
+ghost use Rattle.overlay_core.specs.Watching.{AgreesAs, HasState};
 
 use crate::finishing::finish_seen;
 use crate::job::{Job, Standing};
@@ -39,6 +39,9 @@ pub(crate) fn answer<F: Callback, R: Rule>(watched: &mut Watched<F, R>, job: &mu
     requires may { lacks.may_lack job.old.call ≡ true }
     ensures reads { Reads watched.old watched.new job.old job.new R.shows result }
     ensures stepped { IsStepped job.old job.new }
+    ensures allowed { result ≡ Turn.NoMemory → (s : State) →
+        AgreesAs true watched.old.mount watched.old.notifier s →
+        refusal s job.old.client job.old.call ≡ None }
     ensures memory { takes_no_memory job.old.call ≡ true → result ≢ Turn.NoMemory }
 {
     watched.mount.remember(job.call());
@@ -69,6 +72,9 @@ fn answer_seen<F: Callback, R: Rule>(
     requires looks { AreLooks watched.old.mount.layers job.old.call looks }
     ensures reads { Reads watched.old watched.new job.old job.new R.shows result }
     ensures stepped { IsStepped job.old job.new }
+    ensures allowed { result ≡ Turn.NoMemory → (s : State) →
+        AgreesAs true watched.old.mount watched.old.notifier s →
+        refusal s job.old.client job.old.call ≡ None }
 {
     match refused(&watched.mount, job, looks) {
         Some(errno) => {

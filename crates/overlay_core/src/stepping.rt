@@ -18,7 +18,7 @@ ghost use Rattle.mount_calls.specs.Looking.{AreLooks};
 ghost use Rattle.mount_calls.specs.States.{IsStateOf};
 ghost use Rattle.overlay_core.specs.Placing.{PlacesFor};
 ghost use Rattle.overlay_core.specs.Steps as steps;
-ghost use Rattle.overlay_core.specs.Steps.{begun, held_by, lack_by, next_by, without, IsNext, IsStepped, Makes};
+ghost use Rattle.overlay_core.specs.Steps.{begun, held_by, lack_by, next_by, without, FailsAllowed, IsNext, IsStepped, Makes};
 ghost use Rattle.overlay_core.specs.Temps.{AreTemps, IsTemp};
 ghost use Rattle.overlay_core.specs.Waits.{WaitsForAny};
 ghost use Rattle.overlay_core.specs.Watching.{Agrees, HasState};
@@ -29,9 +29,10 @@ use crate::turn::Turn;
 use crate::waiting::{Waiting, copies_on};
 use crate::watched::Watched;
 use mount_calls::{LookedPaths, Looks, Mount, looked_paths, may_lack};
+use ov_base::Place;
 use std::alloc::AllocError;
 use watch_table::{Callback, Rule};
-use work_dir::{Lack, Next, OpenJob, Source, Temp, WorkDir, next_after};
+use work_dir::{Lack, Next, OpenJob, Temp, WorkDir, next_after};
 
 // Makes the next step of a job. What waits is kept where the step copies, and noted anew where it
 // begins a copy.
@@ -54,6 +55,7 @@ pub(crate) fn step<F: Callback, R: Rule>(
         × Makes watched.old watched.new (without work.old job.old) work.new job.old job.new
         R.shows result next (held_by work.old job.old) }
     ensures stepped { IsStepped job.old job.new }
+    ensures allowed { FailsAllowed result watched.old.mount watched.old.notifier job.old }
     ensures memory { takes_no_memory job.old.call ≡ true → result ≢ Turn.NoMemory }
     ensures at_once { lacks.may_lack job.old.call ≡ false → result ≢ Turn.More }
     ensures plain { lacks.may_lack job.old.call ≡ false → work.new ≡ without work.old job.old }
@@ -90,6 +92,7 @@ fn step_seen<F: Callback, R: Rule>(
         × Makes watched.old watched.new (without work.old job.old) work.new job.old job.new
         R.shows result next (held_by work.old job.old) }
     ensures stepped { IsStepped job.old job.new }
+    ensures allowed { FailsAllowed result watched.old.mount watched.old.notifier job.old }
 {
     match looked_paths(job.call()) {
         LookedPaths::None => unreachable!(),
@@ -127,6 +130,7 @@ fn step_by<F: Callback, R: Rule>(
         × Makes watched.old watched.new (without work.old job.old) work.new job.old job.new
         R.shows result next (held_by work.old job.old) }
     ensures stepped { IsStepped job.old job.new }
+    ensures allowed { FailsAllowed result watched.old.mount watched.old.notifier job.old }
 {
     if watched.mount.has_all(job.call(), looks) {
         let temp = held(work, job);
@@ -169,6 +173,7 @@ pub(crate) fn make<F: Callback, R: Rule>(
         job.new R.shows result Next.Finish (held_by work.old job.old) }
     ensures work { work.new ≡ without work.old job.old }
     ensures stepped { IsStepped job.old job.new }
+    ensures allowed { FailsAllowed result watched.old.mount watched.old.notifier job.old }
     ensures memory { takes_no_memory job.old.call ≡ true → result ≢ Turn.NoMemory }
     ensures over { result ≢ Turn.More }
 {
@@ -216,14 +221,14 @@ fn next_step(mount: &Mount, job: &Job, looks: Looks<'_>, temp: Option<&Temp>) ->
     match mount.lack(job.client(), job.call(), looks) {
         Ok(lack) => {
             let size = size_of(mount, lack);
-            next_after(None, lack, job.placings(), job.begins(), temp, size)
+            next_after(lack, job.placings(), job.begins(), temp, size)
         }
         Err(_errno) => Next::Finish,
     }
 }
 
 // Notes the open of a job that lacks this file, for its next steps, where there is memory for it.
-fn note(waiting: &mut Vec<Waiting>, mount: &Mount, job: &Job, source: Source)
+fn note(waiting: &mut Vec<Waiting>, mount: &Mount, job: &Job, source: Place)
     requires none { waiting.old.items ≡ [] }
     requires lacks { lack_by mount.now job.now ≡ Lacking.File source }
     requires allowed { (s : State) → IsStateOf mount.now s →
@@ -308,7 +313,7 @@ fn begin<F: Callback, R: Rule>(
     watched: &Watched<F, R>,
     work: &mut WorkDir,
     job: &mut Job,
-    source: Source,
+    source: Place,
 ) -> Turn
     requires open { job.old.standing ≡ Standing.Open }
     requires due { (t : Option Beginning) → IsNext watched.now.mount job.old t (Next.Begin source) }
@@ -336,7 +341,7 @@ fn keep_begun(
     mount: &Mount,
     work: &mut WorkDir,
     job: &Job,
-    source: Source,
+    source: Place,
 ) -> Result<usize, AllocError>
     requires can { CanBeHad mount.now job.now.call (Lacking.File source) }
     requires temps { AreTemps (lowers_of mount.now.layers) work.old }

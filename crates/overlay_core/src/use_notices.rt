@@ -1,9 +1,11 @@
 // What uses of open files tell.
-ghost use Rattle.std.specs.Prelude.{◌≡◌, true, length, Ok};
+ghost use Rattle.std.specs.Prelude.{◌≡◌, true, length, None, Ok, OnErr};
+ghost use Rattle.plain_model.specs.Machine.{State};
+ghost use Rattle.plain_model.specs.Refusals.{refusal};
 ghost use Rattle.mount_calls.specs.Attaching.{is_attached};
 ghost use Rattle.mount_calls.specs.Reading.{read_reply, KeepsRoom};
 ghost use Rattle.overlay_core.specs.Performing.{Performs};
-ghost use Rattle.overlay_core.specs.Watching.{HasState};
+ghost use Rattle.overlay_core.specs.Watching.{Agrees, HasState};
 
 use crate::watched::Watched;
 use notifier::{ACCESS, MODIFY};
@@ -21,7 +23,10 @@ impl<F: Callback, R: Rule> Watched<F, R> {
     ) -> Result<Reply, AllocError>
         requires there { is_attached self.old.mount.clients client ≡ true }
         requires state { ∥ HasState self.old.mount self.old.notifier ∥₁ }
-        ensures { Performs R.shows client (Call.Read descriptor count) self.old self.new result }
+        ensures performs { Performs R.shows client (Call.Read descriptor count) self.old self.new
+            result }
+        ensures allowed { OnErr result ((s : State) → Agrees self.old.mount self.old.notifier s →
+            refusal s client (Call.Read descriptor count) ≡ None) }
     {
         let reply = self.mount.read(client, descriptor, count)?;
         if let Reply::Read(bytes) = &reply {
@@ -66,7 +71,9 @@ impl<F: Callback, R: Rule> Watched<F, R> {
     ) -> Result<Reply, AllocError>
         requires there { is_attached self.old.mount.clients client ≡ true }
         requires state { ∥ HasState self.old.mount self.old.notifier ∥₁ }
-        ensures { Performs R.shows client (Call.Write descriptor bytes.now) self.old self.new result }
+        ensures performs { Performs R.shows client (Call.Write descriptor bytes.now) self.old self.new result }
+        ensures allowed { OnErr result ((s : State) → Agrees self.old.mount self.old.notifier s →
+            refusal s client (Call.Write descriptor bytes.now) ≡ None) }
     {
         let reply = self.mount.write(client, descriptor, bytes)?;
         if let Reply::Written(_) = reply {
@@ -87,7 +94,10 @@ impl<F: Callback, R: Rule> Watched<F, R> {
     ) -> Result<Reply, AllocError>
         requires there { is_attached self.old.mount.clients client ≡ true }
         requires state { ∥ HasState self.old.mount self.old.notifier ∥₁ }
-        ensures { Performs R.shows client (Call.Truncate descriptor size) self.old self.new result }
+        ensures performs { Performs R.shows client (Call.Truncate descriptor size) self.old self.new
+            result }
+        ensures allowed { OnErr result ((s : State) → Agrees self.old.mount self.old.notifier s →
+            refusal s client (Call.Truncate descriptor size) ≡ None) }
     {
         let reply = self.mount.truncate(client, descriptor, size)?;
         if let Reply::Done = reply {

@@ -12,9 +12,9 @@ ghost use Rattle.overlay_core.specs.Steps.{next_by, IsNext};
 ghost use Rattle.overlay_core.specs.Waits.{IsFor, WaitsFor};
 
 use crate::job::Job;
-use ov_base::{Call, Name, OpenFlags, copy_names};
+use ov_base::{Call, Name, OpenFlags, Place, copy_names};
 use std::alloc::Global;
-use work_dir::{Lack, Next, Source, Temp, next_after};
+use work_dir::{Lack, Next, Temp, next_after};
 
 /// An open of a client that lacks the bytes of a file of a lower layer, so many, and nothing else.
 #[derive(Drop)]
@@ -24,14 +24,14 @@ pub(crate) struct Waiting {
     names: Vec<Name>,
     flags: OpenFlags,
     mode: u32,
-    source: Source,
+    source: Place,
     size: usize,
 }
 
 impl Waiting {
     // The open of a job that lacks this file of so many bytes; none where the call is no open, or
     // when out of memory.
-    pub(crate) fn of(alloc: Global, job: &Job, source: Source, size: usize) -> Option<Waiting>
+    pub(crate) fn of(alloc: Global, job: &Job, source: Place, size: usize) -> Option<Waiting>
         ensures { IfSome result (λ w. IsFor job.now w × (w.source ≡ source) × (w.size ≡ size)) }
     {
         let Call::Open { path, flags, mode } = job.call() else {
@@ -82,7 +82,7 @@ impl Waiting {
             return false;
         }
         let lack = Lack::File(self.source);
-        let next = next_after(None, lack, job.placings(), job.begins(), temp, self.size);
+        let next = next_after(lack, job.placings(), job.begins(), temp, self.size);
         match next {
             Next::Copy => true,
             _ => false,

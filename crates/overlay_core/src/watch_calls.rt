@@ -1,8 +1,10 @@
 // The calls on watches.
-ghost use Rattle.std.specs.Prelude.{◌≡◌, IfOk, OnErr, true};
+ghost use Rattle.std.specs.Prelude.{◌≡◌, IfOk, None, OnErr, true};
+ghost use Rattle.plain_model.specs.Machine.{State};
+ghost use Rattle.plain_model.specs.Refusals.{refusal};
 ghost use Rattle.plain_model.specs.Runs.{Called};
 ghost use Rattle.mount_calls.specs.Attaching.{is_attached};
-ghost use Rattle.overlay_core.specs.Watching.{Goes, HasState};
+ghost use Rattle.overlay_core.specs.Watching.{Agrees, Goes, HasState};
 
 use crate::watched::Watched;
 use ov_base::{Call, Errno, Reply};
@@ -41,6 +43,8 @@ impl<F: Callback, R: Rule> Watched<F, R> {
         requires state { ∥ HasState self.old.mount self.old.notifier ∥₁ }
         ensures goes { IfOk result (λ reply. Goes R.shows self.old.mount self.old.notifier client (Called (Call.TakeNotices count) reply) self.new.mount self.new.notifier) }
         ensures err { OnErr result (self.new ≡ self.old) }
+        ensures allowed { OnErr result ((s : State) → Agrees self.old.mount self.old.notifier s →
+            refusal s client (Call.TakeNotices count) ≡ None) }
         ensures mount { self.new.mount ≡ self.old.mount }
     {
         if count > NOTICES_MAX {

@@ -5,7 +5,7 @@ use Rattle.layer_tree.specs.Tree.{inode_of}
 use Rattle.merged_lookup.specs.Lower.{lower_bytes}
 use Rattle.merged_lookup.specs.Marking.{inode_over}
 use Rattle.merged_lookup.specs.Merged.{trees, node_in, upper_of, lowers_of}
-use Rattle.mount_calls.specs.Files.{low_place, seen_inode, with_file}
+use Rattle.mount_calls.specs.Files.{seen_inode, with_file}
 use Rattle.mount_calls.specs.Status.{stat_of_inode}
 use Rattle.mount_calls.proofs.Marks.{source-kept, source-over}
 use Rattle.mount_calls.proofs.files.status_in.Goals as goal
@@ -13,7 +13,7 @@ use Rattle.mount_calls.proofs.files.status_in.Goals as goal
 pub returns-in-Some : goal.returns-in-Some
 returns-in-Some c = λ i h.
     let l = c.args.layers.now in
-    let bytes = unwrap_or (lower_bytes (lowers_of l) (low_place c.in-Some.low)) [] in
+    let bytes = unwrap_or (lower_bytes (lowers_of l) c.in-Some.low) [] in
     c.sized_status.ensures
     ∙ ap (λ o. stat_of_inode (option_map (with_file (unwrap_or (option_copied c.low_bytes.result) [])) (option_and_then inode_of o))) c.node.ensures
     ∙ ap (λ b. stat_of_inode (option_map (with_file (unwrap_or b [])) (option_and_then inode_of (node_in (trees l) c.place_of-place.result)))) c.low_bytes.ensures

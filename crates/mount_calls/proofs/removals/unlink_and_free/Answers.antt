@@ -1,33 +1,18 @@
+use Rattle.std.proofs.Common.{None}
 use Rattle.ov_base.specs.declared.call.Call.TheVariants as call
+use Rattle.copy_up.proofs.Keeping.{on-err, sound-then}
+use Rattle.copy_up.proofs.Texts.{texts-after, texts-gained}
+use Rattle.mount_calls.proofs.Frames.{none-parents, none-taken}
 use Rattle.mount_calls.proofs.Freed.{takes-then, removes-then}
 use Rattle.mount_calls.proofs.Lasting.{parents-live, unlink-held}
-use Rattle.std.proofs.Common.{refl, None}
-use Rattle.mount_calls.proofs.Frames.{none-parents, none-same, none-taken}
-use Rattle.mount_calls.proofs.Keys.{look-seen}
-use Rattle.copy_up.proofs.Keeping.{on-err, sound-then}
-use Rattle.copy_up.proofs.Texts.{texts-after, texts-gained, texts-still}
 use Rattle.mount_calls.proofs.Texts.{texts-unnamed}
 use Rattle.mount_calls.proofs.removals.unlink_and_free.Goals as goal
 
-pub returns-in-Err-clause-refused : goal.returns-in-Err-clause-refused
-returns-in-Err-clause-refused c = c.in-Err.ensures.refused c.args.layers.now (look-seen c.args.layers.now c.args.path.now c.args.look.now c.requires)
-
 pub object_in-object-requires : goal.object_in-object-requires
-object_in-object-requires c = (c.args.path.now, c.in-Ok.ensures.shown c.args.layers.now (look-seen c.args.layers.now c.args.path.now c.args.look.now c.requires))
-
-pub unlink-requires-clause-allowed : goal.unlink-requires-clause-allowed
-unlink-requires-clause-allowed c = c.in-Ok.ensures.allowed c.args.layers.now (look-seen c.args.layers.now c.args.path.now c.args.look.now c.requires)
-
-pub unlink-requires-clause-directory : goal.unlink-requires-clause-directory
-unlink-requires-clause-directory c = c.in-Ok.ensures.directory c.args.layers.now (look-seen c.args.layers.now c.args.path.now c.args.look.now c.requires)
-
-pub returns-clause-allowed : goal.returns-clause-allowed
-returns-clause-allowed c = c.in-Ok.ensures.allowed c.args.layers.now (look-seen c.args.layers.now c.args.path.now c.args.look.now c.requires)
+object_in-object-requires c = (c.args.path.now, c.requires.shown)
 
 pub returns-clause-object : goal.returns-clause-object
-returns-clause-object c =
-    c.object_in-object.ensures c.args.path.now
-    (c.in-Ok.ensures.shown c.args.layers.now (look-seen c.args.layers.now c.args.path.now c.args.look.now c.requires))
+returns-clause-object c = c.object_in-object.ensures c.args.path.now c.requires.shown
 
 pub returns-clause-takes : goal.returns-clause-takes
 returns-clause-takes c = takes-then c.args.layers.now c.unlink.new.layers c.free_released.new.layers c.args.path.now c.free_released.ensures.held c.free_released.ensures.same c.free_released.ensures.sound.layers c.in_ok-key.ensures.takes
@@ -42,9 +27,6 @@ pub returns-clause-live : goal.returns-clause-live
 returns-clause-live c = λ s m client d k some on live.
     c.free_released.ensures.live _ d k some
     (unlink-held c.args.path.now c.args.clients.now c.args.layers.now c.unlink.new.layers c.in_ok-key.key c.in_ok-key.ensures.takes c.in_ok-key.ensures.unnames c.in_ok-key.ensures.steps s m client d k some on live)
-
-pub returns-in-Err-clause-around : goal.returns-in-Err-clause-around
-returns-in-Err-clause-around c = none-same c.args.layers.now c.args.layers.now c.args.path.now refl
 
 pub returns-in_err-key-clause-around : goal.returns-in_err-key-clause-around
 returns-in_err-key-clause-around c = none-parents c.args.layers.now c.unlink.new.layers c.args.path.now c.in_err-key.ensures.no_memory.beneath
@@ -64,6 +46,3 @@ returns-clause-texts c =
 
 pub returns-in_err-key-clause-texts : goal.returns-in_err-key-clause-texts
 returns-in_err-key-clause-texts c = texts-gained c.args.layers.now c.unlink.new.layers c.args.path.now None c.in_err-key.ensures.no_memory.beneath
-
-pub returns-in-Err-clause-texts : goal.returns-in-Err-clause-texts
-returns-in-Err-clause-texts c = texts-still c.args.layers.now c.args.layers.now None refl

@@ -1,4 +1,7 @@
-use Rattle.overlay_core.proofs.StepsMade.{ended-over, made-ended, performs-on}
+use Rattle.std.proofs.Common.{sym, ap₂, subst, ◌∙◌}
+use Rattle.plain_model.specs.Refusals.{refusal}
+use Rattle.overlay_core.specs.Watching.{Agrees}
+use Rattle.overlay_core.proofs.StepsMade.{ended-allowed, ended-over, made-ended, performs-on}
 use Rattle.overlay_core.proofs.finishing.finish_seen.Goals as goal
 
 pub returns-clause-makes : goal.returns-clause-makes
@@ -10,10 +13,17 @@ returns-clause-makes g c = λ work next t last temps.
     c.ended.new.job next t last temps c.perform-outcome.result c.ended.result c.ended.ensures.ends
     (performs-on g.R.Rule.shows old made c.offer.new.mount c.withdraw.new.self j.client c.client.result j.call
     c.call.result.now c.perform-outcome.result c.offer.ensures c.withdraw.ensures c.client.ensures c.call.ensures
-    c.perform-outcome.ensures)
+    c.perform-outcome.ensures.performs)
 
 pub returns-clause-over : goal.returns-clause-over
 returns-clause-over g c = ended-over c.ended.new.job c.perform-outcome.result c.ended.result c.ended.ensures.ends
 
 pub perform-outcome-requires-clause-state : goal.perform-outcome-requires-clause-state
 perform-outcome-requires-clause-state g c = rw c.offer.ensures c.requires.state
+
+pub returns-clause-allowed : goal.returns-clause-allowed
+returns-clause-allowed g c = λ is s a.
+    ap₂ (refusal s) (sym c.client.ensures) (sym c.call.ensures)
+    ∙ ended-allowed c.ended.new.job c.perform-outcome.result c.ended.result _ c.ended.ensures.ends
+    c.perform-outcome.ensures.allowed is s
+    (subst (λ m. Agrees m c.args.watched.now.notifier s) (sym c.offer.ensures) a)

@@ -1,5 +1,12 @@
-use Rattle.std.proofs.Common.{refl}
-use Rattle.overlay_core.proofs.StepsMade.{ended-memory, ended-over, made-ended, performs-on}
+use Rattle.std.proofs.Common.{refl, sym, ap₂, ◌∙◌}
+use Rattle.plain_model.specs.Refusals.{refusal}
+use Rattle.overlay_core.proofs.StepsMade.{
+  ended-allowed,
+  ended-memory,
+  ended-over,
+  made-ended,
+  performs-on,
+}
 use Rattle.overlay_core.proofs.finishing.plain.Goals as goal
 
 pub returns-clause-makes : goal.returns-clause-makes
@@ -20,3 +27,10 @@ pub returns-clause-memory : goal.returns-clause-memory
 returns-clause-memory g c = λ none.
     ended-memory c.ended.new.job c.perform_plain-outcome.result c.ended.result c.ended.ensures.ends
     ((rw c.call.ensures at c.perform_plain-outcome.ensures.memory) none)
+
+pub returns-clause-allowed : goal.returns-clause-allowed
+returns-clause-allowed g c = λ is s a.
+    ap₂ (refusal s) (sym c.client.ensures) (sym c.call.ensures)
+    ∙ ended-allowed c.ended.new.job c.perform_plain-outcome.result c.ended.result _
+    c.ended.ensures.ends
+    c.perform_plain-outcome.ensures.allowed is s a

@@ -18,3 +18,6 @@ returns-in-None-clause-reads g c =
     (unchanged-lacks (upper_of m.layers) (lowers_of m.layers) m.metacopy j.call none)
     (same-held m.layers new.mount.layers (unchanged-same m.layers new.mount.layers j.call c.requires.may none made.layers.paths))
     made
+
+pub returns-in-None-clause-allowed : goal.returns-in-None-clause-allowed
+returns-in-None-clause-allowed g c = λ is s a. (c.in-None.ensures.reads refl s a.0.stands).0

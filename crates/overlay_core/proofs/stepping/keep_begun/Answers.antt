@@ -1,4 +1,4 @@
-use Rattle.std.proofs.Common.{◌≡◌, ℕ, None, Some, IfOk, sym, ◌∙◌, subst}
+use Rattle.std.proofs.Common.{◌≡◌, None, Some, IfOk, sym, ◌∙◌, subst}
 use Rattle.merged_lookup.specs.Merged.{lowers_of}
 use Rattle.work_dir.specs.Beginnings.{Beginning}
 use Rattle.work_dir.specs.OpenJobs.{job_at, Changes}

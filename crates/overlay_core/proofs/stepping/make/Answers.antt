@@ -1,6 +1,8 @@
+use Rattle.std.proofs.Common.{sym, subst}
 use Rattle.merged_lookup.specs.Merged.{lowers_of}
 use Rattle.work_dir.specs.declared.next.Next.TheVariants.{Finish}
 use Rattle.overlay_core.specs.Steps.{held_by, without}
+use Rattle.overlay_core.specs.Watching.{Agrees}
 use Rattle.overlay_core.proofs.StepsMade.{made-over}
 use Rattle.overlay_core.proofs.stepping.make.Goals as goal
 
@@ -27,3 +29,13 @@ returns-clause-makes g c =
     c.remember.ensures c.held-temp.ensures.table
     (c.finish.ensures.makes c.held-temp.new.work Finish (held_by c.args.work.now c.args.job.now) tt
     (rw c.remember.ensures (c.held-temp.ensures.temps (lowers_of c.args.watched.now.mount.layers) c.requires.temps).0))
+
+pub returns-then-not-may_lack-clause-allowed : goal.returns-then-not-may_lack-clause-allowed
+returns-then-not-may_lack-clause-allowed g c = λ is s a.
+    c.plain.ensures.allowed is s (subst (λ m. Agrees m c.args.watched.now.notifier s)
+    (sym c.remember.ensures) a)
+
+pub returns-clause-allowed : goal.returns-clause-allowed
+returns-clause-allowed g c = λ is s a.
+    c.finish.ensures.allowed is s (subst (λ m. Agrees m c.args.watched.now.notifier s)
+    (sym c.remember.ensures) a)

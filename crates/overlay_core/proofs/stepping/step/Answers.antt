@@ -1,4 +1,4 @@
-use Rattle.std.proofs.Common.{option_copied, slice_get, refl, sym, ap, ◌∙◌, subst}
+use Rattle.std.proofs.Common.{◌≡◌, option_copied, slice_get, refl, sym, ap, ◌∙◌, subst}
 use Rattle.std.specs.Option.{ForSome}
 use Rattle.std.proofs.lemmas.Bool.{false≢true}
 use Rattle.plain_model.specs.Refusals.{refusal}
@@ -6,7 +6,9 @@ use Rattle.merged_lookup.specs.Merged.{upper_of, lowers_of}
 use Rattle.work_dir.specs.declared.next.Next.TheVariants.{Finish, Copy}
 use Rattle.mount_calls.specs.Lacks.{lack_size}
 use Rattle.overlay_core.specs.Steps.{held_by, lack_by, without, IsNext}
+use Rattle.overlay_core.specs.declared.turn.Turn.TheVariants.{More, NoMemory}
 use Rattle.overlay_core.specs.Waits.{WaitsFor}
+use Rattle.overlay_core.specs.Watching.{Agrees}
 use Rattle.overlay_core.proofs.NextSteps.{next-ready, plain-lacks, plain-memory}
 use Rattle.overlay_core.proofs.StepsMade.{step-made}
 use Rattle.overlay_core.proofs.stepping.step.Goals as goal
@@ -77,3 +79,17 @@ returns-clause-makes g c =
     (without work j) (without work j) c.step_seen.new.work j c.step_seen.new.job
     c.step_seen.result made.0 t t t
     c.remember.ensures refl refl refl made.1 made.2
+
+pub returns-then-copies_on-clause-allowed : goal.returns-then-copies_on-clause-allowed
+returns-then-copies_on-clause-allowed g c = λ is s a.
+    let never : More ≡ NoMemory = sym c.copy.ensures.more ∙ is in absurd (cc)
+
+pub returns-then-not-may_lack-clause-allowed : goal.returns-then-not-may_lack-clause-allowed
+returns-then-not-may_lack-clause-allowed g c = λ is s a.
+    c.plain.ensures.allowed is s (subst (λ m. Agrees m c.args.watched.now.notifier s)
+    (sym c.remember.ensures) a)
+
+pub returns-clause-allowed : goal.returns-clause-allowed
+returns-clause-allowed g c = λ is s a.
+    c.step_seen.ensures.allowed is s (subst (λ m. Agrees m c.args.watched.now.notifier s)
+    (sym c.remember.ensures) a)

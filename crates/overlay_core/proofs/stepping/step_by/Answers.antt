@@ -1,12 +1,13 @@
-use Rattle.std.proofs.Common.{option_copied, refl}
+use Rattle.std.proofs.Common.{◌≡◌, option_copied, refl, sym, ◌∙◌}
 use Rattle.plain_model.specs.Refusals.{refusal}
 use Rattle.merged_lookup.specs.Merged.{lowers_of}
 use Rattle.work_dir.specs.declared.next.Next.TheVariants.{Finish, Begin, Copy, AtOnce}
 use Rattle.mount_calls.specs.Lacks.{lack_size}
 use Rattle.overlay_core.specs.Steps.{held_by, lack_by, without}
+use Rattle.overlay_core.specs.declared.turn.Turn.TheVariants.{More, NoMemory}
 use Rattle.overlay_core.proofs.NextSteps.{next-ready}
 use Rattle.overlay_core.proofs.StepsMade.{made-over}
-use Rattle.overlay_core.proofs.Waited.{begun-allowed}
+use Rattle.overlay_core.proofs.Waited.{begun-allowed, placed-allowed}
 use Rattle.overlay_core.proofs.stepping.step_by.Goals as goal
 
 pub returns-then-has_all-clause-makes : goal.returns-then-has_all-clause-makes
@@ -98,3 +99,25 @@ finish_seen-requires-in-Finish-clause-temp g c =
 pub place-requires-clause-temp : goal.place-requires-clause-temp
 place-requires-clause-temp g c =
     (c.held-temp-in-Place.ensures.temps (lowers_of c.args.watched.now.mount.layers) c.requires.temps).1
+
+pub returns-in-Place-clause-allowed : goal.returns-in-Place-clause-allowed
+returns-in-Place-clause-allowed g c = λ is s a.
+    let m = c.args.watched.now.mount in
+    let j = c.args.job.now in
+    placed-allowed (refusal s j.client j.call) (lack_by m j) j.placings j.begins
+    (option_copied c.temp_of.result)
+    (lack_size (lowers_of m.layers) (lack_by m j)) c.in-Place.second c.in-Place.count
+    (c.in-Place.ensures.next s a.stands)
+
+pub returns-in-Begin-clause-allowed : goal.returns-in-Begin-clause-allowed
+returns-in-Begin-clause-allowed g c = λ is s a.
+    let m = c.args.watched.now.mount in
+    let j = c.args.job.now in
+    begun-allowed (refusal s j.client j.call) (lack_by m j) j.placings j.begins
+    (option_copied c.temp_of.result)
+    (lack_size (lowers_of m.layers) (lack_by m j)) c.in-Begin.source
+    (c.in-Begin.ensures.next s a.stands)
+
+pub returns-in-Copy-clause-allowed : goal.returns-in-Copy-clause-allowed
+returns-in-Copy-clause-allowed g c = λ is s a.
+    let never : More ≡ NoMemory = sym c.copy.ensures.more ∙ is in absurd (cc)

@@ -1,10 +1,9 @@
-use Rattle.std.proofs.Common.{false, [], ◌∷◌, None, Some, refl, ap, ◌∙◌}
+use Rattle.std.proofs.Common.{false, [], ◌∷◌, refl, ap, ◌∙◌}
 use Rattle.ov_base.specs.declared.call.Call.TheVariants as call
 use Rattle.mount_calls.specs.Lacks.{copied_file, lack_among}
 use Rattle.plain_model.specs.Layers.{shows}
-use Rattle.mount_calls.proofs.Judging.{refuses-link, tells-both, tells-refusal}
+use Rattle.mount_calls.proofs.Judging.{tells-both, tells-refusal}
 use Rattle.mount_calls.proofs.Having.{copied-bytes}
-use Rattle.mount_calls.proofs.Keys.{look-seen}
 use Rattle.mount_calls.proofs.Stating.{the_layers, the_upper}
 use Rattle.mount_calls.proofs.mount.Mount.link_lack.Goals as goal
 
@@ -13,24 +12,22 @@ returns-in-Err c = λ client.
     let m = c.args.self.now in
     let p = c.args.old.now in
     let q = c.args.new.now in
-    tells-refusal m client (call.Hardlink p q) c.in-Err.errno
-    (refuses-link m client p q (Some c.in-Err.errno) (c.in-Err.ensures.refused m.layers p q
-    (look-seen m.layers p c.both.result.0.now (c.both.ensures c.args.self.now.layers c.args.old.now c.args.new.now c.requires).0) (look-seen m.layers q c.both.result.1.now (c.both.ensures c.args.self.now.layers c.args.old.now c.args.new.now c.requires).1)))
+    let saw = c.both.ensures m.layers p q c.requires in
+    tells-refusal m client (call.Hardlink p q) c.in-Err.errno (c.in-Err.ensures.refused p q saw.0 saw.1 client)
 
 pub copied_inode-file-requires : goal.copied_inode-file-requires
 copied_inode-file-requires c =
-    let m = c.args.self.now in
-    let p = c.args.old.now in
-    let q = c.args.new.now in
-    (p, (c.in-Ok.ensures.may m.layers p q (look-seen m.layers p c.both.result.0.now (c.both.ensures c.args.self.now.layers c.args.old.now c.args.new.now c.requires).0) (look-seen m.layers q c.both.result.1.now (c.both.ensures c.args.self.now.layers c.args.old.now c.args.new.now c.requires).1)).shown)
+    let saw = c.both.ensures c.args.self.now.layers c.args.old.now c.args.new.now c.requires in
+    (c.args.old.now, (c.in-Ok.ensures.may c.args.old.now c.args.new.now saw.0 saw.1).shown)
 
 pub returns : goal.returns
 returns c = λ client.
     let m = c.args.self.now in
     let p = c.args.old.now in
     let q = c.args.new.now in
-    let may = c.in-Ok.ensures.may m.layers p q (look-seen m.layers p c.both.result.0.now (c.both.ensures c.args.self.now.layers c.args.old.now c.args.new.now c.requires).0) (look-seen m.layers q c.both.result.1.now (c.both.ensures c.args.self.now.layers c.args.old.now c.args.new.now c.requires).1) in
-    tells-both m client (call.Hardlink p q) p q (copied_file m.metacopy (shows 0 (the_layers m) p)) c.lack_on_both.result (refuses-link m client p q None may.fine)
+    let saw = c.both.ensures m.layers p q c.requires in
+    let may = c.in-Ok.ensures.may p q saw.0 saw.1 in
+    tells-both m client (call.Hardlink p q) p q (copied_file m.metacopy (shows 0 (the_layers m) p)) c.lack_on_both.result (c.in-Ok.ensures.allowed p q saw.0 saw.1 client)
     (c.lack_on_both.ensures ∙ ap (λ d. lack_among (the_upper m) false (p ∷ (q ∷ [])) d) (c.copied_inode-file.ensures p may.shown)) refl
     (record { path = refl; way = may.way; opens = tt }) (record { path = refl; way = may.parents; opens = tt }) (copied-bytes m p)
 

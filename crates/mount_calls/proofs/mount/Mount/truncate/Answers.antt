@@ -2,9 +2,10 @@ use Rattle.std.proofs.Common.{refl}
 use Rattle.ov_base.specs.declared.call.Call.TheVariants as call
 use Rattle.ov_base.specs.declared.reply.Reply.TheVariants as reply
 use Rattle.mount_calls.specs.Making.{ServesEach}
+use Rattle.mount_calls.proofs.Answering.{on-err}
 use Rattle.mount_calls.proofs.MakingCalls.{attached-same, makes-done, makes-refused, makes-unshown}
 use Rattle.mount_calls.proofs.Named.{stays-named, truncate-paths}
-use Rattle.mount_calls.proofs.Writings.{truncate-refused, truncate-done}
+use Rattle.mount_calls.proofs.Writings.{truncate-allowed, truncate-refused, truncate-done}
 use Rattle.mount_calls.proofs.mount.Mount.truncate.Goals as goal
 
 pub returns-in-Err-clause-makes : goal.returns-in-Err-clause-makes
@@ -32,3 +33,8 @@ returns-clause-makes c =
     makes-done client k m c.resize_file.new.layers served
     (λ s st fine. stays-named m.layers now s client k reply.Done (served s st) fine (truncate-paths s client fd c.args.size) c.resize_file.ensures.files)
     (record { paths = made.objects; texts = c.resize_file.ensures.texts }) made.lowers made.sound.thin
+
+pub returns-in_err-resize_file-clause-allowed : goal.returns-in_err-resize_file-clause-allowed
+returns-in_err-resize_file-clause-allowed c = on-err c.from_residual.result _ (λ s st.
+    truncate-allowed c.args.self.now s st c.args.client c.args.descriptor c.args.size
+    c.in-Ok.ensures.file.1)

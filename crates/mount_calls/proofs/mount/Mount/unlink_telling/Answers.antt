@@ -1,28 +1,36 @@
 use Rattle.ov_base.specs.declared.call.Call.TheVariants as call
-use Rattle.mount_calls.specs.Status.{outcome_result}
-use Rattle.mount_calls.proofs.LeftMarks.{removed-marks, wanted-marks}
-use Rattle.mount_calls.proofs.MakingCalls.{makes-unshown}
-use Rattle.mount_calls.proofs.Unlinking.{outcome-err, unlink-made}
+use Rattle.merged_lookup.specs.Merged.{lowers_of}
+use Rattle.mount_calls.specs.Status.{done_result}
+use Rattle.mount_calls.proofs.Changing.{unlink-done}
+use Rattle.mount_calls.proofs.Lasting.{unlink-leaves}
+use Rattle.mount_calls.proofs.LeftMarks.{wanted-marks}
+use Rattle.mount_calls.proofs.MakingCalls.{done-err, makes-done, makes-unshown}
+use Rattle.mount_calls.proofs.Named.{removes-named}
 use Rattle.mount_calls.proofs.mount.Mount.unlink_telling.Goals as goal
 
 pub returns-clause-makes : goal.returns-clause-makes
 returns-clause-makes c = λ client.
-    let said = c.in_ok-outcome.ensures in
-    unlink-made c.args.self.now c.unlink_and_free.new.layers c.args.path.now c.in_ok-outcome.outcome client c.lawful.ensures.files said.refused said.unchanged
-    said.allowed said.takes said.steps said.live c.unlink_and_free.ensures.around c.unlink_and_free.ensures.texts c.unlink_and_free.ensures.sound.thin
+    let m = c.args.self.now in
+    let p = c.args.path.now in
+    let new = c.unlink_and_free.new.layers in
+    let said = c.in_ok-object.ensures in
+    makes-done client (call.Unlink p) m new
+    (λ s st. unlink-done m s st new client p c.requires.allowed said.takes.lowers (said.steps s st.layers client) c.lawful.ensures.files said.live (unlink-leaves p))
+    (λ s st fine. removes-named m.layers new s client p (call.Unlink p) (lowers_of m.layers) (said.takes.loses st.layers.layers) (said.steps s st.layers client))
+    (record { paths = c.unlink_and_free.ensures.around; texts = c.unlink_and_free.ensures.texts })
+    said.takes.lowers c.unlink_and_free.ensures.sound.thin
 
-pub returns-in_err-outcome-clause-makes : goal.returns-in_err-outcome-clause-makes
-returns-in_err-outcome-clause-makes c = λ client.
-    let kept = c.in_err-outcome.ensures.no_memory in
+pub returns-in_err-object-clause-makes : goal.returns-in_err-object-clause-makes
+returns-in_err-object-clause-makes c = λ client.
+    let kept = c.in_err-object.ensures.no_memory in
     makes-unshown client (call.Unlink c.args.path.now) c.args.self.now c.unlink_and_free.new.layers
-    (outcome_result c.from_residual.result) (outcome-err c.from_residual.result c.from_residual.ensures.0) kept.mount kept.beneath
+    (done_result c.from_residual.result) (done-err c.from_residual.result c.from_residual.ensures.0) kept.mount kept.beneath
     (record { paths = c.unlink_and_free.ensures.around; texts = c.unlink_and_free.ensures.texts }) kept.shown.lowers c.unlink_and_free.ensures.sound.thin
 
 pub returns-clause-marks : goal.returns-clause-marks
-returns-clause-marks c =
-    removed-marks c.args.self.now.layers c.unlink_and_free.new.layers c.args.path.now c.in_ok-outcome.outcome c.in_ok-outcome.ensures.takes
+returns-clause-marks c = λ is. c.in_ok-object.ensures.takes.left
 
-pub returns-in_err-outcome-clause-marks : goal.returns-in_err-outcome-clause-marks
-returns-in_err-outcome-clause-marks c =
+pub returns-in_err-object-clause-marks : goal.returns-in_err-object-clause-marks
+returns-in_err-object-clause-marks c =
     wanted-marks (call.Unlink c.args.path.now) c.args.self.now.layers c.unlink_and_free.new.layers
-    (outcome_result c.from_residual.result) (outcome-err c.from_residual.result c.from_residual.ensures.0)
+    (done_result c.from_residual.result) (done-err c.from_residual.result c.from_residual.ensures.0)

@@ -1,10 +1,10 @@
-use Rattle.std.proofs.Common.{true, false, ◌+◌, subst, sym}
+use Rattle.std.proofs.Common.{true, false, ◌+◌, refl, subst, sym}
 use Rattle.plain_model.specs.Runs.{Called}
 use Rattle.overlay_core.specs.Mounting.{machine_options}
 use Rattle.plain_model.specs.Refusals.{refusal}
 use Rattle.overlay_core.specs.Watching.{AgreesAs, GoesAs}
 use Rattle.overlay_core.proofs.Agreeing.{given-more, given-same, has-begun, some-finished, some-more, temps-on}
-use Rattle.overlay_core.proofs.Plain.{out-of-memory}
+use Rattle.overlay_core.proofs.Plain.{none-there, out-of-memory}
 use Rattle.overlay_core.proofs.ReadOnly.{blank-on, state-goes, state-stays}
 use Rattle.overlay_core.proofs.Waited.{none-waits}
 use Rattle.overlay_core.proofs.mounted.Core.answer.Goals as goal
@@ -68,3 +68,11 @@ returns-in-NoMemory-clause-step g c = λ s a.
     let as_read : AgreesAs true self.watched.mount self.watched.notifier s = subst (λ b. AgreesAs b self.watched.mount self.watched.notifier s) c.requires.read_only a in
     out-of-memory self.watched c.answer.new.watched self.work job c.answer.new.job (refusal s job.client job.call)
     (self.idle c.requires.read_only) (reads.finishes s as_read) reads.over
+
+pub returns-in-NoMemory-clause-refusals : goal.returns-in-NoMemory-clause-refusals
+returns-in-NoMemory-clause-refusals g c = λ s a some is.
+    let self = c.args.self.now in
+    let job = c.args.job.now in
+    let as_read : AgreesAs true self.watched.mount self.watched.notifier s = subst
+    (λ b. AgreesAs b self.watched.mount self.watched.notifier s) c.requires.read_only a in
+    none-there (refusal s job.client job.call) (c.in-NoMemory.ensures.allowed refl s as_read) some

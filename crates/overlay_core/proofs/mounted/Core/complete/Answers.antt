@@ -1,8 +1,17 @@
 use Rattle.std.proofs.Common.{false, ◌+◌, refl, sym, ◌∙◌}
+use Rattle.plain_model.specs.Refusals.{refusal}
 use Rattle.plain_model.specs.Runs.{Called}
 use Rattle.overlay_core.specs.Mounting.{machine_options}
 use Rattle.overlay_core.proofs.Agreeing.{given-more, given-same, goes-on, has-begun, some-finished, some-more, stays-on}
-use Rattle.overlay_core.proofs.Plain.{blank-plain, both, goes-plain, idle-plain, not-both}
+use Rattle.overlay_core.proofs.Plain.{
+  allowed-plain,
+  blank-plain,
+  both,
+  goes-plain,
+  idle-plain,
+  none-there,
+  not-both,
+}
 use Rattle.overlay_core.proofs.ReadOnly.{stays-as}
 use Rattle.overlay_core.proofs.StepsMade.{brings-made}
 use Rattle.overlay_core.proofs.Waited.{none-waits}
@@ -104,3 +113,12 @@ returns-in-Done-clause-marks g c = c.in-Done.ensures.makes.marks
 
 pub returns-in-NoMemory-clause-marks : goal.returns-in-NoMemory-clause-marks
 returns-in-NoMemory-clause-marks g c = c.in-NoMemory.ensures.makes.marks
+
+pub returns-in-NoMemory-clause-refusals : goal.returns-in-NoMemory-clause-refusals
+returns-in-NoMemory-clause-refusals g c = λ s a some is.
+    let old = c.args.self.now.watched in
+    let job = c.args.job.now in
+    none-there (refusal s job.client job.call)
+    (allowed-plain c.args.self.now.read_only job.call
+    (λ only. not-both _ _ (sym c.is_answered.ensures ∙ c.if-is_answered.false) only)
+    old.mount old.notifier job.client (c.in-NoMemory.ensures.allowed refl) s a) some

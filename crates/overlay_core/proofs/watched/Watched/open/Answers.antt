@@ -1,9 +1,6 @@
-use Rattle.std.proofs.Common.{◌≡◌, true, Option, None, is_some, sym, ap, ◌∙◌}
-use Rattle.std.proofs.lemmas.Bool.{false≢true}
-use Rattle.ov_base.specs.declared.errno.Errno.{Errno}
 use Rattle.ov_base.specs.declared.call.Call.TheVariants.{Open}
 use Rattle.overlay_core.proofs.Opens.{goes-refused-open}
-use Rattle.overlay_core.proofs.Performing.{keeps-same}
+use Rattle.overlay_core.proofs.Performing.{keeps-same, on-err}
 use Rattle.overlay_core.proofs.watched.Watched.«open».Goals as goal
 
 pub object_seen-object-requires : goal.object_seen-object-requires
@@ -50,12 +47,12 @@ returns-clause-goes g c = rw c.in-Ok.ensures.mode at c.in_ok-open_new.ensures.go
 pub returns-clause-kept : goal.returns-clause-kept
 returns-clause-kept g c = rw c.in-Ok.ensures.mode at c.open_new.ensures.kept
 
--- what is not refused is no refusal
-unrefused : (o : Option Errno) → o ≡ None → is_some o ≡ true → ⊥
-unrefused o none some = false≢true (sym (ap is_some none) ∙ some)
+pub returns-in_err-open_there-clause-allowed : goal.returns-in_err-open_there-clause-allowed
+returns-in_err-open_there-clause-allowed g c =
+    on-err c.from_residual.result _
+    (λ s a. c.in-Ok.ensures.allowed c.args.path.now c.requires.look s a.stands)
 
-pub returns-in_err-open_there-clause-memory : goal.returns-in_err-open_there-clause-memory
-returns-in_err-open_there-clause-memory g c = λ s a some. absurd (unrefused _ (c.in-Ok.ensures.allowed c.args.path.now c.requires.look s a.stands) some)
-
-pub returns-in_err-open_new-clause-memory : goal.returns-in_err-open_new-clause-memory
-returns-in_err-open_new-clause-memory g c = λ s a some. absurd (unrefused _ (c.in-Ok.ensures.allowed c.args.path.now c.requires.look s a.stands) some)
+pub returns-in_err-open_new-clause-allowed : goal.returns-in_err-open_new-clause-allowed
+returns-in_err-open_new-clause-allowed g c =
+    on-err c.from_residual-in_err-open_new.result _
+    (λ s a. c.in-Ok.ensures.allowed c.args.path.now c.requires.look s a.stands)

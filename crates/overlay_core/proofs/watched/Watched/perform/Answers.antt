@@ -2,10 +2,11 @@ use Rattle.std.proofs.Common.{subst, sym}
 use Rattle.mount_calls.specs.LeftMarks.{MarksIfDone}
 use Rattle.mount_calls.proofs.Seen.{looks-of}
 use Rattle.overlay_core.proofs.Making.{marks-unit, performs-as}
+use Rattle.overlay_core.proofs.NeverRefused.{allowed-as}
 use Rattle.overlay_core.proofs.watched.Watched.perform.Goals as goal
 
-pub returns-in-Chmod : goal.returns-in-Chmod
-returns-in-Chmod g c =
+pub returns-in-Chmod-clause-performs : goal.returns-in-Chmod-clause-performs
+returns-in-Chmod-clause-performs g c =
     let said = c.alter.ensures in
     performs-as c.in-Chmod.is (record {
       goes = said.goes;
@@ -15,8 +16,8 @@ returns-in-Chmod g c =
       kept = said.kept;
     })
 
-pub returns-in-Chown : goal.returns-in-Chown
-returns-in-Chown g c =
+pub returns-in-Chown-clause-performs : goal.returns-in-Chown-clause-performs
+returns-in-Chown-clause-performs g c =
     let said = c.alter-in-Chown.ensures in
     performs-as c.in-Chown.is (record {
       goes = said.goes;
@@ -26,8 +27,8 @@ returns-in-Chown g c =
       kept = said.kept;
     })
 
-pub returns-in-SetAttribute : goal.returns-in-SetAttribute
-returns-in-SetAttribute g c =
+pub returns-in-SetAttribute-clause-performs : goal.returns-in-SetAttribute-clause-performs
+returns-in-SetAttribute-clause-performs g c =
     let said = c.alter-in-SetAttribute.ensures in
     performs-as c.in-SetAttribute.is (record {
       goes = said.goes;
@@ -37,8 +38,8 @@ returns-in-SetAttribute g c =
       kept = said.kept;
     })
 
-pub returns-in-DeleteAttribute : goal.returns-in-DeleteAttribute
-returns-in-DeleteAttribute g c =
+pub returns-in-DeleteAttribute-clause-performs : goal.returns-in-DeleteAttribute-clause-performs
+returns-in-DeleteAttribute-clause-performs g c =
     let said = c.alter-in-DeleteAttribute.ensures in
     performs-as c.in-DeleteAttribute.is (record {
       goes = said.goes;
@@ -48,8 +49,8 @@ returns-in-DeleteAttribute g c =
       kept = said.kept;
     })
 
-pub returns-in-Hardlink : goal.returns-in-Hardlink
-returns-in-Hardlink g c =
+pub returns-in-Hardlink-clause-performs : goal.returns-in-Hardlink-clause-performs
+returns-in-Hardlink-clause-performs g c =
     let said = c.link.ensures in
     record {
       goes = said.goes;
@@ -60,13 +61,13 @@ returns-in-Hardlink g c =
       kept = said.kept;
     }
 
-pub returns-in-Rename : goal.returns-in-Rename
-returns-in-Rename g c =
+pub returns-in-Rename-clause-performs : goal.returns-in-Rename-clause-performs
+returns-in-Rename-clause-performs g c =
     let said = c.rename.ensures in
     record { goes = said.goes; refused = said.refused; marks = said.marks; no_memory = said.err; kept = said.kept }
 
-pub returns-in-Open : goal.returns-in-Open
-returns-in-Open g c =
+pub returns-in-Open-clause-performs : goal.returns-in-Open-clause-performs
+returns-in-Open-clause-performs g c =
     let said = c.«open».ensures in
     performs-as c.in-Open.is (record {
       goes = said.goes;
@@ -76,17 +77,17 @@ returns-in-Open g c =
       kept = said.kept;
     })
 
-pub returns-in-Mkdir : goal.returns-in-Mkdir
-returns-in-Mkdir g c = performs-as c.in-Mkdir.is c.mkdir.ensures
+pub returns-in-Mkdir-clause-performs : goal.returns-in-Mkdir-clause-performs
+returns-in-Mkdir-clause-performs g c = performs-as c.in-Mkdir.is c.mkdir.ensures.performs
 
-pub returns-in-Symlink : goal.returns-in-Symlink
-returns-in-Symlink g c = performs-as c.in-Symlink.is c.symlink.ensures
+pub returns-in-Symlink-clause-performs : goal.returns-in-Symlink-clause-performs
+returns-in-Symlink-clause-performs g c = performs-as c.in-Symlink.is c.symlink.ensures.performs
 
-pub returns-in-Unlink : goal.returns-in-Unlink
-returns-in-Unlink g c = performs-as c.in-Unlink.is c.unlink.ensures
+pub returns-in-Unlink-clause-performs : goal.returns-in-Unlink-clause-performs
+returns-in-Unlink-clause-performs g c = performs-as c.in-Unlink.is c.unlink.ensures.performs
 
-pub returns-in-Rmdir : goal.returns-in-Rmdir
-returns-in-Rmdir g c = performs-as c.in-Rmdir.is c.rmdir.ensures
+pub returns-in-Rmdir-clause-performs : goal.returns-in-Rmdir-clause-performs
+returns-in-Rmdir-clause-performs g c = performs-as c.in-Rmdir.is c.rmdir.ensures.performs
 
 pub one-look-requires : goal.one-look-requires
 one-look-requires g c =
@@ -183,3 +184,51 @@ one-look-requires-in-Rmdir g c =
 pub rmdir-requires-clause-look : goal.rmdir-requires-clause-look
 rmdir-requires-clause-look g c =
     c.one-look-in-Rmdir.ensures c.args.self.now.mount.layers c.in-Rmdir.path (looks-of _ _ _ _ c.in-Rmdir.is c.requires.looks)
+
+pub returns-in-Chmod-clause-allowed : goal.returns-in-Chmod-clause-allowed
+returns-in-Chmod-clause-allowed g c =
+    allowed-as c.args.self.now.mount c.args.self.now.notifier c.args.client _ c.alter.result
+    c.args.call.now c.in-Chmod.is c.alter.ensures.allowed
+
+pub returns-in-Chown-clause-allowed : goal.returns-in-Chown-clause-allowed
+returns-in-Chown-clause-allowed g c =
+    allowed-as c.args.self.now.mount c.args.self.now.notifier c.args.client _
+    c.alter-in-Chown.result
+    c.args.call.now c.in-Chown.is c.alter-in-Chown.ensures.allowed
+
+pub returns-in-SetAttribute-clause-allowed : goal.returns-in-SetAttribute-clause-allowed
+returns-in-SetAttribute-clause-allowed g c =
+    allowed-as c.args.self.now.mount c.args.self.now.notifier c.args.client _
+    c.alter-in-SetAttribute.result
+    c.args.call.now c.in-SetAttribute.is c.alter-in-SetAttribute.ensures.allowed
+
+pub returns-in-DeleteAttribute-clause-allowed : goal.returns-in-DeleteAttribute-clause-allowed
+returns-in-DeleteAttribute-clause-allowed g c =
+    allowed-as c.args.self.now.mount c.args.self.now.notifier c.args.client _
+    c.alter-in-DeleteAttribute.result
+    c.args.call.now c.in-DeleteAttribute.is c.alter-in-DeleteAttribute.ensures.allowed
+
+pub returns-in-Mkdir-clause-allowed : goal.returns-in-Mkdir-clause-allowed
+returns-in-Mkdir-clause-allowed g c =
+    allowed-as c.args.self.now.mount c.args.self.now.notifier c.args.client _ c.mkdir.result
+    c.args.call.now c.in-Mkdir.is c.mkdir.ensures.allowed
+
+pub returns-in-Symlink-clause-allowed : goal.returns-in-Symlink-clause-allowed
+returns-in-Symlink-clause-allowed g c =
+    allowed-as c.args.self.now.mount c.args.self.now.notifier c.args.client _ c.symlink.result
+    c.args.call.now c.in-Symlink.is c.symlink.ensures.allowed
+
+pub returns-in-Open-clause-allowed : goal.returns-in-Open-clause-allowed
+returns-in-Open-clause-allowed g c =
+    allowed-as c.args.self.now.mount c.args.self.now.notifier c.args.client _ c.«open».result
+    c.args.call.now c.in-Open.is c.«open».ensures.allowed
+
+pub returns-in-Unlink-clause-allowed : goal.returns-in-Unlink-clause-allowed
+returns-in-Unlink-clause-allowed g c =
+    allowed-as c.args.self.now.mount c.args.self.now.notifier c.args.client _ c.unlink.result
+    c.args.call.now c.in-Unlink.is c.unlink.ensures.allowed
+
+pub returns-in-Rmdir-clause-allowed : goal.returns-in-Rmdir-clause-allowed
+returns-in-Rmdir-clause-allowed g c =
+    allowed-as c.args.self.now.mount c.args.self.now.notifier c.args.client _ c.rmdir.result
+    c.args.call.now c.in-Rmdir.is c.rmdir.ensures.allowed

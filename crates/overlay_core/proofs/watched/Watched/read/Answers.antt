@@ -2,25 +2,29 @@ use Rattle.std.proofs.Common.{refl, sym, ◌∙◌}
 use Rattle.ov_base.specs.declared.call.Call.TheVariants.{Read}
 use Rattle.overlay_core.proofs.Making.{performs-out, performs-told}
 use Rattle.overlay_core.proofs.Uses.{goes-read, goes-unread, none-bytes, open-tracked, read-open, same-bytes, some-bytes}
-use Rattle.overlay_core.proofs.Performing.{performed-by}
+use Rattle.overlay_core.proofs.Performing.{on-err, performed-by}
 use Rattle.overlay_core.proofs.watched.Watched.read.Goals as goal
 use Rattle.overlay_core.proofs.watched.Watched.read.Goals.{in-Read+then-not-is_empty, in-Read+else-not-is_empty, in_default}
 
-pub returns-in_err-reply : goal.returns-in_err-reply
-returns-in_err-reply g c = performs-out c.in_err-reply.ensures c.from_residual.result c.from_residual.ensures.0
+pub returns-in_err-reply-clause-performs : goal.returns-in_err-reply-clause-performs
+returns-in_err-reply-clause-performs g c = performs-out c.in_err-reply.ensures.makes c.from_residual.result c.from_residual.ensures.0
+
+pub returns-in_err-reply-clause-allowed : goal.returns-in_err-reply-clause-allowed
+returns-in_err-reply-clause-allowed g c = on-err c.from_residual.result _
+    (λ s a. c.in_err-reply.ensures.allowed s a.stands)
 
 pub used-requires-clause-open : goal.used-requires-clause-open
 used-requires-clause-open g c =
     let client = c.args.client in
     let d = c.args.descriptor in
     open-tracked g.R.Rule.shows client (Read d c.args.count) c.in_ok-reply.reply c.args.self.now.mount c.read.new.self c.args.self.now.notifier
-    (performed-by c.requires.there c.in_ok-reply.ensures) d
+    (performed-by c.requires.there c.in_ok-reply.ensures.makes) d
     (λ e refused. let z = sym c.in-Read.is ∙ refused in cc)
     (λ s fine. read-open client d c.args.count s fine)
     c.requires.state
 
-pub returns : goal.returns
-returns g c =
+pub returns-clause-performs : goal.returns-clause-performs
+returns-clause-performs g c =
     let shows = g.R.Rule.shows in
     let client = c.args.client in
     let d = c.args.descriptor in
@@ -30,7 +34,7 @@ returns g c =
     let old = c.args.self.now.mount in
     let from = c.args.self.now.notifier in
     let new = c.read.new.self in
-    let made = c.in_ok-reply.ensures in
+    let made = c.in_ok-reply.ensures.makes in
     let done = performed-by c.requires.there made in
     elim c.match-reply.branch [
       | in-Read+then-not-is_empty w ↦

@@ -2,22 +2,27 @@ use Rattle.std.proofs.Common.{refl}
 use Rattle.merged_lookup.specs.Merged.{lowers_of}
 use Rattle.notice_laws.proofs.Unlinked.{law_of_removed}
 use Rattle.ov_base.specs.declared.call.Call.TheVariants.{Rmdir}
+use Rattle.ov_base.specs.declared.reply.Reply.TheVariants.{Done}
 use Rattle.overlay_core.proofs.Bare.{done-bare, removed-bare}
-use Rattle.overlay_core.proofs.Making.{performs-done, performs-out, performs-refused}
-use Rattle.overlay_core.proofs.Performing.{performed-by, state-of}
+use Rattle.overlay_core.proofs.Making.{performs-done, performs-judged, performs-out}
+use Rattle.overlay_core.proofs.Performing.{on-err, performed-by, state-of}
 use Rattle.overlay_core.proofs.Watching.{mount_upper}
 use Rattle.overlay_core.proofs.watched.Watched.rmdir.Goals as goal
+
+pub returns-in-Err-clause-performs : goal.returns-in-Err-clause-performs
+returns-in-Err-clause-performs g c =
+    performs-judged c.in-Err.errno c.requires.there (λ s. refl) c.in-Err.ensures.refused
 
 pub rmdir-requires-clause-state : goal.rmdir-requires-clause-state
 rmdir-requires-clause-state g c = state-of c.args.self.now.mount c.args.self.now.notifier c.requires.state
 
-pub returns-in_err-reply : goal.returns-in_err-reply
-returns-in_err-reply g c =
-    performs-out (c.in_err-reply.ensures.makes c.args.client) c.from_residual.result c.from_residual.ensures.0
+pub returns-in_err-rmdir-clause-performs : goal.returns-in_err-rmdir-clause-performs
+returns-in_err-rmdir-clause-performs g c =
+    performs-out (c.in_err-rmdir.ensures.makes c.args.client) c.from_residual.result c.from_residual.ensures.0
 
-pub returns-in_default : goal.returns-in_default
-returns-in_default g c =
-    performs-refused c.in_ok-reply.reply c.requires.there (c.in_ok-reply.ensures.makes c.args.client) (λ s. refl) c.in_default.not-Done
+pub returns-in_err-rmdir-clause-allowed : goal.returns-in_err-rmdir-clause-allowed
+returns-in_err-rmdir-clause-allowed g c =
+    on-err c.from_residual.result _ (λ s a. c.in-Ok.ensures.allowed s a.stands c.args.client)
 
 pub removed-requires : goal.removed-requires
 removed-requires g c =
@@ -26,14 +31,14 @@ removed-requires g c =
     let old = c.args.self.now.mount in
     let new = c.rmdir.new.self in
     let from = c.args.self.now.notifier in
-    done-bare client (Rmdir path) c.in_ok-reply.reply old new from path (performed-by c.requires.there (c.in_ok-reply.ensures.makes client)) c.in-Done.is
+    done-bare client (Rmdir path) Done old new from path (performed-by c.requires.there (c.in_ok-rmdir.ensures.makes client)) refl
     c.requires.state (λ s tracks passes. removed-bare (mount_upper old) s from tracks (mount_upper new) (lowers_of old.layers) client path passes)
 
-pub returns : goal.returns
-returns g c =
+pub returns-clause-performs : goal.returns-clause-performs
+returns-clause-performs g c =
     let old = c.args.self.now.mount in
     let to = c.removed.new.self in
-    performs-done c.in_ok-reply.reply c.requires.there (c.in_ok-reply.ensures.makes c.args.client) c.in-Done.is
+    performs-done Done c.requires.there (c.in_ok-rmdir.ensures.makes c.args.client) refl
     (λ s a passes. law_of_removed g.R.Rule.shows (mount_upper old) (mount_upper c.rmdir.new.self) (lowers_of old.layers) s c.args.client c.args.path.now passes
     c.args.self.now.notifier to a.tracks c.lawful.ensures.known c.removed.ensures)
-    (c.in_ok-reply.ensures.marks c.in-Done.is)
+    (c.in_ok-rmdir.ensures.marks refl)

@@ -2,12 +2,16 @@ use Rattle.std.proofs.Common.{refl, sym, ◌∙◌}
 use Rattle.ov_base.specs.declared.call.Call.TheVariants.{Truncate}
 use Rattle.overlay_core.proofs.Making.{performs-out, performs-told}
 use Rattle.overlay_core.proofs.Uses.{goes-refused, goes-truncated, open-tracked, truncate-open}
-use Rattle.overlay_core.proofs.Performing.{performed-by}
+use Rattle.overlay_core.proofs.Performing.{on-err, performed-by}
 use Rattle.overlay_core.proofs.watched.Watched.truncate.Goals as goal
 use Rattle.overlay_core.proofs.watched.Watched.truncate.Goals.{in-Done, in_default}
 
-pub returns-in_err-reply : goal.returns-in_err-reply
-returns-in_err-reply g c = performs-out c.in_err-reply.ensures.makes c.from_residual.result c.from_residual.ensures.0
+pub returns-in_err-reply-clause-performs : goal.returns-in_err-reply-clause-performs
+returns-in_err-reply-clause-performs g c = performs-out c.in_err-reply.ensures.makes c.from_residual.result c.from_residual.ensures.0
+
+pub returns-in_err-reply-clause-allowed : goal.returns-in_err-reply-clause-allowed
+returns-in_err-reply-clause-allowed g c = on-err c.from_residual.result _
+    (λ s a. c.in_err-reply.ensures.allowed s a.stands)
 
 pub used-requires-clause-open : goal.used-requires-clause-open
 used-requires-clause-open g c =
@@ -19,8 +23,8 @@ used-requires-clause-open g c =
     (λ s fine. truncate-open client d c.args.size s fine)
     c.requires.state
 
-pub returns : goal.returns
-returns g c =
+pub returns-clause-performs : goal.returns-clause-performs
+returns-clause-performs g c =
     let client = c.args.client in
     let d = c.args.descriptor in
     let k = Truncate d c.args.size in

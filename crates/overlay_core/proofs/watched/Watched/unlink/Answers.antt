@@ -1,19 +1,28 @@
-use Rattle.std.proofs.Common.{Ok, ap, subst, sym, refl}
+use Rattle.std.proofs.Common.{refl}
 use Rattle.ov_base.specs.declared.call.Call.TheVariants.{Unlink}
-use Rattle.ov_base.specs.declared.reply.Reply.TheVariants.{Done, Refused}
+use Rattle.ov_base.specs.declared.reply.Reply.TheVariants.{Done}
 use Rattle.merged_lookup.specs.Merged.{lowers_of}
-use Rattle.mount_calls.specs.Making.{MakesCall}
-use Rattle.mount_calls.specs.Status.{outcome_reply}
 use Rattle.notice_laws.proofs.Unlinked.{law_of_unlinked}
 use Rattle.overlay_core.proofs.Bare.{done-bare, unlinked-bare}
-use Rattle.overlay_core.proofs.Making.{performs-done, performs-out, performs-refused}
-use Rattle.overlay_core.proofs.Performing.{outcome-so}
+use Rattle.overlay_core.proofs.Making.{performs-done, performs-judged, performs-out}
+use Rattle.overlay_core.proofs.Performing.{on-err, performed-by}
 use Rattle.overlay_core.proofs.Watching.{mount_upper}
 use Rattle.overlay_core.proofs.watched.Watched.unlink.Goals as goal
 
-pub returns-in_err-object : goal.returns-in_err-object
-returns-in_err-object g c =
+pub returns-in-Err-clause-performs : goal.returns-in-Err-clause-performs
+returns-in-Err-clause-performs g c =
+    performs-judged c.in-Err.errno c.requires.there (λ s. refl) c.in-Err.ensures.refused
+
+pub unlink_telling-requires : goal.unlink_telling-requires
+unlink_telling-requires g c = c.in-Ok.ensures.found
+
+pub returns-in_err-object-clause-performs : goal.returns-in_err-object-clause-performs
+returns-in_err-object-clause-performs g c =
     performs-out (c.in_err-object.ensures.makes c.args.client) c.from_residual.result c.from_residual.ensures.0
+
+pub returns-in_err-object-clause-allowed : goal.returns-in_err-object-clause-allowed
+returns-in_err-object-clause-allowed g c =
+    on-err c.from_residual.result _ (λ s a. c.in-Ok.ensures.allowed s a.stands c.args.client)
 
 pub unlinked-requires : goal.unlinked-requires
 unlinked-requires g c =
@@ -22,26 +31,17 @@ unlinked-requires g c =
     let old = c.args.self.now.mount in
     let new = c.unlink_telling.new.self in
     let from = c.args.self.now.notifier in
-    done-bare client (Unlink path) Done old new from path
-    (outcome-so client (Unlink path) (Ok c.in-Ok.object) _ old new (sym c.in-Ok.is) c.requires.there (c.in_ok-object.ensures.makes client)) refl
+    done-bare client (Unlink path) Done old new from path (performed-by c.requires.there (c.in_ok-object.ensures.makes client)) refl
     c.requires.state (λ s tracks passes. unlinked-bare (mount_upper old) s from tracks (mount_upper new) (lowers_of old.layers) client path passes)
 
-pub returns-in-Ok : goal.returns-in-Ok
-returns-in-Ok g c =
+pub returns-clause-performs : goal.returns-clause-performs
+returns-clause-performs g c =
     let said = c.in_ok-object.ensures in
     let client = c.args.client in
     let path = c.args.path.now in
     let old = c.args.self.now.mount in
     let new = c.unlink_telling.new.self in
-    performs-done Done c.requires.there
-    (subst (λ o. MakesCall client (Unlink path) old new (Ok (outcome_reply o))) c.in-Ok.is (said.makes client)) refl
+    performs-done Done c.requires.there (said.makes client) refl
     (λ s a passes. law_of_unlinked g.R.Rule.shows (mount_upper old) (mount_upper new) (lowers_of old.layers) s client path passes
-    c.in-Ok.object (rw c.in-Ok.is at said.object) c.args.self.now.notifier c.unlinked.new.self a.tracks c.lawful.ensures.known c.unlinked.ensures)
-    (said.marks (ap outcome_reply c.in-Ok.is))
-
-pub returns-in-Err : goal.returns-in-Err
-returns-in-Err g c =
-    performs-refused (Refused c.in-Err.errno) c.requires.there
-    (subst (λ o. MakesCall c.args.client (Unlink c.args.path.now) c.args.self.now.mount c.unlink_telling.new.self (Ok (outcome_reply o))) c.in-Err.is
-    (c.in_ok-object.ensures.makes c.args.client))
-    (λ s. refl) (λ same. cc)
+    c.in_ok-object.object said.object c.args.self.now.notifier c.unlinked.new.self a.tracks c.lawful.ensures.known c.unlinked.ensures)
+    (said.marks refl)
