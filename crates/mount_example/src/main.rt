@@ -1,12 +1,11 @@
 //! An embedder's first program: two layers are mounted, and a client watches a file of the lower
-//! one that it changes. `tools/check-docs` compares what is between the marks with the README.
+//! one that it changes. `tools/check-docs` compares what is between the marks with LIBRARY.
 #![tactic(auto)]
 
 ghost use Rattle.std.specs.Prelude.{◌≡◌, IfOk};
 ghost use Rattle.std.specs.Borrow.{Bor};
 ghost use Rattle.ov_base.specs.declared.notice.Event.{Event};
 ghost use Rattle.plain_model.specs.Watching.{IsEvent};
-ghost use Rattle.overlay_core.specs.Views.{core_finished};
 
 use anyhow::{Context, Result};
 use ov_base::{Call, Event, Notice, Path, Reply};
@@ -14,7 +13,7 @@ use ov_wire::manifest_of;
 use overlay_core::{Core, Job, Turn};
 use std::alloc::Global;
 use std::hash::RandomState;
-use watch_table::{AnyAnswer, Asked, Callback, Hook, Rule};
+use watch_table::{AnyAnswer, Asked, Callback, Hook};
 
 /// More than a history ever has.
 const FINISHED_MAX: u64 = 1 << 32;
@@ -37,6 +36,48 @@ fn report(rt: &HostRuntime, reply: Reply) -> Result<()> {
 }
 
 // README: begin
+// A mount whose clients have one hook each, and whose calls are made at once.
+#[derive(Drop)]
+struct Mounted<F: Callback> {
+    core: Core<F, AnyAnswer>,
+}
+
+impl<F: Callback + Copy> Mounted<F> {
+    // The mount of a manifest.
+    fn of(alloc: Global, keys: RandomState, manifest: &str) -> Result<Self> {
+        let (upper, lowers, options) = manifest_of(alloc, keys, manifest.as_bytes())?;
+        let mounted = Core::mount(alloc, keys, upper, lowers, options);
+        let core = mounted.ok().context("no mount")?;
+        Ok(Mounted { core })
+    }
+
+    // Attaches a client whose events the callback answers, and gives its number.
+    fn attach(&mut self, alloc: Global, callback: F) -> Result<u64>
+        requires { (e : Bor Event) → IsEvent e.now → F.may callback e }
+    {
+        if self.core.finished() >= FINISHED_MAX {
+            return None.context("too many calls");
+        }
+        let mut hooks: Vec<Hook<F, AnyAnswer>> = Vec::new(alloc);
+        hooks.push(Hook::new(0, callback))?;
+        self.core.attach(hooks).ok().context("not attached")
+    }
+
+    // Makes a call of a client at once.
+    fn call(&mut self, client: u64, call: Call) -> Result<Reply> {
+        if self.core.finished() >= FINISHED_MAX || !self.core.is_attached(client) {
+            return None.context("not attached");
+        }
+        let mut job = Job::new(client, call);
+        let turn = self.core.complete(&mut job);
+        let _ = job.into_call();
+        match turn {
+            Turn::Done(reply) => Ok(reply),
+            Turn::More | Turn::NoMemory => None.context("out of memory"),
+        }
+    }
+}
+
 // An empty upper layer over a lower one with a file.
 const LAYERS: &str = r#"layer = [{}, { entry = [{ path = "/motd", kind = "file" }] }]"#;
 
@@ -55,52 +96,20 @@ fn main(rt: HostRuntime) -> Result<()> {
 fn session<F: Callback + Copy>(rt: &HostRuntime, callback: F) -> Result<()>
     requires { (e : Bor Event) → IsEvent e.now → F.may callback e }
 {
-    let mut core = mounted(rt.alloc(), RandomState::new(rt)?)?;
-    let reply = listen(rt.alloc(), &mut core, callback);
-    drop(core);
-    report(rt, reply?)
+    let mut mounted = Mounted::of(rt.alloc(), RandomState::new(rt)?, LAYERS)?;
+    let heard = edit(rt.alloc(), &mut mounted, callback);
+    drop(mounted);
+    report(rt, heard?)
 }
 
-fn listen<F: Callback + Copy>(
-    alloc: Global,
-    core: &mut Core<F, AnyAnswer>,
-    callback: F,
-) -> Result<Reply>
-    requires callback { (e : Bor Event) → IsEvent e.now → F.may callback e }
-    requires fresh { core_finished core.old ≡ 0 }
+fn edit<F: Callback + Copy>(alloc: Global, mounted: &mut Mounted<F>, callback: F) -> Result<Reply>
+    requires { (e : Bor Event) → IsEvent e.now → F.may callback e }
 {
-    let mut hooks: Vec<Hook<F, AnyAnswer>> = Vec::new(alloc);
-    hooks.push(Hook::new(0, callback))?;
-    let client = core.attach(hooks).ok().context("not attached")?;
-    edit(alloc, core, client)
-}
-
-fn mounted<F: Callback, A: Rule>(alloc: Global, keys: RandomState) -> Result<Core<F, A>>
-    ensures { IfOk result (λ core. core_finished core ≡ 0) }
-{
-    let (upper, lowers, options) = manifest_of(alloc, keys, LAYERS.as_bytes())?;
-    let mounted = Core::mount(alloc, keys, upper, lowers, options);
-    mounted.ok().context("no mount")
-}
-
-fn edit<F: Callback, A: Rule>(alloc: Global, core: &mut Core<F, A>, client: u64) -> Result<Reply> {
+    let client = mounted.attach(alloc, callback)?;
     let (slot, path, mask) = (0, path_of(alloc, "/motd")?, ATTRIB);
-    call(core, client, Call::Arm { slot, path, mask })?;
+    mounted.call(client, Call::Arm { slot, path, mask })?;
     let (path, mode) = (path_of(alloc, "/motd")?, 0o600);
-    call(core, client, Call::Chmod { path, mode })?;
-    call(core, client, Call::TakeNotices { count: 65 })
-}
-
-fn call<F: Callback, A: Rule>(core: &mut Core<F, A>, client: u64, call: Call) -> Result<Reply> {
-    if core.finished() >= FINISHED_MAX || !core.is_attached(client) {
-        return None.context("not attached");
-    }
-    let mut job = Job::new(client, call);
-    let turn = core.complete(&mut job);
-    let _ = job.into_call();
-    match turn {
-        Turn::Done(reply) => Ok(reply),
-        Turn::More | Turn::NoMemory => None.context("out of memory"),
-    }
+    mounted.call(client, Call::Chmod { path, mode })?;
+    mounted.call(client, Call::TakeNotices { count: 65 })
 }
 // README: end

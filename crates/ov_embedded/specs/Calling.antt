@@ -1,6 +1,6 @@
 -- What a call by a frame is.
 use Rattle.std.specs.Prelude.{◌≡◌, ◌≢◌, ℕ, ◌≤◌, ◌^◌, List, [], ◌∷◌, ◌++◌, length, take, drop, false, Option, Some, None, Result, Ok, Err}
-use Rattle.core_door.specs.Entries.{IsPlayed}
+use Rattle.doors.specs.owned.Entries.{IsPlayed}
 use Rattle.mount_calls.specs.Attaching.{KeepsAttached}
 use Rattle.ov_base.specs.declared.call.Call.{Call}
 use Rattle.ov_base.specs.declared.errno.Errno.{Errno}

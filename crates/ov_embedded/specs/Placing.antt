@@ -1,7 +1,7 @@
 -- Where the object lies that a path shows.
 use Rattle.std.specs.Prelude.{◌≡◌, ℕ, List, option_map, Some, Result, Ok, Err, ◌⊎◌}
 use Rattle.merged_lookup.specs.Merged.{layers_of}
-use Rattle.merged_lookup.specs.declared.stack.Place.{Place}
+use Rattle.ov_base.specs.declared.place.Place.{Place}
 use Rattle.mount_laws.specs.Looks.{walk_fault}
 use Rattle.ov_base.specs.Paths.{path_of_text}
 use Rattle.overlay_core.specs.Views.{core_layers}

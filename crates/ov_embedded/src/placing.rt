@@ -3,8 +3,7 @@ ghost use Rattle.ov_embedded.specs.Placing.{IsPlaced};
 
 use crate::mounted::Mounted;
 use crate::outcome::Outcome;
-use merged_lookup::Place;
-use ov_base::Path;
+use ov_base::{Path, Place};
 use std::alloc::Global;
 
 impl Mounted {

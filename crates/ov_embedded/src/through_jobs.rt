@@ -11,7 +11,7 @@ ghost use Rattle.ov_embedded.specs.declared.outcome.Outcome.TheVariants as outco
 
 use crate::handle::Handle;
 use crate::outcome::Outcome;
-use merged_lookup::Place;
+use ov_base::Place;
 use std::alloc::Global;
 
 #[tactic(auto, using(crate::proofs::Handled::shown_some, crate::proofs::Handled::shown_none))]

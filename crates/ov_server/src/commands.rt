@@ -26,7 +26,7 @@ use ov_devices::Sink;
 use ov_script::{BadCommand, CallText, Command, command_of};
 use overlay_core::{Core, Job};
 use std::alloc::{AllocError, Global};
-use watch_table::{Callback, Hook, Rule};
+use watch_table::{Callback, Hook, Rule, copies_of};
 
 /// Why a line could not be played.
 #[derive(Drop)]
@@ -211,20 +211,6 @@ fn attached<F: Callback + Copy, H: Rule>(
             errno: Errno::ENOMEM,
         },
     }
-}
-
-// Other hooks of the same tags and callbacks.
-fn copies_of<F: Callback + Copy, H: Rule>(
-    alloc: Global,
-    hooks: &[Hook<F, H>],
-) -> Result<Vec<Hook<F, H>>, AllocError>
-    ensures { IfOk result (λ copies. copies.items ≡ hooks.now) }
-{
-    let mut copies = Vec::with_capacity(alloc, hooks.len())?;
-    for hook in hooks {
-        copies.push(hook.copied())?;
-    }
-    Ok(copies)
 }
 
 // Detaches a client; its call that is on its way is dropped first.

@@ -9,8 +9,8 @@ use crate::fault::DeviceFault;
 use crate::object_lines::{ObjectLine, WhiteoutLine};
 use dir_listing::names;
 use layer_tree::{Entry, Layer, Node, ROOT};
-use merged_lookup::{Found, Layers, Place, Stack};
-use ov_base::{Content, Name};
+use merged_lookup::{Found, Layers, Stack};
+use ov_base::{Content, Name, Place};
 use ov_devices::Sink;
 use std::alloc::{AllocError, Global};
 

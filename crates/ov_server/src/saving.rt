@@ -8,8 +8,8 @@ use crate::saved_entries::{
     Unsaid, are_of_a_root, put_directory, put_inode, put_link, put_whiteout,
 };
 use layer_tree::{Directory, Entry, Inode, Layer, Node, ROOT};
-use merged_lookup::{Layers, Place};
-use ov_base::{Content, Name};
+use merged_lookup::Layers;
+use ov_base::{Content, Name, Place};
 use ov_devices::Sink;
 use std::alloc::{AllocError, Global};
 use std::collections::BTreeMap;

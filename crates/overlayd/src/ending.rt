@@ -1,7 +1,7 @@
 // What threads of their own do beside a server, and its end with that of standard input.
-use crate::status::Status;
 use command_line::Serving;
 use ov_server::Fault;
+use server_files::Status;
 use socket_server::Closing;
 use std::alloc::Global;
 use std::fs::Files;

@@ -4,21 +4,15 @@
 ghost use Rattle.std.specs.Prelude.{◌≡◌, ◌≢◌, IfOk, IsSome, None, OnOk};
 
 mod ending;
-mod listening;
 mod mounting;
-mod replacing;
-mod saving;
-mod status;
 
 use crate::ending::{Task, closing_in, do_task, ending_of};
-use crate::listening::{acceptor_of, hold_standard, listen};
 use crate::mounting::{Mounting, mounting_of};
-use crate::saving::Saver;
-use crate::status::Status;
 use command_line::{Invocation, Playing, Serving, Source, command_line};
 use manifest_files::{Described, Failure, STANDARD_INPUT, read_manifest, tell, why_bad};
 use ov_devices::{CountedReader, CountedWriter};
 use ov_server::{ByTag, Fault, Output, ProgramRule, hooks_by_slot, play_run, show_run};
+use server_files::{Saver, Status, acceptor_of, hold_standard, listen};
 use socket_server::{Acceptor, Closing, Counts, ServeOptions, Served, serve_endless_on, serve_on};
 use std::alloc::Global;
 use std::env::Env;

@@ -1,6 +1,6 @@
 -- What the numbers that C gets say.
 use Rattle.std.specs.Prelude.{◌≡◌, ℕ, ℤ, pos, List, Option, None, Result, Ok, Err}
-use Rattle.merged_lookup.specs.declared.stack.Place.{Place}
+use Rattle.ov_base.specs.declared.place.Place.{Place}
 use Rattle.ov_base.specs.Errnos as errors
 use Rattle.ov_embedded.specs.Attending.{Attends, Departs}
 use Rattle.ov_embedded.specs.Calling.{Comes, IsAgain, IsShown}

@@ -6,7 +6,7 @@ ghost use Rattle.std.specs.Prelude.{◌≡◌, pos};
 ghost use Rattle.std.specs.declared.option.Option.TheVariants.{None};
 ghost use Rattle.overlayd_c.specs.Numbers.{AreNamed, Counts, IsAttached, IsBegun, IsCalled, IsDetached, IsDropped, IsListed, IsMade, IsMadeOn, IsPlaced, IsRead, IsRecalled, IsRepeated, IsSaved, IsStepped, IsWritten, Tells, TellsCount, TellsPlace, TellsSaved, error_of, number_of};
 
-use merged_lookup::Place;
+use ov_base::Place;
 use ov_embedded::{
     Handle, Outcome, Saved, attach_through, begin_through, blob_names, call_through,
     detach_through, drop_through, layer_through, mount_on_through, mount_through, place_through,

@@ -7,7 +7,7 @@ mod checks;
 #[cfg(test)]
 mod devices;
 #[cfg(test)]
-mod doors;
+mod door_sessions;
 #[cfg(test)]
 mod endless;
 #[cfg(test)]

@@ -2,7 +2,7 @@
 ghost use Rattle.std.specs.Prelude.{◌≡◌};
 ghost use Rattle.overlay_core.specs.Views.{core_finished};
 
-use crate::doors::is_left_clean;
+use crate::door_sessions::is_left_clean;
 use crate::gates::is_untouched;
 use crate::refusals::is_filled;
 use locked_history::{

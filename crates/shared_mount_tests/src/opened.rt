@@ -2,7 +2,7 @@
 ghost use Rattle.locked_history.specs.Names.{IsNamed};
 
 use crate::checks::holds;
-use crate::doors::{Scenario, happens};
+use crate::door_sessions::{Scenario, happens};
 use crate::gates::{lets_through, refuses_held, stops_at};
 use crate::mounts::{End, blank_of, ended};
 use crate::racing::{RACED, races};

@@ -2,7 +2,6 @@
 // call, with its place in a history that is there for contracts alone.
 ghost use Rattle.endless_mount.specs.Names.{IsNamed};
 
-use crate::shared_clients::copies_of;
 use crate::shared_mount::SharedMount;
 use crate::told::Told;
 use endless_mount::{Blank, BookName, EndlessMount, Front};
@@ -11,7 +10,7 @@ use ov_base::{Call, Errno};
 use script_reference::reply_line;
 use std::alloc::Global;
 use std::sync::Wait;
-use watch_table::{Callback, Hook, Rule};
+use watch_table::{Callback, Hook, Rule, copies_of};
 
 /// A mount, the hooks of its clients, what was seen of its history, and how much was done. Nobody
 /// else does anything on it.

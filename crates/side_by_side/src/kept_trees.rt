@@ -1,9 +1,9 @@
 // The trees that a mount keeps: each layer, and the merge of all.
 use dir_listing::names;
 use layer_tree::{Entry, Layer, Marks, Node};
-use merged_lookup::{Found, Layers, Place};
+use merged_lookup::{Found, Layers};
 use mount_calls::status_of;
-use ov_base::{Content, NameList, Path, Redirect, Stat};
+use ov_base::{Content, NameList, Path, Place, Redirect, Stat};
 use script_reference::{Text, Tree, push_escaped, push_path, push_target, push_words};
 use std::alloc::{AllocError, Global};
 

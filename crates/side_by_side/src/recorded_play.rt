@@ -2,7 +2,6 @@
 // receipts, which all stand in its past when it has ended.
 ghost use Rattle.locked_history.specs.Names.{IsNamed};
 
-use crate::shared_clients::copies_of;
 use crate::shared_mount::SharedMount;
 use crate::told::Told;
 use locked_history::{Blank, Deed, Mount, MountName, Open, Receipt, Refused, Session};
@@ -10,7 +9,7 @@ use ov_base::{Call, Errno};
 use script_reference::reply_line;
 use std::alloc::Global;
 use std::sync::Wait;
-use watch_table::{Callback, Hook, Rule};
+use watch_table::{Callback, Hook, Rule, copies_of};
 
 /// A mount, the hooks of its clients, and the receipts of all that was done.
 struct RecordedMount<'a, N: MountName, F: Callback, R: Rule> {

@@ -6,7 +6,6 @@ use ov_script::{CallText, Command, command_of};
 use script_reference::{attached_line, detached_line, not_attached_line, not_taken_line};
 use std::alloc::{AllocError, Global};
 use std::sync::Wait;
-use watch_table::{Callback, Hook, Rule};
 
 /// What a mount answers to a line.
 #[derive(Drop)]
@@ -165,16 +164,4 @@ fn refused(alloc: Global, client: u32, why: Refused) -> Result<Answer, AllocErro
         }
         Refused::Session | Refused::Stopped => Ok(Answer::BadCommand),
     }
-}
-
-/// Other hooks of the same tags and callbacks.
-pub fn copies_of<F: Callback + Copy, R: Rule>(
-    alloc: Global,
-    hooks: &[Hook<F, R>],
-) -> Result<Vec<Hook<F, R>>, AllocError> {
-    let mut copies = Vec::with_capacity(alloc, hooks.len())?;
-    for hook in hooks {
-        copies.push(hook.copied())?;
-    }
-    Ok(copies)
 }

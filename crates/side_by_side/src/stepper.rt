@@ -1,10 +1,9 @@
 // A mount on which calls go step by step, for a generator that has to know which of them go on.
-use crate::shared_clients::copies_of;
 use ov_script::{CallText, Command, command_of};
 use overlay_core::{Core, Job, Standing, Turn};
 use std::alloc::{AllocError, Global};
 use std::collections::BTreeMap;
-use watch_table::{Callback, Hook, Rule};
+use watch_table::{Callback, Hook, Rule, copies_of};
 
 /// The most deeds that are done on it.
 const DEEDS_MOST: u64 = 1_000_000;

@@ -7,7 +7,7 @@ use Rattle.std.proofs.lemmas.List.Quantifiers.{all_pairs_push}
 use mathlib.Core.List.{IsPrefix}
 use Rattle.locked_history.specs.Claims.{Claim}
 use Rattle.locked_history.specs.declared.entry.Entry.{Entry}
-use Rattle.endless_door.specs.Advancing.{Standing}
+use Rattle.doors.specs.endless.Advancing.{Standing}
 use Rattle.endless_mount.proofs.Fronts.{prefix_length, prefix_trans}
 use Rattle.socket_server.specs.Clients.{AreClients, IsClient, of_any_client}
 use Rattle.socket_server.specs.EndlessClients as endless

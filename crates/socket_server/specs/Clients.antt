@@ -6,8 +6,8 @@ use Rattle.ov_frames.specs.declared.answer.Answer.{Answer}
 use Rattle.ov_session.specs.declared.exchange.Exchange.{Exchange}
 use Rattle.ov_session.specs.declared.exchange.Exchange.TheVariants.{Departed}
 use Rattle.locked_history.specs.Claims.{Claim, IsAttachOf}
-use Rattle.mount_door.specs.Advancing.{Advances, Standing}
-use Rattle.mount_door.specs.GoingOn.{IsReply}
+use Rattle.doors.specs.shared.Advancing.{Advances, Standing}
+use Rattle.doors.specs.shared.GoingOn.{IsReply}
 
 -- a call of a client may be stopped only where something may close the server
 abbrev pub MayStop : Bool → ℕ → ℕ → Type 0

@@ -7,8 +7,8 @@ use Rattle.ov_session.specs.declared.exchange.Exchange.{Exchange}
 use Rattle.ov_session.specs.declared.exchange.Exchange.TheVariants.{Departed}
 use Rattle.locked_history.specs.Claims.{IsAttachOf}
 use Rattle.locked_history.specs.declared.entry.Entry.{Entry}
-use Rattle.mount_door.specs.GoingOn.{IsReply}
-use Rattle.endless_door.specs.Advancing.{Advances, Standing}
+use Rattle.doors.specs.shared.GoingOn.{IsReply}
+use Rattle.doors.specs.endless.Advancing.{Advances, Standing}
 use Rattle.socket_server.specs.Clients.{MayStop}
 
 -- where a client stands that was just attached

@@ -1,14 +1,13 @@
 // The service of a mount whose history is kept nowhere: of all clients together the longest front is
 // kept that one of them has seen.
 ghost use Rattle.std.specs.Prelude.{◌≡◌, ◌≤◌, ℕ, Bool, IfOk, List, is_some, length, true};
-ghost use Rattle.endless_door.specs.Advancing.{standing};
+ghost use Rattle.doors.specs.endless.Advancing.{standing};
 ghost use Rattle.socket_server.specs.EndlessClients.{IsClient, IsNew};
 
 use crate::connection::Connection;
-use crate::hooks::copies_of;
 use crate::requests::Requests;
 use crate::service::{Awaits, Ended, Places, Service};
-use endless_door::{Departure, run_session};
+use doors::endless::{Departure, run_session};
 use endless_mount::{BookName, EndlessMount, Front};
 use locked_history::{Gate, Session};
 use ov_base::Errno;
@@ -17,7 +16,7 @@ use ov_session::SessionOutput;
 use std::alloc::{AllocError, Global};
 use std::sync::Wait;
 use std::time::Clock;
-use watch_table::{Callback, Hook, Rule};
+use watch_table::{Callback, Hook, Rule, copies_of};
 
 /// A mount whose history is kept nowhere, and a front that has seen nothing of that.
 #[derive(Drop)]

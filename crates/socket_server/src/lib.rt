@@ -12,7 +12,6 @@ mod entrance;
 mod frame_place;
 mod guard;
 mod history_marks;
-mod hooks;
 mod keeper;
 mod lines;
 mod queue;

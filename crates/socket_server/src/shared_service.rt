@@ -4,18 +4,17 @@ ghost use Rattle.std.specs.Vec.{vec_capacity, vec_len};
 ghost use Rattle.socket_server.specs.Clients.{IsClient, IsNew};
 
 use crate::connection::Connection;
-use crate::hooks::copies_of;
 use crate::requests::Requests;
 use crate::service::{Awaits, Ended, Places, Service};
+use doors::shared::{Departure, run_session};
 use locked_history::{Gate, Mount, MountName, Receipt, Session};
-use mount_door::{Departure, run_session};
 use ov_base::Errno;
 use ov_devices::{CountedReader, CountedWriter};
 use ov_session::SessionOutput;
 use std::alloc::{AllocError, Global};
 use std::sync::Wait;
 use std::time::Clock;
-use watch_table::{Callback, Hook, Rule};
+use watch_table::{Callback, Hook, Rule, copies_of};
 
 /// A client that was just attached, whose receipts have memory for that of its detach.
 #[derive(Drop)]

@@ -17,7 +17,7 @@ mod told_calls;
 
 use crate::cores::{DEEDS_MAX, attached, mounted, unmount};
 use crate::fixtures::EMPTY;
-use core_door::{CoreSession, run_session};
+use doors::owned::{CoreSession, run_session};
 use ov_devices::{CountedReader, CountedWriter};
 use ov_server::{ByTag, ProgramRule};
 use ov_session::{Ending, SessionOutput};

@@ -1,8 +1,8 @@
 use Rattle.std.proofs.Common.{[], ◌∷◌, ◌++◌, is_some}
 use Rattle.ov_session.specs.declared.exchange.Exchange.TheVariants.{Departed}
-use Rattle.mount_door.specs.Advancing.{MayHold}
-use Rattle.mount_door.proofs.Stepping.{goes_with_more}
-use Rattle.endless_door.specs.Advancing.{IsEntered, Standing, standing}
+use Rattle.doors.specs.shared.GoingOn.{MayHold}
+use Rattle.doors.proofs.Stepping.{goes_with_more}
+use Rattle.doors.specs.endless.Advancing.{IsEntered, Standing, standing}
 use Rattle.socket_server.specs.Clients.{MayStop}
 use Rattle.socket_server.specs.EndlessClients.{beginning}
 use Rattle.socket_server.proofs.endless_service.converse.Goals as goal

@@ -1,7 +1,8 @@
 use Rattle.std.proofs.Common.{[], ◌∷◌, ◌++◌, is_some, refl}
 use Rattle.ov_session.specs.declared.exchange.Exchange.TheVariants.{Departed}
-use Rattle.mount_door.specs.Advancing.{IsClaimed, MayHold, Standing, standing}
-use Rattle.mount_door.proofs.Stepping.{goes_with_more}
+use Rattle.doors.specs.shared.Advancing.{IsClaimed, Standing, standing}
+use Rattle.doors.specs.shared.GoingOn.{MayHold}
+use Rattle.doors.proofs.Stepping.{goes_with_more}
 use Rattle.socket_server.specs.Clients.{MayStop, beginning}
 use Rattle.socket_server.proofs.shared_service.converse.Goals as goal
 

@@ -1,7 +1,7 @@
 use Rattle.std.proofs.Common.{arith, is_some, length, ◌<◌}
 use Rattle.endless_mount.proofs.Fronts.{prefix_length, prefix_trans}
 use Rattle.locked_history.specs.Claims.{IsAttachOf}
-use Rattle.endless_door.specs.Advancing.{standing}
+use Rattle.doors.specs.endless.Advancing.{standing}
 use Rattle.socket_server.proofs.Clients.{one_guest_more, some_within}
 use Rattle.socket_server.proofs.endless_service.EndlessService.run.Goals as goal
 

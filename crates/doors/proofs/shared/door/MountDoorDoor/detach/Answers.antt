@@ -1,0 +1,4 @@
+use Rattle.doors.proofs.shared.door.MountDoorDoor.detach.Goals as goal
+
+pub returns-clause-goes : goal.returns-clause-goes
+returns-clause-goes g c = (c.leave-answer.ensures.gate, c.leave-answer.ensures.goes)

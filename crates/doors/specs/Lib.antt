@@ -1,0 +1,3 @@
+pub mod owned
+pub mod shared
+pub mod endless

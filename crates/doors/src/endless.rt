@@ -1,0 +1,7 @@
+//! A door over a mount that keeps no entry of its history: the calls of a session are those of one
+//! of its clients.
+mod door;
+mod running;
+
+pub use door::EndlessDoor;
+pub use running::{Departure, run_session};

@@ -1,6 +1,0 @@
-use Rattle.std.proofs.Common.{◌≡◌, take}
-use Rattle.ov_server.proofs.commands.copies_of.Given as goal
-
--- the copies so far are those of the first hooks
-abbrev pub invariant-loop-hook : goal.invariant-loop-hook
-invariant-loop-hook g l = l.copies.items ≡ take l.hook-index l.hooks
