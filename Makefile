@@ -1,5 +1,5 @@
 # What can be made; `make` alone lists it.
-.PHONY: help show play try-serve build serve test test-serve test-memory test-sharing \
+.PHONY: help show play try-serve build serve quick test test-serve test-memory test-sharing \
     test-clients install clean build-fuse test-fuse test-fuse-mounted try-fuse lib test-c
 
 EXAMPLE := examples/change-layer
@@ -16,6 +16,8 @@ help:
 	@echo "make try-serve     serve it on the socket $(SOCKET) until interrupted, by the same build"
 	@echo "make build         prove the program and leave it at out/overlayd: an hour, interruptible"
 	@echo "make serve         build, then serve on that socket as try-serve does"
+	@echo "make quick         what can be asked of a change in five minutes: layout, documents, and the"
+	@echo "                   worked rows on the same build as show's; before a push"
 	@echo "make test          the gate: every proof, test, refused edit and program run"
 	@echo "make test-serve    tests the server of out/overlayd, or of \$$OVERLAYD, over its own sockets"
 	@echo "make test-memory   tests that program with its requests for memory refused (needs cc)"
@@ -47,6 +49,9 @@ build:
 # A server leaves its socket's file behind, which the next one takes.
 serve: build
 	out/overlayd serve $(EXAMPLE).toml $(SOCKET) --verbose --unlink --no-history
+
+quick:
+	@tools/quick
 
 # The gate has at most four proofs side by side, with one job each: several jobs on one proof take
 # up to half as much processor time again. What it leaves of the program goes where build puts it.
