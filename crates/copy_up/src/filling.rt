@@ -42,17 +42,12 @@ pub fn fill(layers: &mut Layers, key: usize, source: Option<Place>) -> Result<()
 
 // The bytes that a marked file of the upper shows: those of the file that the lower layers show at its
 // mark, or else its own.
-fn shown_bytes(
-    layers: &mut Layers,
-    key: usize,
-    source: Option<Place>,
-) -> Result<FileBytes, AllocError>
-    requires file { IsSome (bytes_at layers.old.upper key) }
-    requires source { (q : Path) × (mark_at layers.old.upper key ≡ Some q) ×
-        (source ≡ file_place (shows 1 (lowers_of layers.old) q)) }
-    ensures same { layers.new ≡ layers.old }
-    ensures bytes { IfOk result (λ b. (i : Inode) →
-        (upper_of layers.old).inodes key ≡ Some i → i.content ≡ File b) }
+fn shown_bytes(layers: &Layers, key: usize, source: Option<Place>) -> Result<FileBytes, AllocError>
+    requires file { IsSome (bytes_at layers.now.upper key) }
+    requires source { (q : Path) × (mark_at layers.now.upper key ≡ Some q) ×
+        (source ≡ file_place (shows 1 (lowers_of layers.now) q)) }
+    ensures { IfOk result (λ b. (i : Inode) →
+        (upper_of layers.now).inodes key ≡ Some i → i.content ≡ File b) }
 {
     match source {
         Some(place) => layers.low_copy(place),

@@ -12,4 +12,3 @@ pub mod Kept
 pub mod Lower
 pub mod Marking
 pub mod Numbered
-pub mod Prepared

@@ -13,7 +13,6 @@ use crate::descent::{below_upper, copied, enter, roots, topmost};
 use crate::found::{Found, Parent, Topmost};
 use crate::kept::Kept;
 use crate::numbered::Numbered;
-use crate::prepared::Prepared;
 use crate::stack::{Places, Stack};
 use crate::stacked::Stacked;
 use crate::trail::{Trail, trail_past};
@@ -38,8 +37,7 @@ const ROOT_SHOWN: Topmost = Topmost::Directory(Place {
 const FOLLOWED_MAX: usize = 16;
 
 /// The layers of a mount. Layer 0 is the upper, which takes every change; the lower ones follow,
-/// the nearest first. Contracts see them without the look-ups that are kept and the bytes that wait
-/// to be placed.
+/// the nearest first. Contracts see them without the look-ups that are kept.
 #[derive(Drop)]
 pub struct Layers {
     pub(crate) stacked: Stacked,
@@ -49,12 +47,10 @@ pub struct Layers {
     // Whether a path of the call that is made now is among them.
     pub(crate) has_kept: bool,
     pub(crate) asked: Asked,
-    // Bytes that wait to be placed.
-    pub(crate) prepared: Option<Prepared>,
 }
 
 impl Model for Layers {
-    ghost use Rattle.std.specs.Prelude.{map, IfSome};
+    ghost use Rattle.std.specs.Prelude.{map};
     ghost use Rattle.layer_tree.specs.Tree.{layer_of};
     ghost use Rattle.merged_lookup.specs.declared.stacked.Stacked.{Stacked};
 
@@ -65,12 +61,10 @@ impl Model for Layers {
     ghost coded = { alone.the_row.coded };
 
     ghost use Rattle.merged_lookup.specs.Kept.{AllKept};
-    ghost use Rattle.merged_lookup.specs.Prepared.{Fits};
 
     ghost view = { λ l. l.stacked };
 
-    ghost invariant = { λ l. AllKept (map layer_of l.stacked.lowers.items) l.kept.entries
-        × IfSome l.prepared (Fits (map layer_of l.stacked.lowers.items)) };
+    ghost invariant = { λ l. AllKept (map layer_of l.stacked.lowers.items) l.kept.entries };
 }
 
 impl Layers {
@@ -115,7 +109,6 @@ impl Layers {
             keeps: true,
             has_kept: false,
             asked,
-            prepared: None,
         })
     }
 

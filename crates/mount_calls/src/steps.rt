@@ -1,6 +1,5 @@
-// What the steps of a call do before it is made: they place its parents, and share and offer a
-// file's bytes.
-ghost use Rattle.std.specs.Prelude.{◌≡◌, Some, OnOk, OnErr, IfSome, option_copied, option_map};
+// What the steps of a call do before it is made: they place its parents, and share a file's bytes.
+ghost use Rattle.std.specs.Prelude.{◌≡◌, OnOk, OnErr, IfSome, option_copied, option_map};
 ghost use Rattle.layer_tree.specs.Tree.{layer_of, SameObjects};
 ghost use Rattle.merged_lookup.specs.Merged.{upper_of, lowers_of};
 ghost use Rattle.copy_up.specs.Needs.{first_names};
@@ -15,7 +14,6 @@ ghost use Rattle.work_dir.specs.declared.next.Lack.TheVariants as Lacking;
 use crate::files::low_bytes;
 use crate::mount::Mount;
 use copy_up::place_dir;
-use merged_lookup::Prepared;
 use ov_base::{Call, FileBytes, Path, Place};
 use std::alloc::AllocError;
 
@@ -70,24 +68,5 @@ impl Mount {
         ensures { option_copied result ≡ bytes_at (lowers_of self.now.layers) source }
     {
         low_bytes(&self.layers, source)
-    }
-
-    /// Offers the bytes of a lower file, which the next copy of it takes in place of sharing them
-    /// anew.
-    pub fn offer(&mut self, source: Place, bytes: FileBytes)
-        requires { bytes_at (lowers_of self.old.layers) source ≡ Some bytes }
-        ensures { self.new ≡ self.old }
-    {
-        self.layers.offer(Prepared {
-            place: source,
-            bytes,
-        });
-    }
-
-    /// Drops the bytes that are offered and weren't taken.
-    pub fn withdraw(&mut self)
-        ensures { self.new ≡ self.old }
-    {
-        self.layers.withdraw();
     }
 }

@@ -28,7 +28,7 @@ use watch_table::{Callback, Rule};
 pub(crate) fn is_answered(read_only: bool, job: &Job) -> bool
     ensures { result ≡ (lacks.may_lack job.now.call && read_only) }
 {
-    may_lack(job.call()) && read_only
+    read_only && may_lack(job.call())
 }
 
 // Makes the call of a job that may lack something, or refuses it where it would write.
@@ -81,7 +81,7 @@ fn answer_seen<F: Callback, R: Rule>(
             job.end(Standing::Answered);
             Turn::Done(Reply::Refused(errno))
         }
-        None => finish_seen(watched, job, looks, None),
+        None => finish_seen(watched, job, looks),
     }
 }
 

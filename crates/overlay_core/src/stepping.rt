@@ -66,7 +66,7 @@ pub(crate) fn step<F: Callback, R: Rule>(
     waiting.clear();
     watched.mount.remember(job.call());
     if !may_lack(job.call()) {
-        let _ = held(work, job);
+        let_go(work, job);
         return plain(watched, job);
     }
     step_seen(watched, work, waiting, job)
@@ -133,17 +133,17 @@ fn step_by<F: Callback, R: Rule>(
     ensures allowed { FailsAllowed result watched.old.mount watched.old.notifier job.old }
 {
     if watched.mount.has_all(job.call(), looks) {
-        let temp = held(work, job);
-        return finish_seen(watched, job, looks, temp);
+        let_go(work, job);
+        return finish_seen(watched, job, looks);
     }
     match next_step(&watched.mount, job, looks, temp_of(work, job)) {
         Next::Finish => {
-            let temp = held(work, job);
-            finish_seen(watched, job, looks, temp)
+            let_go(work, job);
+            finish_seen(watched, job, looks)
         }
         Next::AtOnce => {
-            let _ = held(work, job);
-            finish_seen(watched, job, looks, None)
+            let_go(work, job);
+            finish_seen(watched, job, looks)
         }
         Next::Place { second, count } => {
             let temp = held(work, job);
@@ -151,15 +151,14 @@ fn step_by<F: Callback, R: Rule>(
         }
         Next::Begin(source) => {
             note(waiting, &watched.mount, job, source);
-            let _ = held(work, job);
+            let_go(work, job);
             begin(watched, work, job, source)
         }
         Next::Copy => copy(watched, work, job),
     }
 }
 
-// Makes the call of a job at once, and all that is copied up for it. A temp that the job holds and
-// that is whole becomes the copy of its file.
+// Makes the call of a job at once, and all that is copied up for it.
 pub(crate) fn make<F: Callback, R: Rule>(
     watched: &mut Watched<F, R>,
     work: &mut WorkDir,
@@ -177,12 +176,20 @@ pub(crate) fn make<F: Callback, R: Rule>(
     ensures memory { takes_no_memory job.old.call ≡ true → result ≢ Turn.NoMemory }
     ensures over { result ≢ Turn.More }
 {
-    let temp = held(work, job);
+    let_go(work, job);
     watched.mount.remember(job.call());
     if !may_lack(job.call()) {
         return plain(watched, job);
     }
-    finish(watched, job, temp)
+    finish(watched, job)
+}
+
+// Ends what is kept of a job, with its temp.
+fn let_go(work: &mut WorkDir, job: &Job)
+    ensures table { work.new ≡ without work.old job.now }
+    ensures temps { (lowers : List Layer) → AreTemps lowers work.old → AreTemps lowers work.new }
+{
+    work.end(job.number(), job.client());
 }
 
 // Takes out what is kept of a job, and gives the temp that it holds.

@@ -53,15 +53,17 @@ pub(crate) fn link_copy(
 // mark, and its attributes.
 pub(crate) fn copy_of(
     alloc: Global,
-    layers: &mut Layers,
+    layers: &Layers,
     path: &Path,
     place: Place,
     metacopy: bool,
 ) -> Result<Object, AllocError>
-    requires shown { ShowsInode layers.old path.now place }
+    requires shown { ShowsInode layers.now path.now place }
     requires lower { 0 < place.layer }
-    ensures same { layers.new ≡ layers.old }
-    ensures copy { IfOk result (λ object. (i : Inode) × (shows 0 (layers_of layers.old) path.now ≡ Some (Contents place.layer place.key (Some i))) × CopiesInode layers.old metacopy path.now i object) }
+    ensures { IfOk result (λ object. (i : Inode) ×
+        (shows 0 (layers_of layers.now) path.now
+        ≡ Some (Contents place.layer place.key (Some i)))
+        × CopiesInode layers.now metacopy path.now i object) }
 {
     let attributes = layers.inode_at(place).attributes.clone()?;
     match mark_of(alloc, layers, path, place, metacopy)? {

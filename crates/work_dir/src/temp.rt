@@ -83,23 +83,4 @@ impl Temp {
         self.covered += count;
         self.chunks += 1;
     }
-
-    /// Its bytes, which are still shared with its file.
-    pub fn into_bytes(self) -> FileBytes
-        ensures { result ≡ self.bytes }
-    {
-        let Temp {
-            source: _,
-            mut whole,
-            chunks: _,
-            covered,
-        } = self;
-        match whole.resize(covered) {
-            Ok(()) => whole,
-            Err(AllocError) => unreachable!(),
-        }
-    }
-
-    /// Lets it go.
-    pub fn discard(self) {}
 }

@@ -1,18 +1,18 @@
-use Rattle.std.proofs.Common.{None, subst}
-use Rattle.merged_lookup.specs.declared.layers.Layers.{Layers}
-use Rattle.copy_up.specs.Showing.{StaysSound}
+use Rattle.std.proofs.Common.{None, refl}
 use Rattle.copy_up.proofs.OwnBytes.{sound-filled}
-use Rattle.copy_up.specs.Texts.{KeepsTexts}
 use Rattle.copy_up.proofs.Texts.{texts-filled, texts-still}
 use Rattle.copy_up.proofs.filling.fill.Goals as goal
 
 pub returns-clause-sound : goal.returns-clause-sound
-returns-clause-sound c = subst (λ (z : Layers). StaysSound z c.set_bytes.new.layers) c.shown_bytes.ensures.same
-    (sound-filled c.shown_bytes.new.layers c.set_bytes.new.layers c.set_bytes.ensures.lowers c.args.key c.in_ok-bytes.bytes c.set_bytes.ensures.sets c.set_bytes.ensures.keeps)
+returns-clause-sound c =
+    sound-filled c.args.layers.now c.set_bytes.new.layers c.set_bytes.ensures.lowers c.args.key
+    c.in_ok-bytes.bytes c.set_bytes.ensures.sets c.set_bytes.ensures.keeps
 
 pub returns-clause-texts : goal.returns-clause-texts
-returns-clause-texts c = subst (λ (z : Layers). KeepsTexts z c.set_bytes.new.layers None) c.shown_bytes.ensures.same
-    (texts-filled c.shown_bytes.new.layers c.set_bytes.new.layers c.args.key c.in_ok-bytes.bytes c.set_bytes.ensures.sets)
+returns-clause-texts c =
+    texts-filled c.args.layers.now c.set_bytes.new.layers c.args.key c.in_ok-bytes.bytes
+    c.set_bytes.ensures.sets
 
 pub returns-in_err-bytes-clause-texts : goal.returns-in_err-bytes-clause-texts
-returns-in_err-bytes-clause-texts c = texts-still c.args.layers.now c.shown_bytes.new.layers None c.shown_bytes.ensures.same
+returns-in_err-bytes-clause-texts c =
+    texts-still c.args.layers.now c.args.layers.now None refl

@@ -15,20 +15,20 @@ plain-requires-clause-state g c = rw c.remember.ensures c.requires.state
 pub returns-then-not-may_lack-clause-makes : goal.returns-then-not-may_lack-clause-makes
 returns-then-not-may_lack-clause-makes g c =
     made-over g.R.Rule.shows c.args.watched.now c.plain.new.watched c.remember.new.self
-    (without c.args.work.now c.args.job.now) c.held-temp.new.work c.held-temp.new.work
+    (without c.args.work.now c.args.job.now) c.let_go.new.work c.let_go.new.work
     c.args.job.now c.plain.new.job c.plain.result Finish (held_by c.args.work.now c.args.job.now)
-    c.remember.ensures c.held-temp.ensures.table
-    (c.plain.ensures.makes c.held-temp.new.work Finish (held_by c.args.work.now c.args.job.now) tt
-    (rw c.remember.ensures (c.held-temp.ensures.temps (lowers_of c.args.watched.now.mount.layers) c.requires.temps).0))
+    c.remember.ensures c.let_go.ensures.table
+    (c.plain.ensures.makes c.let_go.new.work Finish (held_by c.args.work.now c.args.job.now) tt
+    (rw c.remember.ensures (c.let_go.ensures.temps (lowers_of c.args.watched.now.mount.layers) c.requires.temps)))
 
 pub returns-clause-makes : goal.returns-clause-makes
 returns-clause-makes g c =
     made-over g.R.Rule.shows c.args.watched.now c.finish.new.watched c.remember.new.self
-    (without c.args.work.now c.args.job.now) c.held-temp.new.work c.held-temp.new.work
+    (without c.args.work.now c.args.job.now) c.let_go.new.work c.let_go.new.work
     c.args.job.now c.finish.new.job c.finish.result Finish (held_by c.args.work.now c.args.job.now)
-    c.remember.ensures c.held-temp.ensures.table
-    (c.finish.ensures.makes c.held-temp.new.work Finish (held_by c.args.work.now c.args.job.now) tt
-    (rw c.remember.ensures (c.held-temp.ensures.temps (lowers_of c.args.watched.now.mount.layers) c.requires.temps).0))
+    c.remember.ensures c.let_go.ensures.table
+    (c.finish.ensures.makes c.let_go.new.work Finish (held_by c.args.work.now c.args.job.now) tt
+    (rw c.remember.ensures (c.let_go.ensures.temps (lowers_of c.args.watched.now.mount.layers) c.requires.temps)))
 
 pub returns-then-not-may_lack-clause-allowed : goal.returns-then-not-may_lack-clause-allowed
 returns-then-not-may_lack-clause-allowed g c = λ is s a.

@@ -59,15 +59,15 @@ returns-then-not-may_lack-clause-makes g c =
     let j = c.args.job.now in
     let t = held_by c.args.work.now j in
     step-made g.R.Rule.shows c.args.watched.now c.plain.new.watched m (without c.args.work.now j)
-    c.held.new.work c.held.new.work j c.plain.new.job c.plain.result Finish t t t
-    c.remember.ensures c.held.ensures.table refl refl
+    c.let_go.new.work c.let_go.new.work j c.plain.new.job c.plain.result Finish t t t
+    c.remember.ensures c.let_go.ensures.table refl refl
     (λ s st.
     next-ready (refusal s j.client j.call) (lack_by m j) j.placings j.begins t (lack_size (lowers_of m.layers) (lack_by m j))
     (λ fine.
     plain-lacks (upper_of m.layers) (lowers_of m.layers) m.metacopy j.call c.may_lack.result
     (rw c.call-2.ensures at c.may_lack.ensures) c.if-not-may_lack.true))
-    (c.plain.ensures.makes c.held.new.work Finish t tt
-    (rw c.remember.ensures (c.held.ensures.temps (lowers_of c.args.watched.now.mount.layers) c.requires.temps).0))
+    (c.plain.ensures.makes c.let_go.new.work Finish t tt
+    (rw c.remember.ensures (c.let_go.ensures.temps (lowers_of c.args.watched.now.mount.layers) c.requires.temps)))
 
 pub returns-clause-makes : goal.returns-clause-makes
 returns-clause-makes g c =

@@ -20,9 +20,9 @@ returns-then-has_all-clause-makes g c =
       (λ s st.
           next-ready (refusal s j.client j.call) (lack_by m j) j.placings j.begins t (lack_size (lowers_of m.layers) (lack_by m j))
           (λ fine. (rw c.call.ensures at c.has_all.ensures) c.if-has_all.true s st j.client fine)),
-      made-over g.R.Rule.shows old c.finish_seen.new.watched m (without c.args.work.now j) c.held-temp.new.work c.held-temp.new.work
-          j c.finish_seen.new.job c.finish_seen.result Finish t refl c.held-temp.ensures.table
-          (c.finish_seen.ensures.makes c.held-temp.new.work Finish t tt (c.held-temp.ensures.temps (lowers_of m.layers) c.requires.temps).0),
+      made-over g.R.Rule.shows old c.finish_seen.new.watched m (without c.args.work.now j) c.let_go.new.work c.let_go.new.work
+          j c.finish_seen.new.job c.finish_seen.result Finish t refl c.let_go.ensures.table
+          (c.finish_seen.ensures.makes c.let_go.new.work Finish t tt (c.let_go.ensures.temps (lowers_of m.layers) c.requires.temps)),
     )
 
 pub returns-in-Finish-clause-makes : goal.returns-in-Finish-clause-makes
@@ -33,11 +33,11 @@ returns-in-Finish-clause-makes g c =
     let t = held_by c.args.work.now j in (
       Finish,
       rw c.temp_of.ensures at c.in-Finish.ensures.next,
-      made-over g.R.Rule.shows old c.finish_seen-in-Finish.new.watched m (without c.args.work.now j) c.held-temp-in-Finish.new.work
-          c.held-temp-in-Finish.new.work j c.finish_seen-in-Finish.new.job c.finish_seen-in-Finish.result Finish t refl
-          c.held-temp-in-Finish.ensures.table
-          (c.finish_seen-in-Finish.ensures.makes c.held-temp-in-Finish.new.work Finish t tt
-          (c.held-temp-in-Finish.ensures.temps (lowers_of m.layers) c.requires.temps).0),
+      made-over g.R.Rule.shows old c.finish_seen-in-Finish.new.watched m (without c.args.work.now j) c.let_go-in-Finish.new.work
+          c.let_go-in-Finish.new.work j c.finish_seen-in-Finish.new.job c.finish_seen-in-Finish.result Finish t refl
+          c.let_go-in-Finish.ensures.table
+          (c.finish_seen-in-Finish.ensures.makes c.let_go-in-Finish.new.work Finish t tt
+          (c.let_go-in-Finish.ensures.temps (lowers_of m.layers) c.requires.temps)),
     )
 
 pub returns-in-AtOnce-clause-makes : goal.returns-in-AtOnce-clause-makes
@@ -48,20 +48,20 @@ returns-in-AtOnce-clause-makes g c =
     let t = held_by c.args.work.now j in (
       AtOnce,
       rw c.temp_of.ensures at c.in-AtOnce.ensures.next,
-      made-over g.R.Rule.shows old c.finish_seen-in-AtOnce.new.watched m (without c.args.work.now j) c.held.new.work
-          c.held.new.work j c.finish_seen-in-AtOnce.new.job c.finish_seen-in-AtOnce.result AtOnce t refl
-          c.held.ensures.table
-          (c.finish_seen-in-AtOnce.ensures.makes c.held.new.work AtOnce t tt
-          (c.held.ensures.temps (lowers_of m.layers) c.requires.temps).0),
+      made-over g.R.Rule.shows old c.finish_seen-in-AtOnce.new.watched m (without c.args.work.now j) c.let_go-in-AtOnce.new.work
+          c.let_go-in-AtOnce.new.work j c.finish_seen-in-AtOnce.new.job c.finish_seen-in-AtOnce.result AtOnce t refl
+          c.let_go-in-AtOnce.ensures.table
+          (c.finish_seen-in-AtOnce.ensures.makes c.let_go-in-AtOnce.new.work AtOnce t tt
+          (c.let_go-in-AtOnce.ensures.temps (lowers_of m.layers) c.requires.temps)),
     )
 
 pub place-requires-clause-temps : goal.place-requires-clause-temps
 place-requires-clause-temps g c =
-    (c.held-temp-in-Place.ensures.temps (lowers_of c.args.watched.now.mount.layers) c.requires.temps).0
+    (c.held-temp.ensures.temps (lowers_of c.args.watched.now.mount.layers) c.requires.temps).0
 
 pub begin-requires-clause-temps : goal.begin-requires-clause-temps
 begin-requires-clause-temps g c =
-    (c.held-in-Begin.ensures.temps (lowers_of c.args.watched.now.mount.layers) c.requires.temps).0
+    (c.let_go-in-Begin.ensures.temps (lowers_of c.args.watched.now.mount.layers) c.requires.temps)
 
 pub returns-in-Begin-clause-makes : goal.returns-in-Begin-clause-makes
 returns-in-Begin-clause-makes g c =
@@ -70,8 +70,8 @@ returns-in-Begin-clause-makes g c =
     let t = held_by c.args.work.now j in (
       Begin c.in-Begin.source,
       rw c.temp_of.ensures at c.in-Begin.ensures.next,
-      made-over g.R.Rule.shows old old old.mount (without c.args.work.now j) c.held-in-Begin.new.work c.begin.new.work j
-          c.begin.new.job c.begin.result (Begin c.in-Begin.source) t refl c.held-in-Begin.ensures.table (c.begin.ensures.makes t),
+      made-over g.R.Rule.shows old old old.mount (without c.args.work.now j) c.let_go-in-Begin.new.work c.begin.new.work j
+          c.begin.new.job c.begin.result (Begin c.in-Begin.source) t refl c.let_go-in-Begin.ensures.table (c.begin.ensures.makes t),
     )
 
 pub returns-in-Copy-clause-makes : goal.returns-in-Copy-clause-makes
@@ -88,17 +88,9 @@ note-requires-clause-allowed g c = λ s st.
 pub returns-in-Begin-clause-waits : goal.returns-in-Begin-clause-waits
 returns-in-Begin-clause-waits g c = c.note.ensures
 
-pub finish_seen-requires-clause-temp : goal.finish_seen-requires-clause-temp
-finish_seen-requires-clause-temp g c =
-    (c.held-temp.ensures.temps (lowers_of c.args.watched.now.mount.layers) c.requires.temps).1
-
-pub finish_seen-requires-in-Finish-clause-temp : goal.finish_seen-requires-in-Finish-clause-temp
-finish_seen-requires-in-Finish-clause-temp g c =
-    (c.held-temp-in-Finish.ensures.temps (lowers_of c.args.watched.now.mount.layers) c.requires.temps).1
-
 pub place-requires-clause-temp : goal.place-requires-clause-temp
 place-requires-clause-temp g c =
-    (c.held-temp-in-Place.ensures.temps (lowers_of c.args.watched.now.mount.layers) c.requires.temps).1
+    (c.held-temp.ensures.temps (lowers_of c.args.watched.now.mount.layers) c.requires.temps).1
 
 pub returns-in-Place-clause-allowed : goal.returns-in-Place-clause-allowed
 returns-in-Place-clause-allowed g c = λ is s a.

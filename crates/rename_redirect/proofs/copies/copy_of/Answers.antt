@@ -8,8 +8,8 @@ use Rattle.copy_up.proofs.Copying.{leaf_of, is-mark, marked-copy}
 use Rattle.rename_redirect.proofs.Given.{follows}
 use Rattle.rename_redirect.proofs.copies.copy_of.Goals as goal
 
-pub returns-in-Some-clause-copy : goal.returns-in-Some-clause-copy
-returns-in-Some-clause-copy c =
+pub returns-in-Some : goal.returns-in-Some
+returns-in-Some c =
     let l = c.args.layers.now in
     let p = c.args.path.now in
     let i : Inode = record { content = c.inode_at.result.now.content; attributes = c.inode_at.result.now.attributes; links = c.inode_at.result.now.links; mark = option_map (λ b. b.value) c.inode_at.result.now.mark } in
@@ -27,8 +27,8 @@ returns-in-Some-clause-copy c =
       },
     )
 
-pub returns-in_ok-content-in-None-clause-copy : goal.returns-in_ok-content-in-None-clause-copy
-returns-in_ok-content-in-None-clause-copy c =
+pub returns-in_ok-content-in-None : goal.returns-in_ok-content-in-None
+returns-in_ok-content-in-None c =
     let l = c.args.layers.now in
     let p = c.args.path.now in
     let i : Inode = record { content = c.inode_at.result.now.content; attributes = c.inode_at.result.now.attributes; links = c.inode_at.result.now.links; mark = option_map (λ b. b.value) c.inode_at.result.now.mark } in
@@ -40,7 +40,7 @@ returns-in_ok-content-in-None-clause-copy c =
         copy = leaf_of c.in_ok-content-in-None.content None c.in_ok-attributes.attributes;
         is = refl;
         mark = told;
-        content = c.in_ok-content-in-None.ensures.content p i is;
+        content = c.in_ok-content-in-None.ensures p i is;
         attributes = c.in_ok-attributes.ensures.cases;
       },
     )

@@ -19,26 +19,17 @@ pub returns-in_err-copy-clause-no_memory : goal.returns-in_err-copy-clause-no_me
 returns-in_err-copy-clause-no_memory c =
     let l = c.args.layers.now in
     on-err _ c.from_residual.result
-    (subst (λ (z : Layers). ChangesNoSight l z (GainsBoth l z c.args.old.now c.args.new.now)) (sym c.copy_of.ensures.same)
-    (record { shown = same-self l; mount = λ s h. h; beneath = gains-first l l c.args.old.now c.args.new.now (same-self l) (gains-self l c.args.old.now) }))
-
-pub place_both-requires-clause-directory : goal.place_both-requires-clause-directory
-place_both-requires-clause-directory c = subst
-    (λ (z : Layers). IsStackOf z (parent c.args.old.now) c.args.found.0.now)
-    (sym c.copy_of.ensures.same) c.requires.may.directory
-
-pub place_both-requires-clause-onto : goal.place_both-requires-clause-onto
-place_both-requires-clause-onto c = subst (λ (z : Layers). IsStackOf z (parent c.args.new.now) c.args.found.1.now) (sym c.copy_of.ensures.same) c.requires.may.onto
+    (record { shown = same-self l; mount = λ s h. h; beneath = gains-first l l c.args.old.now c.args.new.now (same-self l) (gains-self l c.args.old.now) })
 
 pub returns-in_err-from-clause-no_memory : goal.returns-in_err-from-clause-no_memory
 returns-in_err-from-clause-no_memory c =
-    let same = subst (λ (z : Layers). ShowsSame z c.place_both.new.layers) c.copy_of.ensures.same c.place_both.ensures.same in
-    let stays = subst (λ (z : Layers). Stays z c.place_both.new.layers) c.copy_of.ensures.same c.place_both.ensures.stays in
-    let both = subst (λ (z : Layers). GainsBoth z c.place_both.new.layers c.args.old.now c.args.new.now) c.copy_of.ensures.same c.place_both.ensures.gains in
+    let same = c.place_both.ensures.same in
+    let stays = c.place_both.ensures.stays in
+    let both = c.place_both.ensures.gains in
     on-err _ c.from_residual-in_err-from.result (record { shown = same; mount = stays.mounts; beneath = both })
 
 pub insert_in_upper-requires-clause-leaf : goal.insert_in_upper-requires-clause-leaf
-insert_in_upper-requires-clause-leaf c = let made = c.in_ok-copy.ensures.copy.2 in (made.copy, made.is)
+insert_in_upper-requires-clause-leaf c = let made = c.in_ok-copy.ensures.2 in (made.copy, made.is)
 
 pub insert_in_upper-requires-clause-places : goal.insert_in_upper-requires-clause-places
 insert_in_upper-requires-clause-places c =
@@ -53,9 +44,9 @@ insert_in_upper-requires-clause-places c =
 
 pub returns-in_err-key-clause-no_memory : goal.returns-in_err-key-clause-no_memory
 returns-in_err-key-clause-no_memory c =
-    let same = subst (λ (z : Layers). ShowsSame z c.place_both.new.layers) c.copy_of.ensures.same c.place_both.ensures.same in
-    let stays = subst (λ (z : Layers). Stays z c.place_both.new.layers) c.copy_of.ensures.same c.place_both.ensures.stays in
-    let both = subst (λ (z : Layers). GainsBoth z c.place_both.new.layers c.args.old.now c.args.new.now) c.copy_of.ensures.same c.place_both.ensures.gains in
+    let same = c.place_both.ensures.same in
+    let stays = c.place_both.ensures.stays in
+    let both = c.place_both.ensures.gains in
     on-err _ c.from_residual-in_err-key.result (fails-both c.args.layers.now c.place_both.new.layers c.insert_in_upper.new.layers same stays c.insert_in_upper.ensures.lowers c.in_err-key.ensures.unchanged c.in_err-key.ensures.same c.insert_in_upper.ensures.keeps c.args.old.now c.args.new.now both)
 
 pub returns-clause-linked : goal.returns-clause-linked
@@ -63,9 +54,9 @@ returns-clause-linked c =
     let l0 = c.args.layers.now in
     let l1 = c.place_both.new.layers in
     let l2 = c.insert_in_upper.new.layers in
-    let same = subst (λ (z : Layers). ShowsSame z c.place_both.new.layers) c.copy_of.ensures.same c.place_both.ensures.same in
-    let stays = subst (λ (z : Layers). Stays z c.place_both.new.layers) c.copy_of.ensures.same c.place_both.ensures.stays in
-    let both = subst (λ (z : Layers). GainsBoth z c.place_both.new.layers c.args.old.now c.args.new.now) c.copy_of.ensures.same c.place_both.ensures.gains in
+    let same = c.place_both.ensures.same in
+    let stays = c.place_both.ensures.stays in
+    let both = c.place_both.ensures.gains in
     let n = c.in-Some.name.now in
     let t = reverse c.in-Some.field-0-1.now in
     let m = c.in-Some-split_last.further.now in
@@ -73,10 +64,10 @@ returns-clause-linked c =
     let from = c.in_ok-from.ensures.from n t c.in-Some.ensures in
     let onto = c.in_ok-from.ensures.onto m u c.in-Some-split_last.ensures in
     let out = outside-split c.args.layers.now c.args.old.now c.args.new.now n t m u c.in-Some.ensures c.in-Some-split_last.ensures c.args.found.2.layer c.args.found.2.key c.requires.may.shown.inode c.requires.may.parents c.requires.may.absent c.requires.may.shown.shown in
-    let found = c.in_ok-copy.ensures.copy in
+    let found = c.in_ok-copy.ensures in
     let i = found.0 in
     let s = follows c.args.found.2.layer c.requires.lower in
-    let shown = sym (ap (shows 0 (layers_of l1)) c.in-Some.ensures) ∙ c.place_both.ensures.shown (Some i) (ap (λ (z : Layers). shows 0 (layers_of z) c.args.old.now) c.copy_of.ensures.same ∙ found.1) ∙ ap (λ j. Some (Contents j c.args.found.2.key (Some i))) s.1 in
+    let shown = sym (ap (shows 0 (layers_of l1)) c.in-Some.ensures) ∙ c.place_both.ensures.shown (Some i) found.1 ∙ ap (λ j. Some (Contents j c.args.found.2.key (Some i))) s.1 in
     let absent = same.absent (m ∷ u) (sym (ap (shows 0 (layers_of l0)) c.in-Some-split_last.ensures) ∙ c.requires.may.absent) in
     let made = found.2 in
     let copy = c.in_ok-key.ensures.copied t u made.copy from onto (λ e. out [] e) made.is in
@@ -97,8 +88,8 @@ returns-clause-sound c =
     let l0 = c.args.layers.now in
     let l1 = c.place_both.new.layers in
     let l2 = c.insert_in_upper.new.layers in
-    let same = subst (λ (z : Layers). ShowsSame z c.place_both.new.layers) c.copy_of.ensures.same c.place_both.ensures.same in
-    let stays = subst (λ (z : Layers). Stays z c.place_both.new.layers) c.copy_of.ensures.same c.place_both.ensures.stays in
+    let same = c.place_both.ensures.same in
+    let stays = c.place_both.ensures.stays in
     let n = c.in-Some.name.now in
     let t = reverse c.in-Some.field-0-1.now in
     let m = c.in-Some-split_last.further.now in
@@ -106,10 +97,10 @@ returns-clause-sound c =
     let from = c.in_ok-from.ensures.from n t c.in-Some.ensures in
     let onto = c.in_ok-from.ensures.onto m u c.in-Some-split_last.ensures in
     let out = outside-split c.args.layers.now c.args.old.now c.args.new.now n t m u c.in-Some.ensures c.in-Some-split_last.ensures c.args.found.2.layer c.args.found.2.key c.requires.may.shown.inode c.requires.may.parents c.requires.may.absent c.requires.may.shown.shown in
-    let found = c.in_ok-copy.ensures.copy in
+    let found = c.in_ok-copy.ensures in
     let i = found.0 in
     let s = follows c.args.found.2.layer c.requires.lower in
-    let shown = sym (ap (shows 0 (layers_of l1)) c.in-Some.ensures) ∙ c.place_both.ensures.shown (Some i) (ap (λ (z : Layers). shows 0 (layers_of z) c.args.old.now) c.copy_of.ensures.same ∙ found.1) ∙ ap (λ j. Some (Contents j c.args.found.2.key (Some i))) s.1 in
+    let shown = sym (ap (shows 0 (layers_of l1)) c.in-Some.ensures) ∙ c.place_both.ensures.shown (Some i) found.1 ∙ ap (λ j. Some (Contents j c.args.found.2.key (Some i))) s.1 in
     let absent = same.absent (m ∷ u) (sym (ap (shows 0 (layers_of l0)) c.in-Some-split_last.ensures) ∙ c.requires.may.absent) in
     let made = found.2 in
     let copy = c.in_ok-key.ensures.copied t u made.copy from onto (λ e. out [] e) made.is in
@@ -133,8 +124,8 @@ returns-clause-key c =
 
 pub returns-in_err-key-clause-sound : goal.returns-in_err-key-clause-sound
 returns-in_err-key-clause-sound c =
-    let same = subst (λ (z : Layers). ShowsSame z c.place_both.new.layers) c.copy_of.ensures.same c.place_both.ensures.same in
-    let stays = subst (λ (z : Layers). Stays z c.place_both.new.layers) c.copy_of.ensures.same c.place_both.ensures.stays in
+    let same = c.place_both.ensures.same in
+    let stays = c.place_both.ensures.stays in
     (failed-stays c.args.layers.now c.place_both.new.layers c.insert_in_upper.new.layers same stays c.insert_in_upper.ensures.lowers c.in_err-key.ensures.unchanged c.in_err-key.ensures.same c.insert_in_upper.ensures.keeps).sound
 
 pub returns-clause-texts : goal.returns-clause-texts
@@ -142,7 +133,7 @@ returns-clause-texts c =
     let l0 = c.args.layers.now in
     let l1 = c.place_both.new.layers in
     let l2 = c.insert_in_upper.new.layers in
-    let stays = subst (λ (z : Layers). Stays z c.place_both.new.layers) c.copy_of.ensures.same c.place_both.ensures.stays in
+    let stays = c.place_both.ensures.stays in
     let n = c.in-Some.name.now in
     let t = reverse c.in-Some.field-0-1.now in
     let m = c.in-Some-split_last.further.now in
@@ -150,7 +141,7 @@ returns-clause-texts c =
     let from = c.in_ok-from.ensures.from n t c.in-Some.ensures in
     let onto = c.in_ok-from.ensures.onto m u c.in-Some-split_last.ensures in
     let out = outside-split c.args.layers.now c.args.old.now c.args.new.now n t m u c.in-Some.ensures c.in-Some-split_last.ensures c.args.found.2.layer c.args.found.2.key c.requires.may.shown.inode c.requires.may.parents c.requires.may.absent c.requires.may.shown.shown in
-    let found = c.in_ok-copy.ensures.copy in
+    let found = c.in_ok-copy.ensures in
     let made = found.2 in
     let copy = c.in_ok-key.ensures.copied t u made.copy from onto (λ e. out [] e) made.is in
     let text = below (layer_of l0.upper) c.args.old.now in

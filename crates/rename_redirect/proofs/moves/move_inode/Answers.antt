@@ -64,7 +64,7 @@ returns-then-place-eq0-clause-thin c =
 
 pub insert_and_move-requires-clause-route : goal.insert_and_move-requires-clause-route
 insert_and_move-requires-clause-route c =
-    (c.requires.goes.0, c.requires.goes.1, subst (λ (z : Layers). IsRoute (layer_of z.upper) c.requires.goes.0 c.requires.goes.1 c.args.route.now) (sym c.copy_of.ensures.same) c.requires.goes.2.route)
+    (c.requires.goes.0, c.requires.goes.1, c.requires.goes.2.route)
 
 pub insert_and_move-requires-clause-free : goal.insert_and_move-requires-clause-free
 insert_and_move-requires-clause-free c =
@@ -72,9 +72,8 @@ insert_and_move-requires-clause-free c =
     let r = c.args.route.now in
     let p = c.requires.goes.0 in
     let shown = c.requires.goes.3 in
-    subst (λ (z : Layers). child z.upper r.from r.name.now ≡ None) (sym c.copy_of.ensures.same)
-    (free-held l.upper p c.requires.goes.1 r c.lawful.ensures.tree c.requires.goes.2.route
-    (lacked l (r.name.now ∷ p) c.args.place.layer c.args.place.key shown.inode shown.shown (omega (arith, c.if-place-eq0.false))))
+    free-held l.upper p c.requires.goes.1 r c.lawful.ensures.tree c.requires.goes.2.route
+    (lacked l (r.name.now ∷ p) c.args.place.layer c.args.place.key shown.inode shown.shown (omega (arith, c.if-place-eq0.false)))
 
 -- the copy that stood ready
 record Copied (l : Layers) (new : Tree) (marked : Bool) (p q : Path) (r : Route) (key : ℕ) (released : Option ℕ) : Type 0 where
@@ -101,14 +100,14 @@ abbrev Left : Layers → Layers → Type 0
 Left l new = (new.lowers ≡ l.lowers) × (IsLayer (layer_of l.upper) → IsLayer (layer_of new.upper))
 
 left : (c : goal.In_ok-key) → Left c.args.layers.now c.insert_and_move.new.layers
-left c = subst (λ (z : Layers). Left z c.insert_and_move.new.layers) c.copy_of.ensures.same (c.insert_and_move.ensures.lowers, c.insert_and_move.ensures.keeps)
+left c = (c.insert_and_move.ensures.lowers, c.insert_and_move.ensures.keeps)
 
 copied : (c : goal.In_ok-key) (p q : Path) → IsMove c.args.layers.now p q c.args.route.now → c.args.old.now ≡ c.args.route.now.name.now ∷ p → Copied c.args.layers.now c.insert_and_move.new.layers.upper c.args.metacopy p q c.args.route.now c.in_ok-key.key c.in_ok-key.released
 copied c p q move path =
     let l = c.args.layers.now in
     let r = c.args.route.now in
-    let found = c.in_ok-copy.ensures.copy in
-    let moved = subst (λ (z : Layers). IsRoute (layer_of z.upper) p q r → MovesNew z.upper c.insert_and_move.new.layers.upper (r.name.now ∷ p) (r.further.now ∷ q) c.in_ok-copy.copy (left_object r.covered) c.in_ok-key.key c.in_ok-key.released) c.copy_of.ensures.same (c.in_ok-key.ensures.moved p q) in
+    let found = c.in_ok-copy.ensures in
+    let moved = c.in_ok-key.ensures.moved p q in
     copied-as l c.insert_and_move.new.layers.upper c.args.metacopy p q r c.in_ok-key.key c.in_ok-key.released c.args.place c.in_ok-copy.copy (omega (arith, c.if-place-eq0.false)) found.0 (sym (ap (shows 0 (layers_of l)) path) ∙ found.1)
     (subst (λ (z : Path). CopiesInode l c.args.metacopy z found.0 c.in_ok-copy.copy) path found.2)
     (moved move.route)
@@ -117,7 +116,7 @@ pub copy_of-requires-clause-shown : goal.copy_of-requires-clause-shown
 copy_of-requires-clause-shown c = subst (λ (z : Path). ShowsInode c.args.layers.now z c.args.place) (sym c.requires.goes.4) c.requires.goes.3
 
 pub insert_and_move-requires-clause-redirect : goal.insert_and_move-requires-clause-redirect
-insert_and_move-requires-clause-redirect c = let made = c.in_ok-copy.ensures.copy.2 in leaf-leads c.in_ok-copy.copy (ap is_some made.is)
+insert_and_move-requires-clause-redirect c = let made = c.in_ok-copy.ensures.2 in leaf-leads c.in_ok-copy.copy (ap is_some made.is)
 
 pub returns-clause-moved : goal.returns-clause-moved
 returns-clause-moved c = λ p q move shown path.
@@ -154,7 +153,7 @@ returns-clause-texts c =
     let r = c.args.route.now in
     let p = c.requires.goes.0 in
     let q = c.requires.goes.1 in
-    let found = c.in_ok-copy.ensures.copy in
-    let moved = subst (λ (z : Layers). IsRoute (layer_of z.upper) p q r → MovesNew z.upper c.insert_and_move.new.layers.upper (r.name.now ∷ p) (r.further.now ∷ q) c.in_ok-copy.copy (left_object r.covered) c.in_ok-key.key c.in_ok-key.released) c.copy_of.ensures.same (c.in_ok-key.ensures.moved p q) in
+    let found = c.in_ok-copy.ensures in
+    let moved = c.in_ok-key.ensures.moved p q in
     marks-new l.upper c.insert_and_move.new.layers.upper _ _ c.in_ok-copy.copy _ c.in_ok-key.key _ (Some (below (layer_of l.upper) c.args.old.now))
     (moved c.requires.goes.2.route) (copy-spelled l c.args.metacopy c.args.old.now found.0 c.in_ok-copy.copy found.2)

@@ -12,4 +12,4 @@ returns-then-eq c =
     subst (λ (s : Stacked). IsKept (map layer_of s.lowers.items) (reverse c.args.names.now) c.in_ok-key.kept.now) c.self.view_is
     (kept-second _ c.self.inside.kept.entries _ c.in_ok-key.key.now c.in_ok-key.kept.now _ c.args.names.now
     (sym c.iter-entries.ensures.rest ∙ c.in_ok-next.ensures.steps ∙ ap (λ es. (c.in_ok-next.field-0.0.now, c.in_ok-next.field-0.1.now) ∷ es) c.in_ok-key.ensures.steps)
-    (sym c.as_slice.ensures.value ∙ same) c.self.invariant.0)
+    (sym c.as_slice.ensures.value ∙ same) c.self.invariant)
