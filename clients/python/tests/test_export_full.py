@@ -102,7 +102,15 @@ class ServedTest(FullCase):
             process.communicate()
 
     def client(self) -> Client:
-        client = Client(self.socket, timeout=WAIT)
+        """A client, once the server listens, which is after its socket is there."""
+        limit = time.monotonic() + WAIT
+        while True:
+            try:
+                client = Client(self.socket, timeout=WAIT)
+                break
+            except ConnectionRefusedError:
+                self.assertLess(time.monotonic(), limit)
+                time.sleep(0.01)
         self.addCleanup(client.close)
         return client
 
