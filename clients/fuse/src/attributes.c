@@ -1,13 +1,13 @@
 /* What an object looks like: what the server tells, and what the bridge alone keeps of it, which
    is its times, an inode number, the owner of a link, and the kind of a fifo, socket or device. */
 #include "bridge.h"
+#include "time_text.h"
 
-#include <inttypes.h>
-#include <stdio.h>
 #include <string.h>
 #include <sys/sysmacros.h>
 
-enum { META_BYTES = 256, BLOCK = 512 };
+enum { TIMES = 3, META_HEAD = 4, META_BYTES = META_HEAD + NUMBER_BYTES + TIMES * (1 + TIME_BYTES),
+       BLOCK = 512 };
 
 /* For how long the kernel keeps what it was told, where nobody else changes the mount. */
 static const double LONG = 365.0 * 86400.0;
@@ -71,43 +71,56 @@ static mode_t special_of(char letter)
     }
 }
 
+static size_t meta_text(const struct node *node, char *text)
+{
+    const struct times *times = &node->times;
+    const struct timespec *of[TIMES] = {&times->access, &times->change, &times->status};
+    char *at = text;
+    *at++ = '1';
+    *at++ = ' ';
+    *at++ = letter_of(node->special);
+    *at++ = ' ';
+    at = put_number(at, (uint64_t)node->device);
+    for (size_t i = 0; i < TIMES; i++) {
+        *at++ = ' ';
+        at = put_time(at, of[i]);
+    }
+    return (size_t)(at - text);
+}
+
 void keep_meta(struct bridge *bridge, struct node *node)
 {
     char text[META_BYTES];
     bool is_wanted = bridge->options.times || node->special;
     if (!is_wanted || node->attr.kind == KIND_LINK || path_of(node, bridge->path) != 0)
         return;
-    const struct times *times = times_of(bridge, node);
-    int length = snprintf(text, sizeof text, "1 %c %" PRIu64 " %" PRId64 ".%09ld %" PRId64
-                          ".%09ld %" PRId64 ".%09ld", letter_of(node->special),
-                          (uint64_t)node->device,
-                          (int64_t)times->access.tv_sec, times->access.tv_nsec,
-                          (int64_t)times->change.tv_sec, times->change.tv_nsec,
-                          (int64_t)times->status.tv_sec, times->status.tv_nsec);
+    times_of(bridge, node);
+    size_t length = meta_text(node, text);
     if (ask_any(bridge) != 0)
         return;
-    ask_setattr(&bridge->batch, bridge->path, META, text, (size_t)length);
+    ask_setattr(&bridge->batch, bridge->path, META, text, length);
     ask_link_times(bridge, node, bridge->path);
     if (ask_end(bridge) == 0)
         node_touched(bridge, node);
 }
 
-static bool read_meta(const char *text, struct meta *meta)
+static bool read_meta(const char *text, size_t length, struct meta *meta)
 {
-    int64_t seconds[3];
-    unsigned parts[3];
+    struct times times;
+    struct timespec *to[TIMES] = {&times.access, &times.change, &times.status};
+    const char *end = text + length;
     uint64_t device;
-    char letter;
-    int end = 0;
-    sscanf(text, "1 %c %" SCNu64 " %" SCNd64 ".%9u %" SCNd64 ".%9u %" SCNd64 ".%9u%n", &letter,
-           &device, &seconds[0], &parts[0], &seconds[1], &parts[1], &seconds[2], &parts[2], &end);
-    if (end == 0 || text[end] != 0)
+    if (length < META_HEAD || text[0] != '1' || text[1] != ' ' || text[3] != ' '
+        || !memchr("-pscb", text[2], 5))
         return false;
-    struct timespec *to[] = {&meta->times.access, &meta->times.change, &meta->times.status};
-    for (unsigned i = 0; i < 3; i++)
-        *to[i] = (struct timespec){seconds[i], (long)parts[i]};
-    meta->special = special_of(letter);
-    meta->device = letter == 'c' || letter == 'b' ? (dev_t)device : 0;
+    const char *at = take_number(text + META_HEAD, end, &device);
+    for (size_t i = 0; at && i < TIMES; i++)
+        at = at < end && *at == ' ' ? take_time(at + 1, end, to[i]) : NULL;
+    if (at != end)
+        return false;
+    meta->times = times;
+    meta->special = special_of(text[2]);
+    meta->device = text[2] == 'c' || text[2] == 'b' ? (dev_t)device : 0;
     return true;
 }
 
@@ -127,16 +140,11 @@ struct look ask_look(struct bridge *bridge, const char *path, bool meta)
 struct meta meta_of(const struct bridge *bridge, struct look look)
 {
     struct meta meta = {.is_there = false};
-    char text[META_BYTES];
     size_t length;
     if (!look.has_meta || refused(bridge, look.meta))
         return meta;
-    const char *told = answer_text(&bridge->batch, look.meta, &length);
-    if (length >= sizeof text)
-        return meta;
-    memcpy(text, told, length);
-    text[length] = 0;
-    meta.is_there = read_meta(text, &meta);
+    const char *text = answer_text(&bridge->batch, look.meta, &length);
+    meta.is_there = read_meta(text, length, &meta);
     return meta;
 }
 

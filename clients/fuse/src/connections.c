@@ -169,7 +169,8 @@ static void tell_full(struct bridge *bridge)
 {
     if (!bridge->told_full)
         tell(bridge, "%s: the server's history is full, and each call is refused from now on; "
-             "serve with --no-history", bridge->options.source);
+             "overlayd-export tells how to keep what was changed; serve with --no-history",
+             bridge->options.source);
     bridge->told_full = true;
 }
 

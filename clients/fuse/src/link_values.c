@@ -2,13 +2,12 @@
    behind a slash each the names of the links that have it; behind two slashes the next time. What
    has another form says nothing. A link gets into a value with its time, where that has room. */
 #include "link_values.h"
+#include "time_text.h"
 
-#include <inttypes.h>
-#include <stdio.h>
 #include <stdlib.h>
 #include <string.h>
 
-enum { TIME_BYTES = 64, NAME_BYTES = 255, SECOND_DIGITS = 19, PART_DIGITS = 9 };
+enum { NAME_BYTES = 255 };
 
 void link_times_free(struct link_times *times)
 {
@@ -84,8 +83,7 @@ static bool put(struct link_times *times, const char *name, size_t length,
 
 static size_t time_text(const struct timespec *time, char *text)
 {
-    return (size_t)snprintf(text, TIME_BYTES, "%" PRId64 ".%09ld", (int64_t)time->tv_sec,
-                            time->tv_nsec);
+    return (size_t)(put_time(text, time) - text);
 }
 
 static int compare(const void *one, const void *other)
@@ -132,39 +130,6 @@ static void count_bytes(struct link_times *times, unsigned value)
 
 /* Values that are read. */
 
-static size_t digits_of(const char *text, size_t length)
-{
-    size_t count = 0;
-    while (count < length && text[count] >= '0' && text[count] <= '9')
-        count++;
-    return count;
-}
-
-static uint64_t number_of(const char *text, size_t digits)
-{
-    uint64_t number = 0;
-    for (size_t i = 0; i < digits; i++)
-        number = number * 10 + (uint64_t)(text[i] - '0');
-    return number;
-}
-
-static bool read_time(const char *text, size_t length, struct timespec *time)
-{
-    bool is_before = length > 0 && *text == '-';
-    text += is_before;
-    length -= is_before;
-    size_t digits = digits_of(text, length);
-    if (digits < 1 || digits > SECOND_DIGITS || length != digits + 1 + PART_DIGITS
-        || text[digits] != '.' || digits_of(text + digits + 1, PART_DIGITS) != PART_DIGITS)
-        return false;
-    uint64_t seconds = number_of(text, digits), most = (uint64_t)INT64_MAX + is_before;
-    if (seconds > most)
-        return false;
-    time->tv_sec = is_before && seconds > 0 ? -(int64_t)(seconds - 1) - 1 : (int64_t)seconds;
-    time->tv_nsec = (long)number_of(text + digits + 1, PART_DIGITS);
-    return true;
-}
-
 /* What no object can be called is passed over. */
 static bool read_name(struct link_times *times, unsigned value, const struct timespec *time,
                       const char *name, size_t length)
@@ -178,7 +143,7 @@ static bool read_group(struct link_times *times, unsigned value, const char *tex
 {
     struct timespec time;
     const char *end = text + length, *at = memchr(text, '/', length);
-    if (!at || !read_time(text, (size_t)(at - text), &time))
+    if (!at || take_time(text, at, &time) != at)
         return true;
     while (at < end) {
         const char *name = at + 1;

@@ -334,8 +334,14 @@ class Sets(ServerCase):
     def test_times_that_are_no_times(self):
         server = self.served()
         client = self.client(server)
-        for told in (b"", b"2 - 0 1.0 1.0 1.0", b"1 - 0 1.0 1.0", b"1 p 0 1.0 1.0 x",
-                     b"1 - 0 1.000000000 1.000000000 1.000000000 ", b"1 - " + b"9" * 300):
+        time = b"1.000000000"
+        times = b" ".join([time] * 3)
+        for told in (b"", b"1 ", b"2 - 0 1.0 1.0 1.0", b"1 - 0 1.0 1.0", b"1 p 0 1.0 1.0 x",
+                     b"2 - 0 " + times, b"1 x 0 " + times, b"1 -  0 " + times, b"1\t- 0 " + times,
+                     b"1 - -1 " + times, b"1 - 18446744073709551616 " + times, b"1 - " + times,
+                     b"1 - 0 " + times + b" ", b"1 - 0 " + times + b"\0", b"1 - 0  " + times,
+                     b"1 - 0 1.5 1.5 1.5", b"1 - 0 +" + times, b"1 - 0 " + time + b" " + time,
+                     b"1 - " + b"9" * 300):
             client.setxattr("/d/f", "user.overlayd.meta", told)
             with Bridge(server.path, "--times") as kernel:
                 found = kernel.walk("/d/f").attr

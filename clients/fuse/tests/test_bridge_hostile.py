@@ -315,6 +315,7 @@ class Full(PlayedCase):
         bridge.kernel.lookup(ROOT, "f")
         told = bridge.end()
         self.assertEqual(told.count("history is full"), 1, told)
+        self.assertIn("overlayd-export tells how to keep what was changed", told)
         self.assertIn("--no-history", told)
 
 

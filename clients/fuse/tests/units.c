@@ -1,7 +1,10 @@
-/* What can't be seen from outside of the bridge: how its names are hashed, and that a deep tree of
-   names goes without taking the stack. Prints what is wrong; the exit status is 1 then. */
+/* What can't be seen from outside of the bridge: how its names are hashed, that a deep tree of
+   names goes without taking the stack, and times as text at their bounds. Prints what is wrong; the
+   exit status is 1 then. */
 #include "../src/bridge.h"
+#include "../src/time_text.h"
 
+#include <inttypes.h>
 #include <stdio.h>
 #include <stdlib.h>
 #include <string.h>
@@ -135,13 +138,66 @@ static int two_names(struct bridge *bridge)
     return bridge->nodes.node_count == before ? 0 : fail("nodes are left", 3);
 }
 
+static const char *after_time(const char *text, struct timespec *time)
+{
+    return take_time(text, text + strlen(text), time);
+}
+
+/* A time is written as printf(3) does it, and read back. */
+static int times_as_text(void)
+{
+    static const struct timespec times[] = {{0, 0}, {0, 999999999}, {-1, 1}, {1700000000, 12345678},
+                                            {INT64_MAX, 5}, {INT64_MIN, 999999999}};
+    char text[TIME_BYTES + 1], wanted[64];
+    for (size_t i = 0; i < sizeof times / sizeof *times; i++) {
+        struct timespec found = {7, 7};
+        *put_time(text, &times[i]) = 0;
+        snprintf(wanted, sizeof wanted, "%" PRId64 ".%09ld", (int64_t)times[i].tv_sec,
+                 times[i].tv_nsec);
+        const char *end = after_time(text, &found);
+        if (strcmp(text, wanted) != 0 || end != text + strlen(text)
+            || found.tv_sec != times[i].tv_sec || found.tv_nsec != times[i].tv_nsec)
+            return fail("another time", i);
+    }
+    return 0;
+}
+
+static int no_times(void)
+{
+    static const char *const texts[] = {
+        "", "-", ".", "1", "1.", "1.00000000", ".000000000", "-.000000000", "+1.000000000",
+        " 1.000000000", "1 .000000000", "1.00000000x", "1.-00000000", "--1.000000000",
+        "9223372036854775808.000000000", "-9223372036854775809.000000000",
+        "00000000000000000001.000000000", "18446744073709551616.000000000"};
+    struct timespec time;
+    for (size_t i = 0; i < sizeof texts / sizeof *texts; i++)
+        if (after_time(texts[i], &time))
+            return fail("no time", i);
+    return 0;
+}
+
+static int numbers_as_text(void)
+{
+    static const char most[] = "18446744073709551615", over[] = "18446744073709551616",
+                      longer[] = "000000000000000000000";
+    char text[NUMBER_BYTES];
+    uint64_t number = 0;
+    bool is_written = put_number(text, UINT64_MAX) == text + NUMBER_BYTES
+        && memcmp(text, most, NUMBER_BYTES) == 0 && put_number(text, 0) == text + 1 && *text == '0';
+    bool is_read = take_number(most, most + NUMBER_BYTES, &number) == most + NUMBER_BYTES
+        && number == UINT64_MAX && !take_number(over, over + NUMBER_BYTES, &number)
+        && !take_number(longer, longer + NUMBER_BYTES + 1, &number)
+        && !take_number(most, most, &number);
+    return is_written && is_read ? 0 : fail("another number", is_written);
+}
+
 int main(void)
 {
     static struct bridge bridge;
     if (!nodes_begin(&bridge))
         return fail("no nodes", 0);
     int status = known_hash() | colliding_names(&bridge) | deep_tree(&bridge)
-        | two_names(&bridge);
+        | two_names(&bridge) | times_as_text() | no_times() | numbers_as_text();
     nodes_end(&bridge);
     return status;
 }

@@ -1,7 +1,6 @@
 """Exports of a mount of the program's own server: the kernel, and an import, show the same tree."""
 
 import contextlib
-import errno
 import io
 import os
 import random
@@ -163,43 +162,6 @@ class Shown:
         """Notes calls and their answers, in turn."""
         self.script += [f"0 {call}" for call in pairs[::2]]
         self.answers += [f"0 ok {answer}".rstrip() for answer in pairs[1::2]]
-
-
-FULL = """history = 9
-layer = [{}, { entry = [{ path = "/f", kind = "file", text = "lower" }] }]
-"""
-
-
-class FullTest(ExportCase):
-    """A history that is full refuses each call; what was changed comes out by what is saved."""
-
-    def test_what_was_saved_is_exported(self) -> None:
-        if real_server.why_not() is not None:
-            self.skipTest(str(real_server.why_not()))
-        manifest, saved, layer = (self.folder / name for name in ("m.toml", "saved", "change.tar"))
-        manifest.write_text(FULL)
-        with real_server.Server(FULL, workers=2, save=str(saved)) as server:
-            made = self.filled(server)
-            errors = io.StringIO()
-            with contextlib.redirect_stderr(errors):
-                status = main([str(manifest), server.path, "--layer", str(layer)])
-            self.assertEqual(status, 1)
-            self.assertRegex(errors.getvalue(), r"^overlayd-export: the server's history is full.*"
-                             r"--until-eof --save FILE.*\n$")
-            self.assertFalse(layer.exists())
-            self.assertEqual(server.end(), 0)
-        self.assertEqual(export(manifest, "--manifest", str(saved), "--layer", str(layer))[-1],
-                         f"overlayd-export: {made} objects, 0 whiteouts")
-
-    def filled(self, server: real_server.Server) -> int:
-        """Makes directories until none can be made; how many were."""
-        with server.client() as client:
-            with self.assertRaises(OSError) as full:
-                for made in range(100):
-                    client.mkdir(f"/{made}")
-        self.assertEqual(full.exception.errno, errno.ENOSPC)
-        self.assertGreater(made, 3)
-        return made
 
 
 def export(manifest: Path, socket: str, *words: str) -> List[str]:

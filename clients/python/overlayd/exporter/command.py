@@ -4,6 +4,7 @@ import argparse
 import contextlib
 import errno
 import os
+import shlex
 import sys
 import warnings
 from typing import Iterable, Iterator, List, Optional
@@ -13,6 +14,7 @@ from ..command_line import parser_of
 from ..importer.output import Output, unwound_by_sigterm
 from ..importer.telling import shown
 from .comparing import Change, each_change
+from .full import advice, end, ending_of
 from .layers import write_layer
 from .layouts import add_layer
 from .manifests import LowerTree, Manifest, SavedTree
@@ -39,6 +41,9 @@ own, as overlayd-import --upper writes it.
   --image-out DIR:TAG
                  the layer, put above the image TAG of the OCI layout DIR, which gets the tag; with
                  --as TAG another one. Without the layout a new one is made, of this layer alone
+  --end-if-full  a server whose history is full answers no call, and it is told how to have it end
+                 in order and to export what it saves. With this that is done, where overlayd-serve
+                 runs it with --save: it gets SIGTERM, and what the server saved is exported
 
 Times, devices, fifos, sockets and attributes outside of user. are those that the attributes
 user.overlayd. say, as overlayd-import and the bridge to FUSE write them; these are never written
@@ -85,6 +90,9 @@ def parser() -> argparse.ArgumentParser:
                        help="the tag of the new image; that of --image-out where it isn't said")
     words.add_argument("--userxattr", action="store_true",
                        help="mark opaque directories as the mount option userxattr reads them")
+    words.add_argument("--end-if-full", action="store_true",
+                       help="where the server's history is full, end it in order by overlayd-serve "
+                       "and export what it saved")
     return words
 
 
@@ -94,15 +102,13 @@ def _fault(words: argparse.Namespace) -> Optional[str]:
         return "MANIFEST and SOCKET, or --manifest SAVED"
     if words.saved is not None and words.socket is not None:
         return "with --manifest there is no SOCKET"
+    if words.saved is not None and words.end_if_full:
+        return "--end-if-full is for a SOCKET"
     if words.tag is not None and words.image_out is None:
         return "--as is for --image-out"
     if words.image_out is not None and not all(words.image_out.rpartition(":")):
         return "--image-out takes DIR:TAG"
     return None
-
-
-_FULL = ("the server's history is full, and with it no call is answered: have the server save the "
-         "upper as it ends (--until-eof --save FILE), and export that with --manifest FILE")
 
 
 def main(arguments: Optional[List[str]] = None) -> int:
@@ -161,18 +167,41 @@ def _export(words: argparse.Namespace, epoch: Optional[int]) -> None:
     if not lower.has_upper or saved is not None and not saved.has_upper:
         raise Unsayable(f"{shown(lower.manifest.path)}: nothing to export: upper = false, so "
                         "nothing can be changed")
+    if saved is None:
+        saved = _export_served(words, lower, epoch)
     if saved is not None:
         if not saved.layers:
             raise Unsayable(f"{shown(saved.path)}: it has no layer")
         _write(words, lower, SavedTree(saved, lower), epoch)
-        return
+
+
+def _export_served(words: argparse.Namespace, lower: LowerTree,
+                   epoch: Optional[int]) -> Optional[Manifest]:
+    """Exports what a server has; where its history is full, what it saved in the end is left."""
     with _warnings_told(), Client(words.socket) as client:
         try:
             _write(words, lower, MountTree(client, lower.manifest.file_limit), epoch)
+            return None
         except OSError as error:
-            if error.errno == errno.ENOSPC and client.last_place is None:
-                raise Unsayable(_FULL) from error
-            raise
+            if error.errno != errno.ENOSPC or client.last_place is not None:
+                raise
+    ending = ending_of(words.socket)
+    if not (words.end_if_full and ending.supervisor and ending.saved is not None):
+        raise Unsayable(advice(ending, _command(words, ending.saved or "FILE")))
+    end(words.socket, ending)
+    _say(f"the server's history was full: it is ended, and saved its upper to "
+         f"{shown(ending.saved)}, which is exported")
+    return Manifest(ending.saved)
+
+
+def _command(words: argparse.Namespace, saved: str) -> str:
+    """The command that exports to the same place what was saved."""
+    form = [("--upper", words.upper), ("--layer", words.layer), ("--image-out", words.image_out),
+            ("--as", words.tag)]
+    told = [word for flag, value in form if value is not None for word in (flag, value)]
+    if words.userxattr:
+        told.append("--userxattr")
+    return shown(shlex.join([PROGRAM, words.manifest, "--manifest", saved, *told]))
 
 
 @contextlib.contextmanager
