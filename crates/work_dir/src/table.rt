@@ -160,7 +160,8 @@ impl WorkDir {
     /// Ends what is kept of a client's job, if it has a number.
     pub fn end(&mut self, number: Option<usize>, client: u64)
         ensures table { self.new ≡ closed_any self.old number client }
-        ensures numbers { ForSome number (λ n. Changes self.old self.new n (unless_of client (job_at self.old n))) }
+        ensures numbers { ForSome number (λ n.
+            Changes self.old self.new n (unless_of client (job_at self.old n))) }
     {
         if let Some(number) = number {
             let _ = self.take_out(number, client);
