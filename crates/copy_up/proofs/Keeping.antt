@@ -49,9 +49,6 @@ sound-self l = record { layers = λ h. h; thin = λ h. h }
 pub sound-then : (a b c : Layers) → StaysSound a b → StaysSound b c → StaysSound a c
 sound-then a b c s t = record { layers = λ h. t.layers (s.layers h); thin = λ h. t.thin (s.thin h) }
 
-pub stays-self : (l : Layers) → Stays l l
-stays-self l = record { sound = sound-self l; mounts = λ s h. h; names = λ p k. (λ h. h, λ h. h); inodes = λ k. refl; holds = λ p o h. h }
-
 pub stays-then : (a b c : Layers) → Stays a b → Stays b c → Stays a c
 stays-then a b c s t =
     record {

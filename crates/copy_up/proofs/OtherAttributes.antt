@@ -135,11 +135,6 @@ shown-folder l p j k a b is shows = let two : Some a ≡ Some b = sym (ap shown_
 pub shown-inode : (l : Layers) (p : Path) (j k : ℕ) (i : Inode) (b : Attributes) → shows 0 (layers_of l) p ≡ Some (Contents j k (Some i)) → ShowsAttributes l p b → i.attributes ≡ b
 shown-inode l p j k i b is shows = let two : Some i.attributes ≡ Some b = sym (ap shown_attributes is) ∙ shows in cc
 
--- two facts of one success
-pub both-ok : {A P Q R : Type 0} (r : Result A AllocError) → (P → Q → R) → OnOk r P → OnOk r Q → OnOk r R
-both-ok (Ok u) f p q = f p q
-both-ok (Err e) f p q = p
-
 -- an upper that is thin after success, and the same after an allocation failure, stays thin
 pub thin-either : {A : Type 0} (old new : Layers) (r : Result A AllocError) → new.lowers ≡ old.lowers → OnOk r (StaysThin old new) → OnErr r (new.upper ≡ old.upper) → StaysThin old new
 thin-either old new (Ok u) low ok same = ok

@@ -241,13 +241,6 @@ found-stack l p f s e h = record { places = (found-directory l p f s e h).places
 pub found-folder : (l : Layers) (p : Path) (f : Found) (s : Stack) → f ≡ found.Directory s → IsFound l p f → is_directory (shows 0 (layers_of l) p) ≡ true
 found-folder l p f s e h = ap is_directory (found-directory l p f s e h).shown
 
--- a directory that shows a name is refused
-pub rmdir-names : (l : Layers) (p q : Path) (n : Name) → p ≡ n ∷ q → is_directory (shows 0 (layers_of l) p) ≡ true → (m : Name) × (is_some (shows 0 (layers_of l) (m ∷ p)) ≡ true) → (full : Bool) → TellsNames (layers_of l) p full → rmdir_fault (layers_of l) p full ≡ Some errno.ENOTEMPTY
-rmdir-names l p q n is dir some true tells =
-    rmdir-below (layers_of l) p q n true is
-    ∙ ap₂ (λ w d. or_else w (or_else (when (not d) errno.ENOTDIR) (Some errno.ENOTEMPTY))) (walk-none l p dir) dir
-rmdir-names l p q n is dir some false tells = absurd (false≢true (sym (ap is_some (tells some.0)) ∙ some.1))
-
 rmdir-chain-allowed : (r d : Bool) (w : Option Errno) → or_else (when r errno.EBUSY) (or_else w (or_else (when (not d) errno.ENOTDIR) None)) ≡ None → d ≡ true
 rmdir-chain-allowed r d w h = grind arith
 

@@ -50,9 +50,6 @@ plain-on t p n k j at next =
       spelling = ap (λ o. spell o n (below (layer_of t) p)) here ∙ ap (λ q. n ∷ q) at.spelling;
     }
 
-pub plain-hands : (t : Tree) (p : Path) (k : ℕ) → IsPlain t p k → HandsDown t p (Some k)
-plain-hands t p k at = record { dir = sym (ap directory_key at.held.1); uncut = at.uncut; spelling = at.spelling }
-
 -- the upper has nothing at a path that it hands down as it is
 pub record IsMissing (t : Tree) (p : Path) : Type 0 where
   pub held : held (layer_of t) p ≡ None

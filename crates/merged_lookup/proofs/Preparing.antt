@@ -41,13 +41,6 @@ content-shown Ls (suc j) k y z i lower h e =
     let both : Some z.content ≡ Some i.content = ap (option_map (λ (v : Inode). v.content)) one in
     cc
 
--- the bytes of a lower file are what is shown there
-pub bytes-shown : (l : Layers) (p : Path) (j k : ℕ) (bytes : List ℕ) (i : Inode) → lower_bytes (lowers_of l) (record { layer = j; key = k }) ≡ Some bytes →
-    shows 0 (layers_of l) p ≡ Some (Contents j k (Some i)) → content.File bytes ≡ i.content
-bytes-shown l p zero k bytes i has h = cc
-bytes-shown l p (suc j) k bytes i has h =
-    bytes-file i.content bytes (sym (ap (option_and_then (λ (x : Inode). file_bytes x.content)) (lower-shown l p j k (Some i) h)) ∙ has)
-
 -- the bytes of an inode that is a file
 file-bytes : (i : Inode) (b : List ℕ) → file_content (Some i) ≡ Some (content.File b) → file_bytes i.content ≡ Some b
 file-bytes i b = by i.content

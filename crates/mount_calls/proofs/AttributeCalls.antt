@@ -93,13 +93,6 @@ still-asked s c p (asks.Owner uid gid) = refl
 still-asked s c p (asks.Set name value) = refl
 still-asked s c p (asks.Delete name) = refl
 
--- each answers that it is done
-pub answers-asked : (s : State) (c : ℕ) (p : Path) (x : AttributeCall) → reply_of s c (call_at p x) ≡ Done
-answers-asked s c p (asks.Mode mode) = refl
-answers-asked s c p (asks.Owner uid gid) = refl
-answers-asked s c p (asks.Set name value) = refl
-answers-asked s c p (asks.Delete name) = refl
-
 -- what each leaves of the layers
 pub layers-asked : (old new : Layers) (p : Path) (x : AttributeCall) → KeepsAround old new p → KeepsTexts old new (Some p) → KeepsLayers (call_at p x) old new
 layers-asked old new p (asks.Mode mode) around texts = record { paths = around; texts = texts }

@@ -284,7 +284,3 @@ module _ (m : Mount) (s : State) (st : IsStateOf m s) (new : Layers) where
         rmdir-done m.clients
         (tables-after c (call.Rmdir p) same (λ b fd o h on is. apart b fd o h on is (λ e. nowhere o.directory (is.located ∙ ap Some e))) files)
         st.one refl
-
--- an allocation failure leaves each state that the mount stood for
-pub no-memory : {T : Type 0} (r : Result T AllocError) (m : Mount) (new : Layers) → StaysMount m.layers new → new.lowers ≡ m.layers.lowers → StaysLive m.layers new → OnErr r (StaysState m (record m { layers = new }))
-no-memory r m new mounts same live = on-err r _ (λ s st. state-stays m s st new same (mounts s st.layers) live)

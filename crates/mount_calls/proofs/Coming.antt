@@ -116,13 +116,6 @@ back-attached old mid new n came back = record {
   next = back.next ∙ came.next;
 }
 
--- the same clients are attached where nothing changed
-pub same-attached : (old new : Clients) → IsSame old new → KeepsAttached old new
-same-attached old new h = record { attached = λ b. ap (λ (o : Option Descriptors). is_some o) (same b); next = h.next }
-  where
-    same : (b : ℕ) → get nat_cmp new.attached b ≡ get nat_cmp old.attached b
-    same b = rw h.attached refl
-
 -- the mount stands for the state for which it stood
 pub back-same : (m : Mount) (s : State) (st : IsStateOf m s) (mid new : Clients) (n : ℕ) → Attaches m.clients mid n → TakesBack mid new n → IsStateOf (record m { clients = new }) s
 back-same m s st mid new n came back =

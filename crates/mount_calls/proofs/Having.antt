@@ -1,14 +1,11 @@
 -- What a call lacks can be had: a parent is on a way that is shown, and a file has bytes.
-use Rattle.std.specs.Prelude.{slice_get}
-use Rattle.std.proofs.Common.{◌≡◌, ◌≢◌, map, ℕ, zero, suc, ◌<◌, Bool, true, false, cond, nat_lt, List, [], ◌∷◌, Option, None, Some, option_map, refl, sym, ap, ◌∙◌, subst, arith}
+use Rattle.std.proofs.Common.{◌≡◌, ℕ, zero, suc, ◌<◌, Bool, true, false, cond, nat_lt, List, [], ◌∷◌, Option, None, Some, refl, sym, ap, ◌∙◌, subst, arith}
 use Rattle.std.specs.Option.{option_and_then}
 use Rattle.std.proofs.lemmas.Bool.{ltb-true}
 use Rattle.ov_base.specs.declared.bytes.Content.{Content}
 use Rattle.ov_base.specs.declared.bytes.Content.TheVariants as content
 use Rattle.ov_base.specs.declared.call.Call.{Call}
 use Rattle.plain_model.specs.Layers.{Path, Inode, Layer, Shown, Folder, Contents, shows}
-use Rattle.layer_tree.specs.Tree as tree
-use Rattle.layer_tree.specs.Tree.{Tree, inode_at, layer_of}
 use Rattle.merged_lookup.specs.declared.layers.Layers.{Layers}
 use Rattle.ov_base.specs.declared.place.Place.{Place}
 use Rattle.merged_lookup.specs.Lower.{file_bytes}
@@ -128,25 +125,3 @@ pub can-both : (m : Mount) (k : Call) (p q : Path) (file : Option Place) → IsW
     CanBeHad m k (lack_among (the_upper m) false (p ∷ (q ∷ [])) file)
 can-both m k p q file w v has =
     can-way m k false p w (parent_lack true (lacking (the_upper m) q) (file_lack file)) (can-way m k true q v (file_lack file) (can-file m k file has))
-
--- the bytes of a lower file are those that its layer has under its key
-content-bytes : (c : Content) → tree.file_bytes c ≡ file_bytes c
-content-bytes (content.File b) = refl
-content-bytes (content.SymbolicLink target) = refl
-
-inode-bytes : (o : Option Inode) → option_and_then (λ (i : Inode). tree.file_bytes i.content) o ≡ option_and_then (λ (i : Inode). file_bytes i.content) o
-inode-bytes None = refl
-inode-bytes (Some i) = content-bytes i.content
-
-pub lower-read : (u : Tree) (ts : List Tree) (j k : ℕ) → option_and_then (λ t. tree.bytes_at t k) (slice_get (u ∷ ts) (suc j)) ≡ bytes_at (map layer_of ts) (record { layer = suc j; key = k })
-lower-read u [] j k = refl
-lower-read u (t ∷ ts) zero k = inode-bytes (inode_at t k)
-lower-read u (t ∷ ts) (suc j) k = lower-read t ts j k
-
--- the upper is no lower layer
-pub source-read : (u : Tree) (ts : List Tree) (d : Place) → d.layer ≢ 0 → option_and_then (λ t. tree.bytes_at t d.key) (slice_get (u ∷ ts) d.layer) ≡ bytes_at (map layer_of ts) d
-source-read u ts d low = at d.layer low
-  where
-    at : (j : ℕ) → j ≢ 0 → option_and_then (λ t. tree.bytes_at t d.key) (slice_get (u ∷ ts) j) ≡ bytes_at (map layer_of ts) (record { layer = j; key = d.key })
-    at zero low = absurd (low refl)
-    at (suc j) low = lower-read u ts j d.key

@@ -1,97 +1,32 @@
--- A call's lack is told where the machine refuses nothing, and else its refusal.
-use Rattle.std.proofs.Common.{◌≡◌, ℕ, true, false, ◌||◌, ◌&&◌, is_none, List, [], ◌∷◌, length, nat_eq, nat_lt, Option, None, Some, Result, Ok, Err, refl, sym, ap, ◌∙◌, subst, arith}
+-- Why the machine refuses a call that was judged, or that it doesn't, told by the layers.
+use Rattle.std.proofs.Common.{◌≡◌, ℕ, true, false, List, length, nat_eq, nat_lt, Option, None, Some, refl, ap, ◌∙◌, arith}
 use Rattle.std.specs.Result.{result_err}
-use Rattle.ov_base.specs.declared.call.Call.{Call}
 use Rattle.ov_base.specs.declared.call.Call.TheVariants as call
-use Rattle.ov_base.specs.declared.call.OpenFlags.{OpenFlags}
 use Rattle.ov_base.specs.declared.errno.Errno.{Errno}
 use Rattle.ov_base.specs.declared.errno.Errno.TheVariants.{EINVAL, ENAMETOOLONG, ENOENT}
 use Rattle.ov_base.specs.Targets.{target_of}
-use Rattle.plain_model.specs.Layers.{Path, Layer, Shown, shows}
+use Rattle.plain_model.specs.Layers.{Path}
 use Rattle.plain_model.specs.Machine.{State, has_names}
-use Rattle.plain_model.specs.Refusals.{bad_flags, bad_mode, has_nul, refusal, when}
+use Rattle.plain_model.specs.Refusals.{bad_mode, has_nul, refusal, when}
 use Rattle.plain_model.specs.Tree.{node_at, node_of}
 use Rattle.mount_laws.specs.Linking.{link_fault}
-use Rattle.mount_laws.specs.Looks.{absent, or_else, parents_fault, walk_fault}
-use Rattle.mount_laws.specs.Opening.{opening_fault, shown_fault}
+use Rattle.mount_laws.specs.Looks.{or_else}
 use Rattle.mount_laws.specs.Removals.{rmdir_fault, unlink_fault, ShowsNoName}
 use Rattle.mount_laws.specs.Renaming.{is_one, rename_fault}
 use Rattle.mount_laws.proofs.Linked.{law_of_link}
-use Rattle.mount_laws.proofs.Links.{first-none, second-none}
 use Rattle.mount_laws.proofs.Looks.{law_of_mkdir}
 use Rattle.mount_laws.proofs.Refusing.{law_of_rmdir, law_of_symlink, law_of_unlink}
 use Rattle.mount_laws.proofs.Renaming.{law_of_rename, told}
 use Rattle.make_remove.specs.Making.{vacancy_fault}
 use Rattle.rename_redirect.specs.Judging.{IsFaultOf}
 use Rattle.rename_redirect.proofs.Steps.{rename-refused}
-use Rattle.work_dir.specs.declared.next.Lack.{Lack}
-use Rattle.work_dir.specs.declared.next.Lack.TheVariants as lacks
-use Rattle.ov_base.specs.declared.place.Place.{Place}
 use Rattle.mount_calls.specs.declared.attribute_changes.AttributeCall.{AttributeCall}
-use Rattle.mount_calls.specs.declared.attribute_changes.AttributeCall.TheVariants as asks
 use Rattle.mount_calls.specs.declared.mount.Mount.{Mount}
 use Rattle.mount_calls.specs.AttributeCalls.{asked_fault, call_at}
-use Rattle.mount_calls.specs.Lacks.{lack_among, lack_of, CanBeHad, TellsLack}
 use Rattle.mount_calls.specs.States.{IsStateOf}
 use Rattle.mount_calls.proofs.AttributeCalls.{refusal-asked}
-use Rattle.mount_calls.proofs.Having.{can-both, can-one, IsOfBytes, IsWay}
 use Rattle.mount_calls.proofs.Renaming.{one-fault}
 use Rattle.mount_calls.proofs.Stating.{the_layers, the_lowers, the_upper}
-
--- a refusal, and a lack of nothing
-pub tells-refusal : (m : Mount) (c : ℕ) (k : Call) (e : Errno) → ((s : State) → IsStateOf m s → refusal s c k ≡ Some e) → TellsLack m c k (Err e)
-tells-refusal m c k e h = record { refused = h; allowed = tt; lack = tt; can = tt }
-
-pub tells-nothing : (m : Mount) (c : ℕ) (k : Call) → ((s : State) → IsStateOf m s → refusal s c k ≡ None) → lacks.Nothing ≡ lack_of (the_upper m) (the_lowers m) m.metacopy k → TellsLack m c k (Ok lacks.Nothing)
-tells-nothing m c k h e = record { refused = tt; allowed = h; lack = e; can = tt }
-
--- a lack at one path, and one at two
-pub tells-one : (m : Mount) (c : ℕ) (k : Call) (p : Path) (file : Option Place) (l : Lack) → ((s : State) → IsStateOf m s → refusal s c k ≡ None) →
-    l ≡ lack_among (the_upper m) false (p ∷ []) file → lack_among (the_upper m) false (p ∷ []) file ≡ lack_of (the_upper m) (the_lowers m) m.metacopy k →
-    IsWay m k false p → IsOfBytes m file → TellsLack m c k (Ok l)
-tells-one m c k p file l h is e w has =
-    record { refused = tt; allowed = h; lack = is ∙ e; can = subst (λ z. CanBeHad m k z) (sym is) (can-one m k p file w has) }
-
-pub tells-both : (m : Mount) (c : ℕ) (k : Call) (p q : Path) (file : Option Place) (l : Lack) → ((s : State) → IsStateOf m s → refusal s c k ≡ None) →
-    l ≡ lack_among (the_upper m) false (p ∷ (q ∷ [])) file → lack_among (the_upper m) false (p ∷ (q ∷ [])) file ≡ lack_of (the_upper m) (the_lowers m) m.metacopy k →
-    IsWay m k false p → IsWay m k true q → IsOfBytes m file → TellsLack m c k (Ok l)
-tells-both m c k p q file l h is e w v has =
-    record { refused = tt; allowed = h; lack = is ∙ e; can = subst (λ z. CanBeHad m k z) (sym is) (can-both m k p q file w v has) }
-
--- what is told of one call is told of the same one
-pub tells-same : (m : Mount) (c : ℕ) (j k : Call) (r : Result Lack Errno) → j ≡ k → TellsLack m c k r → TellsLack m c j r
-tells-same m c j k r e h = subst (λ z. TellsLack m c z r) (sym e) h
-
--- the way to what is changed by a call on attributes
-pub attribute-way : (m : Mount) (p : Path) (x : AttributeCall) → parents_fault (the_layers m) p ≡ None → IsWay m (call_at p x) false p
-attribute-way m p (asks.Mode mode) h = record { path = refl; way = h; opens = tt }
-attribute-way m p (asks.Owner uid gid) h = record { path = refl; way = h; opens = tt }
-attribute-way m p (asks.Set name value) h = record { path = refl; way = h; opens = tt }
-attribute-way m p (asks.Delete name) h = record { path = refl; way = h; opens = tt }
-
--- the way to what unlink and rmdir remove is shown, and the way to what is opened
-pub way-first : (a b : Option Errno) (Ls : List Layer) (p : Path) → or_else a (or_else (walk_fault Ls p) b) ≡ None → parents_fault Ls p ≡ None
-way-first a b Ls p h = first-none (parents_fault Ls p) (absent (shows 0 Ls p)) (first-none (walk_fault Ls p) b (second-none a (or_else (walk_fault Ls p) b) h))
-
-makes-absent : (f : OpenFlags) (s : Option Shown) → s ≡ None → shown_fault f s ≡ None → (f.writes || (f.create && is_none s)) ≡ true
-makes-absent f s none fine = grind arith
-
-module _ (Ls : List Layer) (p : Path) (f : OpenFlags) (mode : ℕ) (h : opening_fault Ls p f mode (Some 0) ≡ None) where
-  abbrev shown_last : Option Errno
-  shown_last = or_else (shown_fault f (shows 0 Ls p)) None
-
-  way-then : or_else (parents_fault Ls p) shown_last ≡ None
-  way-then = second-none (bad_mode mode) (or_else (parents_fault Ls p) shown_last) (second-none (when (bad_flags f) EINVAL) (or_else (bad_mode mode) (or_else (parents_fault Ls p) shown_last)) h)
-
-  pub opening-way : parents_fault Ls p ≡ None
-  opening-way = first-none (parents_fault Ls p) shown_last way-then
-
-  shown-fine : shown_fault f (shows 0 Ls p) ≡ None
-  shown-fine = first-none (shown_fault f (shows 0 Ls p)) None (second-none (parents_fault Ls p) shown_last way-then)
-
-  -- an open that is allowed where nothing is shown makes the file
-  pub opening-makes : shows 0 Ls p ≡ None → (f.writes || (f.create && is_none (shows 0 Ls p))) ≡ true
-  opening-makes none = makes-absent f (shows 0 Ls p) none shown-fine
 
 -- a target's faults come before those of the path
 pub target-first : (t : List ℕ) (e : Errno) (f : Option Errno) → result_err (target_of t) ≡ Some e → or_else (when (nat_lt 4095 (length t)) ENAMETOOLONG) (or_else (when (nat_eq (length t) 0) ENOENT) (or_else (when (has_nul t) EINVAL) f)) ≡ Some e

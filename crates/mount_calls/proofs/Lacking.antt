@@ -1,10 +1,10 @@
 -- What a path lacks, by the numbers of its names, and what a call lacks.
-use Rattle.std.proofs.Common.{◌≡◌, ℕ, zero, suc, ◌<◌, ◌≤◌, Bool, true, false, ◌||◌, cond, List, [], ◌∷◌, length, take, reverse, Option, None, Some, is_none, refl, sym, ap, ap₂, ◌∙◌, subst, arith}
+use Rattle.std.proofs.Common.{◌≡◌, ℕ, zero, suc, ◌<◌, ◌≤◌, Bool, true, false, cond, List, [], ◌∷◌, length, take, reverse, Option, None, Some, is_none, refl, sym, ap, ◌∙◌, subst, arith}
 use Rattle.std.specs.Option.{option_or}
 use Rattle.std.proofs.lemmas.Bool.{false≢true, lt-ltb}
 use Rattle.std.proofs.lemmas.List.{reverse-append, reverse-reverse, length-reverse, take-append-le, take_all}
 use borrow.Author.Count.{below_more}
-use Rattle.plain_model.specs.Layers.{Name, Path, Inode, Layer, held, holds_directory, Shown, Folder, Contents, shows}
+use Rattle.plain_model.specs.Layers.{Name, Path, Inode, Layer, held, holds_directory, Shown, Contents, shows}
 use Rattle.merged_lookup.specs.declared.found.Topmost.{Topmost}
 use Rattle.merged_lookup.specs.declared.found.Topmost.TheVariants as topmost
 use Rattle.merged_lookup.specs.declared.layers.Layers.{Layers}
@@ -125,32 +125,10 @@ pub top-shown : (l : Layers) (p : Path) (t : Topmost) → IsTopmost l p (Some t)
 top-shown l p (topmost.Directory d) h = ap is_none h.1
 top-shown l p (topmost.Inode d) h = ap is_none h.shown
 
--- where no bytes are a lower file's, none are of a file of a lower layer
-pub low-none : (lowers : List Layer) (s : Option Shown) → data_at lowers s ≡ None → low_file s ≡ None
-low-none lowers None h = h
-low-none lowers (Some (Folder j k a)) h = h
-low-none lowers (Some (Contents zero k None)) h = h
-low-none lowers (Some (Contents zero k (Some i))) h = refl
-low-none lowers (Some (Contents (suc j) k i)) h = h
-
 -- of what lower layers show the bytes are where it is
 pub low-data : (lowers : List Layer) (s : Option Shown) (j k : ℕ) (i : Option Inode) → 0 < j → s ≡ Some (Contents j k i) → low_file s ≡ data_at lowers s
 low-data lowers s zero k i low h = absurd (omega arith)
 low-data lowers s (suc j) k i low h = ap low_file h ∙ sym (ap (data_at lowers) h)
-
--- for an open, by whether it writes and whether anything is shown, and by where the bytes are of what is
-abbrev pub open_lack : Layer → Path → Bool → Bool → Option Place → Lack
-open_lack U p writes absent d = lack_among U false (cond (writes || absent) (p ∷ []) []) (cond writes d None)
-
-pub open-absent : (U : Layer) (lowers : List Layer) (p : Path) (writes : Bool) (s : Option Shown) → s ≡ None → lack_among U false (p ∷ []) None ≡ open_lack U p writes (is_none s) (data_at lowers s)
-open-absent U lowers p true s h = ap (λ x. lack_among U false (p ∷ []) (data_at lowers x)) (sym h)
-open-absent U lowers p false s h = ap (λ x. lack_among U false (cond (is_none x) (p ∷ []) []) None) (sym h)
-
-pub open-writes : (U : Layer) (p : Path) (writes absent : Bool) (d : Option Place) → writes ≡ true → lack_among U false (p ∷ []) d ≡ open_lack U p writes absent d
-open-writes U p writes absent d h = ap (λ w. open_lack U p w absent d) (sym h)
-
-pub open-reads : (U : Layer) (p : Path) (writes absent : Bool) (d : Option Place) → writes ≡ false → absent ≡ false → lack.Nothing ≡ open_lack U p writes absent d
-open-reads U p writes absent d h g = sym (ap₂ (λ w b. open_lack U p w b d) h g)
 
 -- for a rename, by whether both paths are one object
 abbrev pub rename_lack : Layer → Path → Path → Bool → Option Place → Lack

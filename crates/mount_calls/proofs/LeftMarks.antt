@@ -43,10 +43,6 @@ pub wanted-marks : (k : Call) (old new : Layers) (result : Result Reply AllocErr
 wanted-marks k old new (Ok r) wrong = let no : false ≡ true = wrong in absurd (cc)
 wanted-marks k old new (Err e) wrong = tt
 
--- and nothing of a call that was refused
-pub refused-marks : (k : Call) (old new : Layers) (e : Errno) → MarksIfDone k old new (Ok (Refused e))
-refused-marks k old new e = λ is. let no : Refused e ≡ Done = is in absurd (cc)
-
 -- nor of any call that leaves none, whatever came of it
 pub marks-none : (k : Call) (old new : Layers) → LeavesMarks k old new → (result : Result Reply AllocError) → MarksIfDone k old new result
 marks-none k old new marks (Ok r) = λ is. marks

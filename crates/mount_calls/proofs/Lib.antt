@@ -52,5 +52,7 @@ pub mod Having
 pub mod Placing
 pub mod Judging
 pub mod RenameJudged
+pub mod Planning
+pub mod PlanLacks
 pub mod Seen
 pub mod RoomReads

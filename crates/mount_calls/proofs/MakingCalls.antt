@@ -118,12 +118,6 @@ module _ (c : ℕ) (k : Call) (m : Mount) (new : Layers) where
   abbrev pub now : Mount
   now = record m { layers = new }
 
-  -- a call that the machine refuses so, and that changed nothing
-  pub makes-unmade : (e : Errno) → ((s : State) → is_refused (reply_of s c k) ≡ false) →
-      ((s : State) → IsStateOf m s → refusal s c k ≡ Some e) → new ≡ m.layers → MakesCall c k m now (Ok (reply.Refused e))
-  makes-unmade e answers refuses same =
-      makes-refused c k m now (attached-same m.clients) same e answers (λ s st. refused m s st new c k e (refuses s st) same)
-
   -- one that was done, and changed the layers and what is open
   pub marks-done : (clients : Clients) → KeepsAttached m.clients clients → ServesEach c k m (record m { layers = new; clients = clients }) reply.Done →
       NamesEach c k m (record m { layers = new; clients = clients }) →

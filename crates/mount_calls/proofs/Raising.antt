@@ -38,11 +38,6 @@ attributes-filled zero lowers None = refl
 attributes-filled zero lowers (Some i) = refl
 attributes-filled (suc j) lowers o = refl
 
-pub target-filled : (j : ℕ) (lowers : List Layer) (o : Option Inode) → inode_target (fill_at j lowers o) ≡ inode_target o
-target-filled zero lowers None = refl
-target-filled zero lowers (Some i) = told-filled (λ c. inode_target (Some (record i { content = c }))) (λ x y. refl) lowers i
-target-filled (suc j) lowers o = refl
-
 pub link-filled : (j : ℕ) (lowers : List Layer) (o : Option Inode) → is_link_inode (fill_at j lowers o) ≡ is_link_inode o
 link-filled zero lowers None = refl
 link-filled zero lowers (Some i) = told-filled (λ c. is_link_inode (Some (record i { content = c }))) (λ x y. refl) lowers i

@@ -3,21 +3,17 @@
 -- file is copied up as it is first changed, and its parents with it).
 use Rattle.std.specs.Prelude.{◌≡◌, ◌↔◌, ℕ, zero, nat_lt, Bool, true, false, ◌||◌, ◌&&◌, cond}
 use Rattle.std.specs.Prelude.{List, [], ◌∷◌, length, Option, None, Some, is_none, unwrap_or}
-use Rattle.std.specs.Prelude.{option_map, Result, IfErr, IfOk, OnOk}
+use Rattle.std.specs.Prelude.{option_map}
 use Rattle.std.specs.Option.{option_or}
 use Rattle.ov_base.specs.declared.bytes.Content.{Content}
 use Rattle.ov_base.specs.declared.bytes.Content.TheVariants as content
 use Rattle.ov_base.specs.declared.call.Call.{Call}
 use Rattle.ov_base.specs.declared.call.Call.TheVariants as call
-use Rattle.ov_base.specs.declared.errno.Errno.{Errno}
 use Rattle.plain_model.specs.Layers.{Path, Layer, held, holds_directory, Shown, Contents, shows}
-use Rattle.plain_model.specs.Machine.{State}
-use Rattle.plain_model.specs.Refusals.{refusal}
 use Rattle.layer_tree.specs.Tree.{layer_of}
-use Rattle.merged_lookup.specs.declared.layers.Layers.{Layers}
 use Rattle.ov_base.specs.declared.place.Place.{Place}
 use Rattle.merged_lookup.specs.Lower.{lower_bytes}
-use Rattle.merged_lookup.specs.Merged.{upper_of, layers_of, lowers_of, parent, parents_fault}
+use Rattle.merged_lookup.specs.Merged.{layers_of, lowers_of, parent, parents_fault}
 use Rattle.mount_laws.specs.Renaming.{is_one}
 use Rattle.copy_up.specs.declared.needs.Need.{Need}
 use Rattle.copy_up.specs.declared.needs.Need.TheVariants as need
@@ -26,7 +22,6 @@ use Rattle.work_dir.specs.declared.next.Lack.{Lack}
 use Rattle.work_dir.specs.declared.next.Lack.TheVariants as lacks
 use Rattle.mount_calls.specs.declared.mount.Mount.{Mount}
 use Rattle.mount_calls.specs.Files.{place_below}
-use Rattle.mount_calls.specs.States.{IsStateOf}
 
 -- the first directory on the way to this path, itself the last, that the upper doesn't hold, by its
 -- number of names
@@ -138,18 +133,6 @@ abbrev pub lack_of : Layer → List Layer → Bool → Call → Lack
 lack_of U lowers metacopy k =
     lack_among U false (changed_paths U lowers k) (data_place U lowers metacopy k)
 
--- the upper has the parents of a path, and what is shown there is no file whose bytes are a lower
--- layer's, so that nothing is lacking
-pub record HasAllAt (l : Layers) (p : Path) : Type 0 where
-  pub parents : lacking (layer_of l.upper) p ≡ None
-  pub own : data_at (lowers_of l) (shows 0 (layers_of l) p) ≡ None
-
--- the upper has all that is lacking for the first of these paths, and the parents of a second one
-abbrev pub HasAllOf : Layers → List Path → Type 0
-HasAllOf l [] = Unit {0}
-HasAllOf l (p ∷ []) = HasAllAt l p
-HasAllOf l (p ∷ (q ∷ qs)) = HasAllAt l p × (lacking (layer_of l.upper) q ≡ None)
-
 -- the bytes of a lower file
 abbrev pub bytes_at : List Layer → Place → Option (List ℕ)
 bytes_at lowers d = lower_bytes lowers (record { layer = d.layer; key = d.key })
@@ -188,11 +171,3 @@ CanBeHad m k (lacks.Parent second count) =
     × IsNeed (layer_of m.layers.upper) p (need.Directory count)
     × OpensToChange (layers_of m.layers) k
 CanBeHad m k (lacks.File d) = (b : List ℕ) × (bytes_at (lowers_of m.layers) d ≡ Some b)
-
--- A call of a client is refused as the machine refuses it, or the machine doesn't and this is what
--- it lacks, which can be had.
-pub record TellsLack (m : Mount) (c : ℕ) (k : Call) (r : Result Lack Errno) : Type 0 where
-  pub refused : IfErr r (λ e. (s : State) → IsStateOf m s → refusal s c k ≡ Some e)
-  pub allowed : OnOk r ((s : State) → IsStateOf m s → refusal s c k ≡ None)
-  pub lack : IfOk r (λ l. l ≡ lack_of (upper_of m.layers) (lowers_of m.layers) m.metacopy k)
-  pub can : IfOk r (CanBeHad m k)

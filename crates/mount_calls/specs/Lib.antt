@@ -16,5 +16,6 @@ pub mod Altering
 pub mod Living
 pub mod Looking
 pub mod JudgedNames
+pub mod Plans
 pub mod Renaming
 pub mod Reading

@@ -58,7 +58,6 @@ paths_of (looked.Both p q) = p.now ∷ (q.now ∷ [])
 
 -- these looks saw what the layers show at these paths
 abbrev pub SawEach : Layers → List Path → Looks → Type 0
-SawEach l [] looks.None = Unit {0}
 SawEach l (p ∷ []) (looks.One look) = IsLook l p look.now
 SawEach l (p ∷ (q ∷ [])) (looks.Both from onto) = IsLook l p from.now × IsLook l q onto.now
 SawEach l ps saw = ⊥

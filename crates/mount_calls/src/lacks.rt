@@ -1,27 +1,21 @@
-// What a call lacks in the upper before it can be made there, or why it is refused.
-ghost use Rattle.std.specs.Prelude.{◌≡◌, ◌||◌, ◌∷◌, [], ℕ, true, false, None, Some, IsSome};
-ghost use Rattle.std.specs.BTreeMap.{get};
-ghost use Rattle.std.specs.Ordering.{nat_cmp};
+// What a call lacks in the upper before it can be made there.
+ghost use Rattle.std.specs.Prelude.{◌≡◌, ◌∷◌, [], ℕ, true, false, None, Some};
 ghost use Rattle.plain_model.specs.Layers.{Path as Names, shows};
-ghost use Rattle.plain_model.specs.Machine.{State};
-ghost use Rattle.plain_model.specs.Refusals.{refusal};
 ghost use Rattle.layer_tree.specs.Tree.{layer_of, mark_at};
 ghost use Rattle.merged_lookup.specs.Merged.{upper_of, layers_of, lowers_of, IsFound, IsTopmost, ShowsInode};
-ghost use Rattle.mount_calls.specs.AttributeCalls.{call_at};
 ghost use Rattle.mount_calls.specs.Lacks as lacks;
 ghost use Rattle.mount_calls.specs.Lacks.{lacking, parent_lack, lack_among, lack_of};
-ghost use Rattle.mount_calls.specs.Lacks.{LawOfNeeds, TellsLack};
-ghost use Rattle.mount_calls.specs.Looking.{AreLooks, SawEach};
-ghost use Rattle.mount_calls.specs.States.{IsStateOf};
-ghost use Rattle.work_dir.specs.declared.next.Lack.TheVariants as Lacking;
+ghost use Rattle.mount_calls.specs.Lacks.{CanBeHad, LawOfNeeds};
+ghost use Rattle.mount_calls.specs.Looking.{IsLook};
+ghost use Rattle.mount_calls.specs.Plans.{call_of, IsPlanned};
 
-use crate::attribute_changes::AttributeCall;
 use crate::files::marked_place;
-use crate::looks::Looks;
+use crate::look::Look;
 use crate::mount::Mount;
+use crate::plan::Plan;
 use copy_up::{Need, need_at};
 use merged_lookup::{Found, Layers, Topmost};
-use ov_base::{Bytes, Call, Content, Errno, OpenFlags, Path, Place};
+use ov_base::{Call, Content, OpenFlags, Path, Place};
 use work_dir::Lack;
 
 /// Whether a call changes what paths show, or opens what one shows, so that it may lack something.
@@ -50,199 +44,111 @@ pub fn law_of_needs()
 {}
 
 impl Mount {
-    /// What a call of a client lacks in the upper, as its looks saw it, or why it is refused. Nothing
-    /// changes, and it takes no memory.
-    pub fn lack(&self, client: u64, call: &Call, looks: Looks<'_>) -> Result<Lack, Errno>
-        requires attached { IsSome (get nat_cmp self.now.clients.attached client) }
-        requires may { lacks.may_lack call.now ≡ true }
-        requires looks { AreLooks self.now.layers call.now looks }
-        ensures { TellsLack self.now client call.now result }
+    /// What a planned call lacks in the upper. Nothing changes, and it takes no memory.
+    pub fn lack(&self, plan: &Plan<'_>) -> Lack
+        requires { (c : ℕ) × IsPlanned self.now c plan.now }
+        ensures lack { result ≡ lack_of (upper_of self.now.layers) (lowers_of self.now.layers)
+            self.now.metacopy (call_of plan.now) }
+        ensures can { CanBeHad self.now (call_of plan.now) result }
     {
-        match call {
-            Call::Chmod { path, mode } => {
-                self.attribute_lack(path, looks, AttributeCall::Mode(*mode))
+        match plan {
+            Plan::Alter {
+                path,
+                look,
+                found,
+                ..
+            } => self.attribute_lack(path, look, found.1),
+            Plan::Mkdir { path, look, .. }
+            | Plan::Symlink { path, look, .. }
+            | Plan::Unlink { path, look, .. }
+            | Plan::Rmdir { path, look, .. } => self.parent_lack(path, look),
+            Plan::Open {
+                path,
+                look,
+                flags,
+                judged,
+            } => self.open_lack(path, look, *flags, judged.top),
+            Plan::Link {
+                old,
+                new,
+                from,
+                onto,
+                found,
+            } => {
+                let file = copied_inode(&self.layers, self.metacopy, found.2);
+                self.both_lack(old, new, from, onto, file)
             }
-            Call::Chown { path, uid, gid } => {
-                self.attribute_lack(path, looks, AttributeCall::Owner(*uid, *gid))
+            Plan::Rename {
+                old,
+                new,
+                from,
+                onto,
+                moving,
+            } => {
+                let file = found_file(&self.layers, self.metacopy, &moving.found);
+                self.both_lack(old, new, from, onto, file)
             }
-            Call::SetAttribute { path, name, value } => {
-                self.attribute_lack(path, looks, AttributeCall::Set(name, value))
-            }
-            Call::DeleteAttribute { path, name } => {
-                self.attribute_lack(path, looks, AttributeCall::Delete(name))
-            }
-            Call::Mkdir { path, mode } => self.mkdir_lack(path, looks, *mode),
-            Call::Symlink { target, path } => self.symlink_lack(target, path, looks),
-            Call::Open { path, flags, mode } => self.open_lack(client, path, looks, *flags, *mode),
-            Call::Unlink { path } => self.unlink_lack(path, looks),
-            Call::Rmdir { path } => self.rmdir_lack(path, looks),
-            Call::Hardlink { old, new } => self.link_lack(old, new, looks),
-            Call::Rename { old, new } => self.rename_lack(old, new, looks),
-            _ => unreachable!(),
+            Plan::Nothing { .. } => Lack::Nothing,
         }
     }
 
-    /// Whether the upper has all that a call may lack, so that it lacks nothing unless it is
-    /// refused, as its looks saw it. It walks no lower layer, and a call for which it says no may
-    /// lack nothing all the same.
-    pub fn has_all(&self, call: &Call, looks: Looks<'_>) -> bool
-        requires looks { AreLooks self.now.layers call.now looks }
-        ensures { result ≡ true → (s : State) → IsStateOf self.now s → (c : ℕ) →
-            refusal s c call.now ≡ None →
-            lack_of (upper_of self.now.layers) (lowers_of self.now.layers) self.now.metacopy call.now
-            ≡ Lacking.Nothing }
+    // What a change of the attributes of the topmost object at a path lacks.
+    fn attribute_lack(&self, path: &Path, look: &Look, top: Topmost) -> Lack
+        requires look { IsLook self.now.layers path.now look.now }
+        requires top { IsTopmost self.now.layers path.now (Some top) }
+        ensures { result ≡ lack_among (upper_of self.now.layers) false (path.now ∷ [])
+            (lacks.copied_file self.now.metacopy (shows 0 (layers_of self.now.layers) path.now)) }
     {
-        match call {
-            Call::Mkdir { .. } | Call::Symlink { .. } | Call::Unlink { .. } | Call::Rmdir { .. } =>
-                looks.saw_parents(&self.layers),
-            Call::Open { flags, .. } => !may_change(*flags) || looks.saw_all(&self.layers),
-            Call::Chmod { .. }
-            | Call::Chown { .. }
-            | Call::SetAttribute { .. }
-            | Call::DeleteAttribute { .. }
-            | Call::Hardlink { .. }
-            | Call::Rename { .. } => looks.saw_all(&self.layers),
-            _ => true,
-        }
-    }
-
-    // `lack`, of a change of attributes.
-    fn attribute_lack(
-        &self,
-        path: &Path,
-        looks: Looks<'_>,
-        ask: AttributeCall,
-    ) -> Result<Lack, Errno>
-        requires { SawEach self.now.layers (path.now ∷ []) looks }
-        ensures { (c : ℕ) → TellsLack self.now c (call_at path.now ask.entry) result }
-    {
-        let look = looks.one();
         let near = look.saw_parents(&self.layers);
-        let (_, top) = match self.judge_alter(look, &ask) {
-            Ok(found) => found,
-            Err(errno) => return Err(errno),
-        };
         let file = copied_file(&self.layers, self.metacopy, top);
-        Ok(lack_on(&self.layers, path, near, file))
+        lack_on(&self.layers, path, near, file)
     }
 
-    // `lack`, of `mkdir`.
-    fn mkdir_lack(&self, path: &Path, looks: Looks<'_>, mode: u32) -> Result<Lack, Errno>
-        requires { SawEach self.now.layers (path.now ∷ []) looks }
-        ensures { (c : ℕ) → TellsLack self.now c (Call.Mkdir path.now mode) result }
+    // What making or removing a name lacks: a parent alone.
+    fn parent_lack(&self, path: &Path, look: &Look) -> Lack
+        requires { IsLook self.now.layers path.now look.now }
+        ensures { result ≡ lack_among (upper_of self.now.layers) false (path.now ∷ []) None }
     {
-        let look = looks.one();
-        match self.judge_mkdir(path, look, mode) {
-            Ok(_) => Ok(lack_on(&self.layers, path, false, None)),
-            Err(errno) => Err(errno),
-        }
-    }
-
-    // `lack`, of `symlink`.
-    fn symlink_lack(&self, target: &Bytes, path: &Path, looks: Looks<'_>) -> Result<Lack, Errno>
-        requires { SawEach self.now.layers (path.now ∷ []) looks }
-        ensures { (c : ℕ) → TellsLack self.now c (Call.Symlink target.now path.now) result }
-    {
-        let look = looks.one();
-        match self.judge_symlink(target, path, look) {
-            Ok(_) => Ok(lack_on(&self.layers, path, false, None)),
-            Err(errno) => Err(errno),
-        }
-    }
-
-    // `lack`, of `open`.
-    fn open_lack(
-        &self,
-        client: u64,
-        path: &Path,
-        looks: Looks<'_>,
-        flags: OpenFlags,
-        mode: u32,
-    ) -> Result<Lack, Errno>
-        requires attached { IsSome (get nat_cmp self.now.clients.attached client) }
-        requires looks { SawEach self.now.layers (path.now ∷ []) looks }
-        ensures { TellsLack self.now client (Call.Open path.now flags mode) result }
-    {
-        let look = looks.one();
         let near = look.saw_parents(&self.layers);
-        let judged = match self.judge_open(client, look, flags, mode) {
-            Ok(judged) => judged,
-            Err(errno) => return Err(errno),
+        lack_on(&self.layers, path, near, None)
+    }
+
+    // What an open lacks, of the topmost object at a path, or of nothing there.
+    fn open_lack(&self, path: &Path, look: &Look, flags: OpenFlags, top: Option<Topmost>) -> Lack
+        requires look { IsLook self.now.layers path.now look.now }
+        requires top { IsTopmost self.now.layers path.now top }
+        ensures { (mode : ℕ) → result ≡ lack_of (upper_of self.now.layers)
+            (lowers_of self.now.layers) self.now.metacopy (Call.Open path.now flags mode) }
+    {
+        let Some(top) = top else {
+            return self.parent_lack(path, look);
         };
-        let Some(top) = judged.top else {
-            return Ok(lack_on(&self.layers, path, near, None));
-        };
-        if flags.writes {
-            let file = data_file(&self.layers, top);
-            let lack = lack_on(&self.layers, path, near, file);
-            return Ok(lack);
+        if !flags.writes {
+            return Lack::Nothing;
         }
-        Ok(Lack::Nothing)
+        let near = look.saw_parents(&self.layers);
+        let file = data_file(&self.layers, top);
+        lack_on(&self.layers, path, near, file)
     }
 
-    // `lack`, of `unlink`.
-    fn unlink_lack(&self, path: &Path, looks: Looks<'_>) -> Result<Lack, Errno>
-        requires { SawEach self.now.layers (path.now ∷ []) looks }
-        ensures { (c : ℕ) → TellsLack self.now c (Call.Unlink path.now) result }
+    // What a link or a rename lacks that copies this file, if any.
+    fn both_lack(
+        &self,
+        old: &Path,
+        new: &Path,
+        from: &Look,
+        onto: &Look,
+        file: Option<Place>,
+    ) -> Lack
+        requires from { IsLook self.now.layers old.now from.now }
+        requires onto { IsLook self.now.layers new.now onto.now }
+        ensures { result ≡ lack_among (upper_of self.now.layers) false
+            (old.now ∷ (new.now ∷ [])) file }
     {
-        let look = looks.one();
-        match self.judge_unlink(path, look) {
-            Ok(_) => Ok(lack_on(&self.layers, path, false, None)),
-            Err(errno) => Err(errno),
-        }
-    }
-
-    // `lack`, of `rmdir`.
-    fn rmdir_lack(&self, path: &Path, looks: Looks<'_>) -> Result<Lack, Errno>
-        requires { SawEach self.now.layers (path.now ∷ []) looks }
-        ensures { (c : ℕ) → TellsLack self.now c (Call.Rmdir path.now) result }
-    {
-        let look = looks.one();
-        match self.judge_rmdir(path, look) {
-            Ok(_) => Ok(lack_on(&self.layers, path, false, None)),
-            Err(errno) => Err(errno),
-        }
-    }
-
-    // `lack`, of `link`.
-    fn link_lack(&self, old: &Path, new: &Path, looks: Looks<'_>) -> Result<Lack, Errno>
-        requires { SawEach self.now.layers (old.now ∷ (new.now ∷ [])) looks }
-        ensures { (c : ℕ) → TellsLack self.now c (Call.Hardlink old.now new.now) result }
-    {
-        let (from, onto) = looks.both();
         let from_near = from.saw_parents(&self.layers);
         let onto_near = onto.saw_parents(&self.layers);
-        let (_, _, place) = match self.judge_link(from, onto) {
-            Ok(found) => found,
-            Err(errno) => return Err(errno),
-        };
-        let file = copied_inode(&self.layers, self.metacopy, place);
-        Ok(lack_on_both(&self.layers, old, new, (from_near, onto_near), file))
+        lack_on_both(&self.layers, old, new, (from_near, onto_near), file)
     }
-
-    // `lack`, of `rename`.
-    fn rename_lack(&self, old: &Path, new: &Path, looks: Looks<'_>) -> Result<Lack, Errno>
-        requires { SawEach self.now.layers (old.now ∷ (new.now ∷ [])) looks }
-        ensures { (c : ℕ) → TellsLack self.now c (Call.Rename old.now new.now) result }
-    {
-        let (from, onto) = looks.both();
-        let from_near = from.saw_parents(&self.layers);
-        let onto_near = onto.saw_parents(&self.layers);
-        let moving = match self.judge_rename(old, new, from, onto) {
-            Ok(Some(moving)) => moving,
-            Ok(None) => return Ok(Lack::Nothing),
-            Err(errno) => return Err(errno),
-        };
-        let file = found_file(&self.layers, self.metacopy, &moving.found);
-        Ok(lack_on_both(&self.layers, old, new, (from_near, onto_near), file))
-    }
-}
-
-// Whether an open writes, or makes its file where there is none.
-fn may_change(flags: OpenFlags) -> bool
-    ensures { result ≡ (flags.writes || flags.create) }
-{
-    flags.writes || flags.create
 }
 
 // What is lacking on the way to a path, where its parents weren't seen in the upper, and else a

@@ -12,6 +12,7 @@ use Rattle.notice_laws.specs.Steps.{alters}
 use Rattle.mount_calls.specs.declared.attribute_changes.AttributeCall.{AttributeCall}
 use Rattle.mount_calls.specs.declared.attribute_changes.AttributeCall.TheVariants as asks
 use Rattle.mount_calls.specs.AttributeCalls.{call_at}
+use Rattle.mount_calls.specs.LeftMarks.{LeavesMarks}
 
 -- each alters what stands at its path
 pub asked-alters : (p : Path) (x : AttributeCall) → alters p (call_at p x)
@@ -19,6 +20,14 @@ asked-alters p (asks.Mode mode) = refl
 asked-alters p (asks.Owner uid gid) = refl
 asked-alters p (asks.Set name value) = refl
 asked-alters p (asks.Delete name) = refl
+
+-- of the marks in the upper none owes anything
+pub marks-altered : (p : Path) (x : AttributeCall) (old new : Layers) →
+    LeavesMarks (call_at p x) old new
+marks-altered p (asks.Mode mode) old new = tt
+marks-altered p (asks.Owner uid gid) old new = tt
+marks-altered p (asks.Set name value) old new = tt
+marks-altered p (asks.Delete name) old new = tt
 
 -- a file of the upper that is shown at a path is under the key of what the upper holds there
 pub held-key : (l : Layers) (p : Path) (key : ℕ) → number_of (held (upper_of l) p) ≡ Some key → (j : ℕ) (last : Bool) → IsObject (upper_of l) (lowers_of l) p (object.Upper j last) → key ≡ j

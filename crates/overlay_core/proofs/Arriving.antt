@@ -32,7 +32,7 @@ use Rattle.notice_laws.proofs.Clients.{law_of_begun, law_of_joined}
 use Rattle.notifier.specs.Notifying.{IsAsBefore}
 use Rattle.mount_calls.specs.declared.mount.Mount.{Mount}
 use Rattle.mount_calls.specs.Attaching.{Attaches, TakesBack}
-use Rattle.mount_calls.specs.States.{IsStateOf, StaysState}
+use Rattle.mount_calls.specs.States.{IsStateOf}
 use Rattle.mount_calls.proofs.Coming.{back-same}
 use Rattle.overlay_core.specs.Watching.{Agrees, BeginsWith, Goes, HasState, Stays}
 use Rattle.overlay_core.proofs.Watching.{tracks-same, mount_upper}
@@ -104,11 +104,6 @@ as-before U s k l h t = record {
   heard = subst₂ (λ o es. AreAllAlike (stands_for o t.bearers) es s.instances) (sym h.objects) (sym h.instances) t.heard;
   renames = h.renames ∙ t.renames;
 }
-
--- where the mount stands for the same states and has the same layers, each state that agreed agrees still
-pub stays-same : (old new : Mount) (k : Notified) → StaysState old new → new.layers ≡ old.layers → Stays old k new k
-stays-same old new k h same s a =
-    record { stands = h s a.stands; settled = a.settled; one = a.one; tracks = tracks-same old new s k same a.tracks }
 
 -- a client that came and was taken back leaves what there was
 pub taken-back : (old mid new : Mount) (k l : Notified) (c : ℕ) → mid ≡ record old { clients = mid.clients } → new ≡ record mid { clients = new.clients } →

@@ -6,11 +6,12 @@ pub mod Arriving
 pub mod Leaving
 pub mod Bare
 pub mod Lifted
+pub mod Lifts
 pub mod Altering
 pub mod Uses
-pub mod Making
 pub mod NeverRefused
 pub mod WatchCalls
+pub mod Making
 pub mod ArmCalls
 pub mod ArmFaults
 pub mod Arming
@@ -22,10 +23,12 @@ pub mod Renamed
 pub mod MovesFree
 pub mod MovesHeld
 pub mod RenamesTold
+pub mod Planned
 pub mod Agreeing
 pub mod Driving
 pub mod TempFits
 pub mod NextSteps
+pub mod Looked
 pub mod StepsMade
 pub mod KeptTemps
 pub mod Histories

@@ -1,5 +1,5 @@
 -- Calls that a mount made, and what is kept for watches then.
-use Rattle.std.proofs.Common.{◌≡◌, ◌≢◌, ℕ, true, false, Some, Result, Ok, Err, refl, sym, ap, subst}
+use Rattle.std.proofs.Common.{◌≡◌, ℕ, true, false, Some, Result, Ok, Err, refl, sym, ap, subst}
 use Rattle.std.specs.Prelude.{IfOk, IsErr, OnErr}
 use Rattle.std.specs.declared.alloc.AllocError.{AllocError}
 use Rattle.ov_base.specs.declared.call.Call.{Call}
@@ -9,30 +9,25 @@ use Rattle.ov_base.specs.declared.reply.Reply.TheVariants.{Done, Refused}
 use Rattle.plain_model.specs.Watching.{Rule}
 use Rattle.plain_model.specs.Machine.{State}
 use Rattle.plain_model.specs.Refusals.{refusal}
-use Rattle.plain_model.specs.Replies.{reply_of}
 use Rattle.plain_model.specs.Runs.{Called}
 use Rattle.merged_lookup.specs.Merged.{lowers_of}
 use Rattle.notice_laws.specs.Notified.{Passes, Resumes}
 use Rattle.notice_laws.specs.Steps.{IsSilent, keeps_handles}
 use Rattle.mount_calls.specs.declared.mount.Mount.{Mount}
 use Rattle.mount_calls.specs.Attaching.{is_attached}
+use Rattle.mount_calls.specs.Lacks.{may_lack}
 use Rattle.mount_calls.specs.LeftMarks.{LeavesMarks}
 use Rattle.mount_calls.specs.Making.{MakesCall, TellsCall, TellsEach}
 use Rattle.mount_calls.specs.States.{IsStateOf}
 use Rattle.mount_calls.proofs.LeftMarks.{marks-none}
-use Rattle.mount_calls.proofs.MakingCalls.{attached-same, makes-nothing, makes-read, makes-unmade}
-use Rattle.mount_calls.proofs.Named.{is_refused}
+use Rattle.mount_calls.proofs.MakingCalls.{attached-same, makes-nothing, makes-read}
 use Rattle.overlay_core.specs.declared.watched.Watched.{Watched}
 use Rattle.overlay_core.specs.Performing.{Performs}
 use Rattle.overlay_core.specs.Watching.{Agrees, Goes, Keeps, Stays}
-use Rattle.overlay_core.proofs.Performing.{goes-done, goes-refused, keeps-same, kept-by, performed-by}
+use Rattle.overlay_core.proofs.Performing.{goes-done, keeps-same, kept-by, performed-by}
 use Rattle.overlay_core.proofs.Uses.{goes-silent}
+use Rattle.overlay_core.proofs.WatchCalls.{goes-refused}
 use Rattle.overlay_core.proofs.Watching.{stays, mount_upper}
-
--- a call of which nothing is owed leaves that, whatever came of it
-pub marks-unit : (result : Result Reply AllocError) → IfOk result (λ r. r ≡ Done → Unit {0})
-marks-unit (Ok r) = λ is. tt
-marks-unit (Err e) = tt
 
 module _ {F G : Type 0} {shows : Rule} where
   -- a call is made as what it is
@@ -68,26 +63,38 @@ module _ {F G : Type 0} {shows : Rule} where
       subst (λ x. Performs shows c k old new (Ok x)) is
       (performs-told m (goes-done shows c k r old.mount new.mount old.notifier (performed-by there m) new.notifier is resumes) (λ done. marks))
 
+  -- one for which memory ran out notifies nobody
+  pub performs-lost : {c : ℕ} {k : Call} {old new : Watched F G}
+      (result : Result Reply AllocError) → IsErr result →
+      Stays old.mount old.notifier new.mount new.notifier → Keeps k old.mount new.mount →
+      Performs shows c k old new result
+  performs-lost (Ok r) wrong stays kept = let no : false ≡ true = wrong in absurd (cc)
+  performs-lost (Err e) wrong stays kept =
+      record { goes = tt; refused = tt; marks = tt; no_memory = stays; kept = kept }
+
+  -- one that is refused changes nothing
+  pub performs-judged : {c : ℕ} {k : Call} {old : Watched F G} (e : Errno) →
+      is_attached old.mount.clients c ≡ true → may_lack k ≡ true →
+      ((s : State) → IsStateOf old.mount s → refusal s c k ≡ Some e) →
+      Performs shows c k old old (Ok (Refused e))
+  performs-judged {c} {k} {old} e there may refuses = record {
+    goes = goes-refused shows old.mount old.notifier c k e there (λ s a. refuses s a.stands);
+    refused = λ f is. refl;
+    marks = λ is. let no : Refused e ≡ Done = is in cc;
+    no_memory = tt;
+    kept = keeps-same k old.mount;
+  }
+
   module _ {c : ℕ} {k : Call} {old : Watched F G} {new : Mount} where
-    -- one for which memory ran out leaves what is kept for watches
+    -- one for which memory ran out in the mount leaves what is kept for watches
     pub performs-out : {e : AllocError} → MakesCall c k old.mount new (Err e) → (result : Result Reply AllocError) → IsErr result →
         Performs shows c k old (record old { mount = new }) result
-    performs-out m (Ok r) wrong = let no : false ≡ true = wrong in absurd (cc)
-    performs-out m (Err f) wrong = record {
-      goes = tt;
-      refused = tt;
-      marks = tt;
-      no_memory = stays old.mount new old.notifier old.notifier m.no_memory.states m.no_memory.live (λ s t. t);
-      kept = kept-by m;
-    }
+    performs-out m result wrong =
+        performs-lost result wrong
+        (stays old.mount new old.notifier old.notifier m.no_memory.states m.no_memory.live (λ s t. t))
+        (kept-by m)
 
-    -- so does one that the machine answers that it is done, and that isn't: it was refused
-    pub performs-refused : (r : Reply) → is_attached old.mount.clients c ≡ true → MakesCall c k old.mount new (Ok r) →
-        ((s : State) → reply_of s c k ≡ Done) → r ≢ Done → Performs shows c k old (record old { mount = new }) (Ok r)
-    performs-refused r there m answers isnt =
-        performs-told m (goes-refused shows c k r old.mount new old.notifier (performed-by there m) answers isnt) (λ is. absurd (isnt is))
-
-    -- and one that tells nothing
+    -- so does one that tells nothing
     pub performs-silent : is_attached old.mount.clients c ≡ true → keeps_handles k ≡ true → ((s : State) → IsSilent s c k) →
         (result : Result Reply AllocError) → MakesCall c k old.mount new result → LeavesMarks k old.mount.layers new.layers →
         Performs shows c k old (record old { mount = new }) result
@@ -95,19 +102,7 @@ module _ {F G : Type 0} {shows : Rule} where
         performs-told m (goes-silent shows c k r old.mount new old.notifier (performed-by there m) keeps (λ s st fine. silent s)) (λ is. marks)
     performs-silent there keeps silent (Err e) m marks = performs-out m (Err e) refl
 
-  -- one that was judged and refused changes nothing
-  pub performs-judged : {c : ℕ} {k : Call} {old : Watched F G} (e : Errno) →
-      is_attached old.mount.clients c ≡ true →
-      ((s : State) → reply_of s c k ≡ Done) →
-      ((s : State) → IsStateOf old.mount s → (d : ℕ) → refusal s d k ≡ Some e) →
-      Performs shows c k old old (Ok (Refused e))
-  performs-judged {c} {k} {old} e there answers refuses =
-      performs-refused (Refused e) there
-      (makes-unmade c k old.mount old.mount.layers e (λ s. ap is_refused (answers s))
-      (λ s st. refuses s st c) refl) answers
-      (λ same. let no : Refused e ≡ Done = same in cc)
-
-  -- and so does one that only asks
+  -- and one that only asks
   pub performs-asked : {c : ℕ} {k : Call} {old : Watched F G} → is_attached old.mount.clients c ≡ true →
       keeps_handles k ≡ true → ((s : State) → IsSilent s c k) → (result : Result Reply AllocError) →
       IfOk result (TellsCall c k old.mount) → LeavesMarks k old.mount.layers old.mount.layers → Performs shows c k old old result

@@ -5,7 +5,6 @@ use Rattle.std.proofs.lemmas.Bool.{false≢true}
 use mathlib.Core.Logic.{∥∥₁_elim}
 use mathlib.Core.Bool.{Bool-set}
 use mathlib.Core.HLevel.{⊥_prop}
-use Rattle.ov_base.specs.declared.call.Call.{Call}
 use Rattle.ov_base.specs.declared.call.Call.TheVariants.{Open}
 use Rattle.ov_base.specs.declared.call.OpenFlags.{OpenFlags}
 use Rattle.ov_base.specs.declared.errno.Errno.{Errno}
@@ -14,9 +13,7 @@ use Rattle.ov_base.specs.declared.node_id.NodeId.{NodeId}
 use Rattle.ov_base.specs.declared.node_id.NodeId.TheVariants.{New}
 use Rattle.plain_model.specs.Layers.{Layer, Path, Shown, is_directory, shows}
 use Rattle.plain_model.specs.Tree.{node_at}
-use Rattle.ov_base.specs.declared.reply.Reply.TheVariants.{Refused}
-use Rattle.plain_model.specs.Watching.{On, Rule}
-use Rattle.plain_model.specs.Runs.{Called}
+use Rattle.plain_model.specs.Watching.{On}
 use Rattle.plain_model.specs.Machine.{State, handle_of, lowest_free}
 use Rattle.plain_model.specs.Refusals.{bad_flags, bad_mode, refusal, when}
 use Rattle.plain_model.specs.Settling as settling
@@ -43,14 +40,13 @@ use Rattle.notifier.specs.Opening.{HoldsBoth, HoldsWay, IsBack}
 use Rattle.mount_calls.specs.declared.mount.Mount.{Mount}
 use Rattle.mount_calls.specs.Attaching.{is_attached, opened_by}
 use Rattle.mount_calls.specs.States.{IsStateOf}
-use Rattle.mount_calls.proofs.Answering.{serve-refused}
 use Rattle.mount_calls.proofs.Openings.{lowest-there}
 use Rattle.mount_calls.proofs.Serving.{slot-closed}
 use Rattle.mount_calls.specs.FreeDescriptors.{IsLowestFree}
-use Rattle.overlay_core.specs.Watching.{Agrees, Goes, HasState}
+use Rattle.overlay_core.specs.Watching.{Agrees, HasState}
 use Rattle.overlay_core.proofs.Arriving.{any-forth}
 use Rattle.overlay_core.proofs.Leaving.{free-tracked}
-use Rattle.overlay_core.proofs.Performing.{goes-never, known-room}
+use Rattle.overlay_core.proofs.Performing.{known-room}
 use Rattle.overlay_core.proofs.Shown.{directory-no-link, directory-some, none-some}
 use Rattle.overlay_core.proofs.Watching.{mount_upper}
 
@@ -176,17 +172,3 @@ back-agrees m s from to known back a = record {
   one = a.one;
   tracks = back-tracks (mount_upper m) s from to known back a.tracks;
 }
-
--- an open that the machine refuses in each state, and the mount too, goes so
-pub goes-refused-open : (rule : Rule) (c : ℕ) (k : Call) (e : Errno) (m : Mount) (from : Notified) → is_attached m.clients c ≡ true →
-    ((s : State) → IsStateOf m s → refusal s c k ≡ Some e) → Goes rule m from c (Called k (Refused e)) m from
-goes-refused-open rule c k e m from there refused =
-    goes-never rule c k (Refused e) m m from
-    (record {
-      there = there;
-      serves = λ s st. serve-refused (refusal s c k) s c k e m (refused s st) st;
-      lowers = refl;
-      named = λ s st fine. absurd (let no : Some e ≡ None = sym (refused s st) ∙ fine in cc);
-      refused = λ f is. refl;
-    })
-    (λ s a fine. let no : Some e ≡ None = sym (refused s a.stands) ∙ fine in cc)

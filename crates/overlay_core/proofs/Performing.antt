@@ -1,6 +1,6 @@
 -- Calls that a mount makes and that answer that they are done, and what is kept for watches then.
-use Rattle.std.proofs.Common.{◌≡◌, ◌≢◌, ℕ, true, None, IsSome, is_some, refl, sym, ap, subst, ◌∙◌}
-use Rattle.std.specs.Prelude.{IfOk, OnErr, Result, Ok, Err}
+use Rattle.std.proofs.Common.{◌≡◌, ℕ, true, None, IsSome, is_some, refl, sym, ap, subst, ◌∙◌}
+use Rattle.std.specs.Prelude.{OnErr, Result, Ok, Err}
 use Rattle.std.specs.declared.alloc.AllocError.{AllocError}
 use mathlib.Core.Logic.{∥∥₁_map}
 use Rattle.ov_base.specs.declared.call.Call.{Call}
@@ -24,8 +24,8 @@ use Rattle.mount_calls.specs.Living.{KeepsNamed}
 use Rattle.mount_calls.specs.Making.{MakesCall}
 use Rattle.mount_calls.specs.States.{HasStateOf, IsStateOf, Serves}
 use Rattle.mount_calls.proofs.Frames.{same-layers}
-use Rattle.overlay_core.specs.Watching.{Agrees, Goes, HasState, Keeps}
-use Rattle.overlay_core.proofs.Watching.{goes, passes, tracks-same, mount_upper}
+use Rattle.overlay_core.specs.Watching.{Agrees, Goes, HasState, Keeps, Stays}
+use Rattle.overlay_core.proofs.Watching.{goes, passes, mount_upper}
 
 -- what a call says that a mount made, and answered so
 pub record Performed (c : ℕ) (k : Call) (r : Reply) (old new : Mount) : Type 0 where
@@ -61,19 +61,6 @@ module _ (shows : Rule) (c : ℕ) (k : Call) (r : Reply) (old new : Mount) (from
   pub goes-done : (to : Notified) → r ≡ Done → ((s : State) → (a : Agrees old from s) → Passes (mount_upper old) (mount_upper new) (lowers_of old.layers) s c k → Resumes shows (mount_upper new) s c k to) → Goes shows old from c (Called k r) new to
   goes-done to is resumes = goes shows c k r old new from to done.there done.serves (λ s a e not. absurd (let no : Done ≡ Refused e = sym is ∙ not in cc)) (λ s a fine. resumes s a (passing s a fine))
 
-  -- a call that the machine answers that it is done, and that isn't, is refused and leaves all
-  pub goes-refused : ((s : State) → reply_of s c k ≡ Done) → r ≢ Done → Goes shows old from c (Called k r) new from
-  goes-refused answers isnt =
-      goes shows c k r old new from from done.there done.serves (λ s a e is. tracks-same old new s from (done.refused e is) a.tracks)
-      (λ s a fine. absurd (isnt (answered s c k r new fine (done.serves s a.stands) ∙ answers s)))
-
--- a call that is always refused leaves what is tracked
-pub goes-never : (rule : Rule) (c : ℕ) (k : Call) (r : Reply) (old new : Mount) (from : Notified) → Performed c k r old new →
-    ((s : State) → Agrees old from s → refusal s c k ≢ None) → Goes rule old from c (Called k r) new from
-goes-never rule c k r old new from done never =
-    goes rule c k r old new from from done.there done.serves (λ s a e at. tracks-same old new s from (done.refused e at) a.tracks)
-    (λ s a fine. absurd (never s a fine))
-
 -- what such a call keeps
 pub kept-by : {c : ℕ} {k : Call} {old new : Mount} {result : Result Reply AllocError} → MakesCall c k old new result → Keeps k old new
 kept-by m = record { clients = m.attached; layers = m.layers; lowers = m.lowers; thin = m.thin }
@@ -82,11 +69,6 @@ kept-by m = record { clients = m.attached; layers = m.layers; lowers = m.lowers;
 pub performed-by : {c : ℕ} {k : Call} {old new : Mount} {r : Reply} → is_attached old.clients c ≡ true → MakesCall c k old new (Ok r) →
     Performed c k r old new
 performed-by there m = record { there = there; serves = m.answers.serves; lowers = m.lowers; named = m.answers.named; refused = m.answers.refused }
-
--- a call goes as what it is
-pub goes-as : {E : Type 0} (rule : Rule) (c : ℕ) (k j : Call) (result : Result Reply E) (old new : Mount) (from to : Notified) → k ≡ j →
-    IfOk result (λ r. Goes rule old from c (Called j r) new to) → IfOk result (λ r. Goes rule old from c (Called k r) new to)
-goes-as rule c k j result old new from to is h = subst (λ i. IfOk result (λ r. Goes rule old from c (Called i r) new to)) (sym is) h
 
 -- what holds where a call wanted memory
 pub on-err : {A E : Type 0} (r : Result A E) (P : Type 0) → P → OnErr r P
@@ -105,11 +87,13 @@ module _ (old : Notified) (objects : Objects) (same : SameSpots old.objects obje
     ways = λ c fd (h : TrackedHandle) (w : Way) is way. known-spot w.directory (known.ways c fd h w is way);
   }
 
-  -- and agrees with what it agreed with
-  pub agrees-room : (m : Mount) (s : State) → Agrees m old s → Agrees m (record old { objects = objects }) s
-  agrees-room m s a = record {
-    stands = a.stands;
-    settled = a.settled;
-    one = a.one;
-    tracks = law_of_fewer_numbers (mount_upper m) s old a.tracks objects (λ n spot is. sym (same.spots n) ∙ is) known-room;
-  }
+-- and agrees with what it agreed with
+pub stays-room : (m : Mount) (from mid : Notified) → SameSpots from.objects mid.objects → AreKnown from →
+    mid ≡ record from { objects = mid.objects } → Stays m from m mid
+stays-room m from mid same known rest s a = subst (λ k. Agrees m k s) (sym rest) (record {
+  stands = a.stands;
+  settled = a.settled;
+  one = a.one;
+  tracks = law_of_fewer_numbers (mount_upper m) s from a.tracks mid.objects (λ n spot is. sym (same.spots n) ∙ is)
+      (known-room from mid.objects same known);
+})

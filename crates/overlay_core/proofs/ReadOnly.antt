@@ -1,6 +1,5 @@
 -- Where nothing may be written: what is done agrees with the plain machine's read-only states, too.
 use Rattle.std.proofs.Common.{◌≡◌, ℕ, suc, Bool, true, false, List, [], ◌∷◌, map, Option, None, Some, refl, sym, ap, ◌∙◌, subst}
-use Rattle.std.proofs.lemmas.Bool.{false≢true}
 use mathlib.Core.Logic.{∥∥₁_map}
 use Rattle.ov_base.specs.declared.call.Call.{Call}
 use Rattle.ov_base.specs.declared.call.Call.TheVariants as call
@@ -106,10 +105,6 @@ module _ (m n : Mount) (k l : Notified) where
         let g = goes s (subst (Agrees m k) (is-writable s a.1) a.0) in
         let there : g.0.options.read_only ≡ false = g.2.stands.layers.writable in
         (g.0, g.1, (subst (Agrees n l) (sym (is-writable g.0 there)) g.2, there))
-
-    pub goes-as : (b : Bool) → b ≡ false → Goes shows m k c deed n l → GoesAs b shows m k c deed n l
-    goes-as true e goes = absurd (false≢true (sym e))
-    goes-as false e goes = goes-writing goes
 
     -- and what is no call goes as it does in each
     pub goes-free : (b : Bool) → ((s : State) → ReadsAlone shows c s deed) → Goes shows m k c deed n l → GoesAs b shows m k c deed n l

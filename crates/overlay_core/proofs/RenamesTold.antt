@@ -27,10 +27,8 @@ use Rattle.std.proofs.Common.{
 use Rattle.std.proofs.lemmas.Bool.{cases_lt}
 use mathlib.Core.Logic.{∥∥₁_elim}
 use mathlib.Core.HLevel.{⊥_prop}
-use Rattle.ov_base.specs.declared.call.Call.{Call}
 use Rattle.ov_base.specs.declared.call.Call.TheVariants.{Rename}
 use Rattle.ov_base.specs.declared.errno.Errno.{Errno}
-use Rattle.ov_base.specs.declared.reply.Reply.{Reply}
 use Rattle.ov_base.specs.declared.reply.Reply.TheVariants.{Done, Refused}
 use Rattle.plain_model.specs.Layers.{Layer, Path}
 use Rattle.plain_model.specs.Watching.{Rule}
@@ -61,11 +59,6 @@ use Rattle.overlay_core.proofs.MovesHeld.{few-clients, gone-tracks, ready-tracks
 use Rattle.overlay_core.proofs.Performing.{Performed, goes-done, passing}
 use Rattle.overlay_core.proofs.Renamed.{nothing-below}
 use Rattle.overlay_core.proofs.Watching.{allowed-by, goes, stays, mount_upper}
-
--- a call that is a rename goes as that
-pub as-called : (rule : Rule) (c : ℕ) (k : Call) (p q : Path) (r : Reply) (old new : Mount) (from to : Notified) → k ≡ Rename p q →
-    Goes rule old from c (Called (Rename p q) r) new to → Goes rule old from c (Called k r) new to
-as-called rule c k p q r old new from to call goes = subst (λ j. Goes rule old from c (Called j r) new to) (sym call) goes
 
 -- each client's handles can be counted
 pub clients-counted : (m : Mount) (from : Notified) → ∥ HasState m from ∥₁ → 64 * length (clients_of from.handles) < 2 ^ 64

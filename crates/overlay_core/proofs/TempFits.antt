@@ -1,8 +1,6 @@
 -- What the steps of a job leave: temps that are beginnings of their files, and the mount as it was.
-use Rattle.std.proofs.Common.{arith, mul-zero, ◌≡◌, ℕ, ◌*◌, ◌<◌, ◌≤◌, ◌⊎◌, inl, inr, Bool, true, false, cond, nat_lt, List, [], length, take, Option, None, Some, option_map, unwrap_or, refl, sym, ap, ◌∙◌, subst}
+use Rattle.std.proofs.Common.{arith, mul-zero, ◌≡◌, ℕ, ◌*◌, ◌<◌, ◌⊎◌, inl, inr, Bool, true, false, cond, nat_lt, List, [], length, take, Option, None, Some, option_map, unwrap_or, refl, sym, ap, subst}
 use Rattle.std.specs.Option.{ForSome}
-use Rattle.std.proofs.lemmas.Bool.{ltb-true}
-use Rattle.std.proofs.lemmas.List.{take_all, length-take}
 use Rattle.plain_model.specs.Layers.{Layer}
 use Rattle.work_dir.specs.Beginnings.{Beginning, empty_beginning, longer_beginning}
 use Rattle.work_dir.specs.OpenJobs.{job_at, temp_of, of_client, unless_of, of_chunks, is_of, held, closed_any, Changes, Same}
@@ -61,25 +59,7 @@ pub forgotten-fit : (lowers : List Layer) (old new : List (Option OpenJob)) (cli
 forgotten-fit lowers old new client gone temps n =
     subst (FitsJob lowers) (sym (gone n)) (unless-fits lowers client (job_at old n) (temps n))
 
--- THE TEMP THAT A JOB HOLDS is one that it began, with as many chunks as it counts
-pub held-begun : (work : List (Option OpenJob)) (j : Job) (t : Beginning) → held_by work j ≡ Some t →
-    (0 < j.begins) × (t.chunks ≡ j.chunks)
-held-begun work j t e = by (nat_lt 0 j.begins) refl e
-  where
-    chunks : (o : Option Beginning) → of_chunks j.chunks o ≡ Some t → t.chunks ≡ j.chunks
-    chunks None h = cc
-    chunks (Some x) h = grind arith
-
-    counted : (n : Option ℕ) → held work n j.client j.chunks ≡ Some t → t.chunks ≡ j.chunks
-    counted None h = cc
-    counted (Some n) h = chunks (temp_of (of_client j.client (job_at work n))) h
-
-    by : (b : Bool) → nat_lt 0 j.begins ≡ b → cond b (held work j.number j.client j.chunks) None ≡ Some t →
-        (0 < j.begins) × (t.chunks ≡ j.chunks)
-    by true some h = (ltb-true 0 j.begins some, counted j.number h)
-    by false none h = cc
-
--- and is one of those that are kept
+-- THE TEMP THAT A JOB HOLDS is one of those that are kept
 pub held-fits : (lowers : List Layer) (work : List (Option OpenJob)) (j : Job) → AreTemps lowers work →
     ForSome (held_by work j) (IsTemp lowers)
 held-fits lowers work j temps t e = by (nat_lt 0 j.begins) e
@@ -122,14 +102,6 @@ module _ (lowers : List Layer) (t : Beginning) (fits : IsTemp lowers t) where
   -- with a chunk more it is one still
   pub longer-fits : IsTemp lowers (longer_beginning t)
   longer-fits = (fits.0, refl)
-
-  -- one that has as many bytes as its file has them all
-  pub temp-whole : length t.whole ≤ length t.bytes → bytes_at lowers t.source ≡ Some t.bytes
-  temp-whole covers =
-      let many : length t.whole ≤ length (take copied t.whole) =
-      subst (λ (y : List ℕ). length t.whole ≤ length y) fits.1 covers in
-      let most : length t.whole ≤ copied = omega (arith, many, length-take copied t.whole) in
-      fits.0 ∙ ap Some (sym (fits.1 ∙ take_all copied t.whole most))
 
   -- one that has fewer bytes than its file has fewer chunks than a file may have
   pub temp-few : length t.bytes < length t.whole → t.chunks < CHUNKS_MAX

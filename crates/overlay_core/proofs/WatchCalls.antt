@@ -71,12 +71,6 @@ disarm-goes shows m old new c number there has known disarmed =
     serves s a = subst (λ o. Serves o s c (Disarm number) Done m)
         (sym (disarm-refusal s c number true (same-watch m old s c number a ∙ has))) (refl, with-instances m s s.instances a.stands)
 
--- more notices than there can be are refused
-pub taking-refused : (shows : Rule) (m : Mount) (k : Notified) (c count : ℕ) → is_attached m.clients c ≡ true → nat_lt 65 count ≡ true →
-    Goes shows m k c (Called (TakeNotices count) (Refused EINVAL)) m k
-taking-refused shows m k c count there many =
-    goes-refused shows m k c (TakeNotices count) EINVAL there (λ s a. taking-refusal s c count true many)
-
 -- not above a bound
 not-above : (count : ℕ) → count ≤ 65 → nat_lt 65 count ≡ false
 not-above count few = elim (cases_Bool (nat_lt 65 count)) [

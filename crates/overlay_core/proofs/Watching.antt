@@ -1,5 +1,5 @@
 -- What a call of a mount says to the laws of watches, and what these make of its agreement with a state.
-use Rattle.std.proofs.Common.{◌≡◌, ◌≢◌, ℕ, Bool, true, false, List, Option, None, Some, refl, sym, ap, ◌∙◌, subst}
+use Rattle.std.proofs.Common.{◌≡◌, ◌≢◌, ℕ, Bool, true, false, List, Option, None, Some, refl, sym, ◌∙◌, subst}
 use Rattle.ov_base.specs.declared.bytes.Content.TheVariants.{File, SymbolicLink}
 use Rattle.ov_base.specs.declared.call.Call.{Call}
 use Rattle.ov_base.specs.declared.call.Call.TheVariants as call
@@ -154,14 +154,6 @@ answers s c (call.Close d) = refl
 answers s c (call.Arm slot p mask) = refl
 answers s c (call.Disarm number) = refl
 answers s c (call.TakeNotices n) = refl
-
--- a call that is served with a refusal is refused by the machine
-pub refused-by : (s : State) (c : ℕ) (k : Call) (r : Reply) (new : Mount) (e : Errno) → Serves (refusal s c k) s c k r new → r ≡ Refused e → refusal s c k ≡ Some e
-refused-by s c k r new e h is = by (refusal s c k) refl h
-  where
-    by : (o : Option Errno) → refusal s c k ≡ o → Serves o s c k r new → refusal s c k ≡ Some e
-    by (Some f) at g = at ∙ ap Some (cc)
-    by None at g = absurd (let no : true ≡ false = ap refuses (sym is ∙ g.0) ∙ answers s c k in cc)
 
 -- and one that is served with anything else isn't
 pub allowed-by : (s : State) (c : ℕ) (k : Call) (r : Reply) (new : Mount) → Serves (refusal s c k) s c k r new → ((e : Errno) → r ≢ Refused e) → refusal s c k ≡ None

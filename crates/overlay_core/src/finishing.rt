@@ -14,7 +14,7 @@ ghost use Rattle.overlay_core.specs.Watching.{HasState};
 use crate::job::{Job, Standing};
 use crate::turn::Turn;
 use crate::watched::Watched;
-use mount_calls::{LookedPaths, Looks, looked_paths};
+use mount_calls::Looks;
 use ov_base::Reply;
 use std::alloc::AllocError;
 use watch_table::{Callback, Rule};
@@ -38,35 +38,8 @@ pub(crate) fn plain<F: Callback, R: Rule>(watched: &mut Watched<F, R>, job: &mut
     ended(job, outcome)
 }
 
-// The step that makes any other call, by what its paths show.
-pub(crate) fn finish<F: Callback, R: Rule>(watched: &mut Watched<F, R>, job: &mut Job) -> Turn
-    requires open { job.old.standing ≡ Standing.Open }
-    requires attached { is_attached watched.old.mount.clients job.old.client ≡ true }
-    requires state { ∥ HasState watched.old.mount watched.old.notifier ∥₁ }
-    requires may { lacks.may_lack job.old.call ≡ true }
-    ensures makes { (work : List (Option OpenJob)) (next : Next) (t : Option Beginning) →
-        IsLast next → AreTemps (lowers_of watched.old.mount.layers) work →
-        Makes watched.old watched.new work work job.old job.new R.shows result next t }
-    ensures stepped { IsStepped job.old job.new }
-    ensures allowed { FailsAllowed result watched.old.mount watched.old.notifier job.old }
-    ensures over { result ≢ Turn.More }
-{
-    match looked_paths(job.call()) {
-        LookedPaths::None => unreachable!(),
-        LookedPaths::One(path) => {
-            let look = watched.mount.look(path);
-            finish_seen(watched, job, Looks::One(&look))
-        }
-        LookedPaths::Both(old, new) => {
-            let from = watched.mount.look(old);
-            let onto = watched.mount.look(new);
-            finish_seen(watched, job, Looks::Both(&from, &onto))
-        }
-    }
-}
-
-// `finish` by what was seen already.
-pub(crate) fn finish_seen<F: Callback, R: Rule>(
+// The step that makes any other call at once, by what its paths were seen to show.
+pub(crate) fn finish<F: Callback, R: Rule>(
     watched: &mut Watched<F, R>,
     job: &mut Job,
     looks: Looks<'_>,
@@ -83,12 +56,17 @@ pub(crate) fn finish_seen<F: Callback, R: Rule>(
     ensures allowed { FailsAllowed result watched.old.mount watched.old.notifier job.old }
     ensures over { result ≢ Turn.More }
 {
-    let outcome = watched.perform(job.client(), job.call(), looks);
-    ended(job, outcome)
+    match watched.mount.plan(job.client(), job.call(), looks) {
+        Ok(plan) => {
+            let outcome = watched.carry_out(job.client(), plan);
+            ended(job, outcome)
+        }
+        Err(errno) => ended(job, Ok(Reply::Refused(errno))),
+    }
 }
 
 // Ends a job by what its call came to.
-fn ended(job: &mut Job, outcome: Result<Reply, AllocError>) -> Turn
+pub(crate) fn ended(job: &mut Job, outcome: Result<Reply, AllocError>) -> Turn
     requires open { job.old.standing ≡ Standing.Open }
     ensures ends { EndsBy job.new outcome result }
     ensures stepped { IsStepped job.old job.new }

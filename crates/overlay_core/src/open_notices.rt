@@ -1,19 +1,18 @@
 // What opens tell: those of what stands at a path, and those that make a file.
-ghost use Rattle.std.specs.Prelude.{◌≡◌, ◌≢◌, true, IfOk, None, OnErr, OnOk};
-ghost use Rattle.plain_model.specs.Machine.{State};
-ghost use Rattle.plain_model.specs.Refusals.{refusal};
+ghost use Rattle.std.specs.Prelude.{◌≡◌, ◌≢◌, true, OnErr, OnOk};
 ghost use Rattle.plain_model.specs.Runs.{Called};
 ghost use Rattle.merged_lookup.specs.Merged.{upper_of, lowers_of};
 ghost use Rattle.notice_laws.specs.declared.object.Object.TheVariants as stands;
 ghost use Rattle.notice_laws.specs.Objects.{IsObject};
 ghost use Rattle.mount_calls.specs.Attaching.{is_attached};
 ghost use Rattle.mount_calls.specs.Looking.{IsJudged, IsLook};
-ghost use Rattle.overlay_core.specs.Watching.{Agrees, Goes, HasState, Keeps, Stays};
+ghost use Rattle.overlay_core.specs.Performing.{Performs};
+ghost use Rattle.overlay_core.specs.Watching.{Goes, HasState, Keeps, Stays};
 
 use crate::watched::Watched;
 use mount_calls::{Judged, Look};
 use notice_laws::Object;
-use ov_base::{Call, Errno, OpenFlags, Path, Reply};
+use ov_base::{Call, OpenFlags, Path, Reply};
 use std::alloc::AllocError;
 use watch_table::{Callback, Rule};
 
@@ -97,32 +96,24 @@ impl<F: Callback, R: Rule> Watched<F, R> {
         }
     }
 
-    /// Opens what was seen at a path, or makes a file there, and notifies its directory and the
-    /// object. An open that is refused takes no memory.
+    /// Opens what was seen at a path, or makes a file there, as it was judged, and notifies its
+    /// directory and the object.
     pub(crate) fn open(
         &mut self,
         client: u64,
         path: &Path,
         look: &Look,
         flags: OpenFlags,
-        mode: u32,
+        judged: Judged,
     ) -> Result<Reply, AllocError>
         requires there { is_attached self.old.mount.clients client ≡ true }
         requires state { ∥ HasState self.old.mount self.old.notifier ∥₁ }
         requires look { IsLook self.old.mount.layers path.now look.now }
-        ensures goes { IfOk result (λ reply. Goes R.shows self.old.mount self.old.notifier client (Called (Call.Open path.now flags mode) reply) self.new.mount self.new.notifier) }
-        ensures err { OnErr result (Stays self.old.mount self.old.notifier self.new.mount self.new.notifier) }
-        ensures kept { Keeps (Call.Open path.now flags mode) self.old.mount self.new.mount }
-        ensures refused { IfOk result (λ reply. (errno : Errno) → reply ≡ Reply.Refused errno → self.new.mount.layers ≡ self.old.mount.layers) }
-        ensures allowed { OnErr result ((s : State) →
-            Agrees self.old.mount self.old.notifier s →
-            refusal s client (Call.Open path.now flags mode) ≡ None) }
+        requires judged { IsJudged self.old.mount client path.now flags judged }
+        ensures { Performs R.shows client (Call.Open path.now flags judged.mode) self.old self.new
+            result }
     {
         let object = self.mount.object_seen(look);
-        let judged = match self.mount.judge_open(client, look, flags, mode) {
-            Ok(judged) => judged,
-            Err(errno) => return Ok(Reply::Refused(errno)),
-        };
         let descriptor = judged.descriptor;
         let Object::Other = object else {
             self.open_there(client, path, look, flags, judged, object)?;

@@ -5,12 +5,12 @@ ghost use Rattle.plain_model.specs.Refusals.{refusal};
 ghost use Rattle.mount_calls.specs.Attaching.{is_attached};
 ghost use Rattle.mount_calls.specs.Keeping.{takes_no_memory};
 ghost use Rattle.mount_calls.specs.Lacks.{may_lack};
-ghost use Rattle.mount_calls.specs.Looking.{AreLooks};
+ghost use Rattle.mount_calls.specs.Plans.{call_of, IsPlanned};
 ghost use Rattle.overlay_core.specs.Performing.{Performs};
 ghost use Rattle.overlay_core.specs.Watching.{Agrees, HasState};
 
 use crate::watched::Watched;
-use mount_calls::{AttributeCall, Looks};
+use mount_calls::Plan;
 use ov_base::{Call, Reply};
 use std::alloc::AllocError;
 use watch_table::{Callback, Rule};
@@ -54,67 +54,65 @@ impl<F: Callback, R: Rule> Watched<F, R> {
         }
     }
 
-    /// Makes any other call, with what its paths were seen to show.
-    pub fn perform(
-        &mut self,
-        client: u64,
-        call: &Call,
-        looks: Looks<'_>,
-    ) -> Result<Reply, AllocError>
+    /// Carries out any other call, as it was planned, and notifies of it. An allocation failure
+    /// leaves all that is shown as it was, and notifies nobody.
+    pub fn carry_out(&mut self, client: u64, plan: Plan<'_>) -> Result<Reply, AllocError>
         requires there { is_attached self.old.mount.clients client ≡ true }
         requires state { ∥ HasState self.old.mount self.old.notifier ∥₁ }
-        requires may { may_lack call.now ≡ true }
-        requires looks { AreLooks self.old.mount.layers call.now looks }
-        ensures performs { Performs R.shows client call.now self.old self.new result }
-        ensures allowed { OnErr result ((s : State) →
-            Agrees self.old.mount self.old.notifier s → refusal s client call.now ≡ None) }
+        requires planned { IsPlanned self.old.mount client plan }
+        ensures { Performs R.shows client (call_of plan.entry) self.old self.new result }
     {
-        match call {
-            Call::Chmod { path, mode } => {
-                let look = looks.one();
-                self.alter(client, path, look, AttributeCall::Mode(*mode))
-            }
-            Call::Chown { path, uid, gid } => {
-                let look = looks.one();
-                self.alter(client, path, look, AttributeCall::Owner(*uid, *gid))
-            }
-            Call::SetAttribute { path, name, value } => {
-                let look = looks.one();
-                self.alter(client, path, look, AttributeCall::Set(name, value))
-            }
-            Call::DeleteAttribute { path, name } => {
-                let look = looks.one();
-                self.alter(client, path, look, AttributeCall::Delete(name))
-            }
-            Call::Mkdir { path, mode } => {
-                let look = looks.one();
-                self.mkdir(client, path, look, *mode)
-            }
-            Call::Symlink { target, path } => {
-                let look = looks.one();
-                self.symlink(client, target, path, look)
-            }
-            Call::Open { path, flags, mode } => {
-                let look = looks.one();
-                self.open(client, path, look, *flags, *mode)
-            }
-            Call::Unlink { path } => {
-                let look = looks.one();
-                self.unlink(client, path, look)
-            }
-            Call::Rmdir { path } => {
-                let look = looks.one();
-                self.rmdir(client, path, look)
-            }
-            Call::Hardlink { old, new } => {
-                let (from, onto) = looks.both();
-                self.link(client, old, new, from, onto, call)
-            }
-            Call::Rename { old, new } => {
-                let (from, onto) = looks.both();
-                self.rename(client, old, new, from, onto, call)
-            }
-            _ => unreachable!(),
+        match plan {
+            Plan::Alter {
+                path,
+                look,
+                found,
+                ask,
+            } => self.alter(client, path, look, found, ask),
+            Plan::Mkdir {
+                path,
+                directory,
+                mode,
+                ..
+            } => self.mkdir(client, path, directory, mode),
+            Plan::Symlink {
+                path,
+                directory,
+                target,
+                ..
+            } => self.symlink(client, target, path, directory),
+            Plan::Open {
+                path,
+                look,
+                flags,
+                judged,
+            } => self.open(client, path, look, flags, judged),
+            Plan::Unlink {
+                path,
+                directory,
+                place,
+                ..
+            } => self.unlink(client, path, directory, place),
+            Plan::Rmdir {
+                path,
+                look,
+                directory,
+            } => self.rmdir(client, path, look, directory),
+            Plan::Link {
+                old,
+                new,
+                from,
+                found,
+                ..
+            } => self.link(client, old, new, from, found),
+            Plan::Rename {
+                old,
+                new,
+                from,
+                onto,
+                moving,
+            } => self.rename(client, old, new, from, onto, moving),
+            Plan::Nothing { .. } => Ok(Reply::Done),
         }
     }
 }

@@ -14,11 +14,11 @@ ghost use Rattle.overlay_core.specs.Reading.{Reads};
 ghost use Rattle.overlay_core.specs.Steps.{IsStepped};
 ghost use Rattle.overlay_core.specs.Watching.{AgreesAs, HasState};
 
-use crate::finishing::finish_seen;
+use crate::finishing::ended;
 use crate::job::{Job, Standing};
 use crate::turn::Turn;
 use crate::watched::Watched;
-use mount_calls::{LookedPaths, Looks, Mount, looked_paths, may_lack};
+use mount_calls::{LookedPaths, Looks, looked_paths, may_lack};
 use ov_base::{Errno, Reply};
 use watch_table::{Callback, Rule};
 
@@ -76,34 +76,12 @@ fn answer_seen<F: Callback, R: Rule>(
         AgreesAs true watched.old.mount watched.old.notifier s →
         refusal s job.old.client job.old.call ≡ None }
 {
-    match refused(&watched.mount, job, looks) {
-        Some(errno) => {
-            job.end(Standing::Answered);
-            Turn::Done(Reply::Refused(errno))
+    match watched.mount.plan(job.client(), job.call(), looks) {
+        Ok(plan) if plan.writes() => ended(job, Ok(Reply::Refused(Errno::EROFS))),
+        Ok(plan) => {
+            let outcome = watched.carry_out(job.client(), plan);
+            ended(job, outcome)
         }
-        None => finish_seen(watched, job, looks),
-    }
-}
-
-// Why the call of a job is refused where nothing may be written, as its looks saw it.
-fn refused(mount: &Mount, job: &Job, looks: Looks<'_>) -> Option<Errno>
-    requires attached { is_attached mount.now.clients job.now.client ≡ true }
-    requires may { lacks.may_lack job.now.call ≡ true }
-    requires looks { AreLooks mount.now.layers job.now.call looks }
-    ensures refused { IfSome result (λ e. (s : State) → IsStateOf mount.now (writable s) →
-        s.options.read_only ≡ true → refusal s job.now.client job.now.call ≡ Some e) }
-    ensures allowed { result ≡ None → changed_paths (upper_of mount.now.layers)
-        (lowers_of mount.now.layers) job.now.call ≡ [] }
-    ensures reads { result ≡ None → (s : State) → IsStateOf mount.now (writable s) →
-        (refusal s job.now.client job.now.call ≡ None) × (writes s job.now.call ≡ false) }
-{
-    match mount.lack(job.client(), job.call(), looks) {
-        Err(errno) => Some(errno),
-        Ok(_) => {
-            if mount.writes(job.call(), looks) {
-                return Some(Errno::EROFS);
-            }
-            None
-        }
+        Err(errno) => ended(job, Ok(Reply::Refused(errno))),
     }
 }

@@ -15,6 +15,7 @@ ghost use Rattle.mount_calls.specs.Keeping.{takes_no_memory};
 ghost use Rattle.mount_calls.specs.Lacks as lacks;
 ghost use Rattle.mount_calls.specs.Lacks.{lack_size, CanBeHad};
 ghost use Rattle.mount_calls.specs.Looking.{AreLooks};
+ghost use Rattle.mount_calls.specs.Plans.{call_of, IsPlanned};
 ghost use Rattle.mount_calls.specs.States.{IsStateOf};
 ghost use Rattle.overlay_core.specs.Placing.{PlacesFor};
 ghost use Rattle.overlay_core.specs.Steps as steps;
@@ -23,13 +24,13 @@ ghost use Rattle.overlay_core.specs.Temps.{AreTemps, IsTemp};
 ghost use Rattle.overlay_core.specs.Waits.{WaitsForAny};
 ghost use Rattle.overlay_core.specs.Watching.{Agrees, HasState};
 
-use crate::finishing::{finish, finish_seen, plain};
+use crate::finishing::{ended, finish, plain};
 use crate::job::{Job, Standing};
 use crate::turn::Turn;
 use crate::waiting::{Waiting, copies_on};
 use crate::watched::Watched;
-use mount_calls::{LookedPaths, Looks, Mount, looked_paths, may_lack};
-use ov_base::Place;
+use mount_calls::{LookedPaths, Looks, Mount, Plan, looked_paths};
+use ov_base::{Place, Reply};
 use std::alloc::AllocError;
 use watch_table::{Callback, Rule};
 use work_dir::{Lack, Next, OpenJob, Temp, WorkDir, next_after};
@@ -65,37 +66,11 @@ pub(crate) fn step<F: Callback, R: Rule>(
     }
     waiting.clear();
     watched.mount.remember(job.call());
-    if !may_lack(job.call()) {
-        let_go(work, job);
-        return plain(watched, job);
-    }
-    step_seen(watched, work, waiting, job)
-}
-
-// Makes the next step of a job whose call may lack something, by what its paths show.
-fn step_seen<F: Callback, R: Rule>(
-    watched: &mut Watched<F, R>,
-    work: &mut WorkDir,
-    waiting: &mut Vec<Waiting>,
-    job: &mut Job,
-) -> Turn
-    requires open { job.old.standing ≡ Standing.Open }
-    requires attached { is_attached watched.old.mount.clients job.old.client ≡ true }
-    requires state { ∥ HasState watched.old.mount watched.old.notifier ∥₁ }
-    requires may { lacks.may_lack job.old.call ≡ true }
-    requires temps { AreTemps (lowers_of watched.old.mount.layers) work.old }
-    requires none { waiting.old.items ≡ [] }
-    ensures waits { WaitsForAny watched.new.mount waiting.new.items }
-    ensures makes { (next : Next) × ((s : State) → IsStateOf watched.old.mount s →
-        next_by watched.old.mount job.old (held_by work.old job.old)
-        (refusal s job.old.client job.old.call) ≡ next)
-        × Makes watched.old watched.new (without work.old job.old) work.new job.old job.new
-        R.shows result next (held_by work.old job.old) }
-    ensures stepped { IsStepped job.old job.new }
-    ensures allowed { FailsAllowed result watched.old.mount watched.old.notifier job.old }
-{
     match looked_paths(job.call()) {
-        LookedPaths::None => unreachable!(),
+        LookedPaths::None => {
+            let_go(work, job);
+            plain(watched, job)
+        }
         LookedPaths::One(path) => {
             let look = watched.mount.look(path);
             step_by(watched, work, waiting, job, Looks::One(&look))
@@ -108,7 +83,7 @@ fn step_seen<F: Callback, R: Rule>(
     }
 }
 
-// `step_seen` by what its paths showed.
+// Makes the next step of a job whose call may lack something, by what its paths were seen to show.
 fn step_by<F: Callback, R: Rule>(
     watched: &mut Watched<F, R>,
     work: &mut WorkDir,
@@ -132,18 +107,18 @@ fn step_by<F: Callback, R: Rule>(
     ensures stepped { IsStepped job.old job.new }
     ensures allowed { FailsAllowed result watched.old.mount watched.old.notifier job.old }
 {
-    if watched.mount.has_all(job.call(), looks) {
-        let_go(work, job);
-        return finish_seen(watched, job, looks);
-    }
-    match next_step(&watched.mount, job, looks, temp_of(work, job)) {
-        Next::Finish => {
+    let plan = match watched.mount.plan(job.client(), job.call(), looks) {
+        Ok(plan) => plan,
+        Err(errno) => {
             let_go(work, job);
-            finish_seen(watched, job, looks)
+            return ended(job, Ok(Reply::Refused(errno)));
         }
-        Next::AtOnce => {
+    };
+    match next_step(&watched.mount, job, &plan, temp_of(work, job)) {
+        Next::Finish | Next::AtOnce => {
             let_go(work, job);
-            finish_seen(watched, job, looks)
+            let outcome = watched.carry_out(job.client(), plan);
+            ended(job, outcome)
         }
         Next::Place { second, count } => {
             let temp = held(work, job);
@@ -178,10 +153,18 @@ pub(crate) fn make<F: Callback, R: Rule>(
 {
     let_go(work, job);
     watched.mount.remember(job.call());
-    if !may_lack(job.call()) {
-        return plain(watched, job);
+    match looked_paths(job.call()) {
+        LookedPaths::None => plain(watched, job),
+        LookedPaths::One(path) => {
+            let look = watched.mount.look(path);
+            finish(watched, job, Looks::One(&look))
+        }
+        LookedPaths::Both(old, new) => {
+            let from = watched.mount.look(old);
+            let onto = watched.mount.look(new);
+            finish(watched, job, Looks::Both(&from, &onto))
+        }
     }
-    finish(watched, job)
 }
 
 // Ends what is kept of a job, with its temp.
@@ -214,24 +197,18 @@ fn temp_of<'a>(work: &'a WorkDir, job: &Job) -> Option<&'a Temp>
     }
 }
 
-// The next step of a job that holds this temp, where its call may lack something, by what its looks
-// saw.
-fn next_step(mount: &Mount, job: &Job, looks: Looks<'_>, temp: Option<&Temp>) -> Next
-    requires attached { is_attached mount.now.clients job.now.client ≡ true }
-    requires may { lacks.may_lack job.now.call ≡ true }
-    requires looks { AreLooks mount.now.layers job.now.call looks }
+// The next step of a job that holds this temp, by what its call came to.
+fn next_step(mount: &Mount, job: &Job, plan: &Plan<'_>, temp: Option<&Temp>) -> Next
+    requires planned { IsPlanned mount.now job.now.client plan.now }
+    requires call { call_of plan.now ≡ job.now.call }
     ensures next { (s : State) → IsStateOf mount.now s →
         next_by mount.now job.now (option_copied temp.entry)
         (refusal s job.now.client job.now.call) ≡ result }
     ensures due { IsNext mount.now job.now (option_copied temp.entry) result }
 {
-    match mount.lack(job.client(), job.call(), looks) {
-        Ok(lack) => {
-            let size = size_of(mount, lack);
-            next_after(lack, job.placings(), job.begins(), temp, size)
-        }
-        Err(_errno) => Next::Finish,
-    }
+    let lack = mount.lack(plan);
+    let size = size_of(mount, lack);
+    next_after(lack, job.placings(), job.begins(), temp, size)
 }
 
 // Notes the open of a job that lacks this file, for its next steps, where there is memory for it.

@@ -1,41 +1,98 @@
-use Rattle.std.proofs.Common.{sym, subst}
+use Rattle.std.proofs.Common.{[], ◌∷◌, sym, ◌∙◌, subst}
+use Rattle.std.proofs.lemmas.Bool.{false≢true}
 use Rattle.merged_lookup.specs.Merged.{lowers_of}
 use Rattle.work_dir.specs.declared.next.Next.TheVariants.{Finish}
 use Rattle.overlay_core.specs.Steps.{held_by, without}
 use Rattle.overlay_core.specs.Watching.{Agrees}
+use Rattle.overlay_core.proofs.Looked.{none-looked, some-looked}
+use Rattle.overlay_core.proofs.NextSteps.{plain-memory}
 use Rattle.overlay_core.proofs.StepsMade.{made-over}
 use Rattle.overlay_core.proofs.stepping.make.Goals as goal
-
-pub finish-requires-clause-state : goal.finish-requires-clause-state
-finish-requires-clause-state g c = rw c.remember.ensures c.requires.state
 
 pub plain-requires-clause-state : goal.plain-requires-clause-state
 plain-requires-clause-state g c = rw c.remember.ensures c.requires.state
 
-pub returns-then-not-may_lack-clause-makes : goal.returns-then-not-may_lack-clause-makes
-returns-then-not-may_lack-clause-makes g c =
-    made-over g.R.Rule.shows c.args.watched.now c.plain.new.watched c.remember.new.self
-    (without c.args.work.now c.args.job.now) c.let_go.new.work c.let_go.new.work
-    c.args.job.now c.plain.new.job c.plain.result Finish (held_by c.args.work.now c.args.job.now)
-    c.remember.ensures c.let_go.ensures.table
-    (c.plain.ensures.makes c.let_go.new.work Finish (held_by c.args.work.now c.args.job.now) tt
-    (rw c.remember.ensures (c.let_go.ensures.temps (lowers_of c.args.watched.now.mount.layers) c.requires.temps)))
+pub plain-requires-clause-plain : goal.plain-requires-clause-plain
+plain-requires-clause-plain g c =
+    none-looked c.args.job.now.call (rw c.call-2.ensures at c.in-None.ensures)
 
-pub returns-clause-makes : goal.returns-clause-makes
-returns-clause-makes g c =
-    made-over g.R.Rule.shows c.args.watched.now c.finish.new.watched c.remember.new.self
-    (without c.args.work.now c.args.job.now) c.let_go.new.work c.let_go.new.work
-    c.args.job.now c.finish.new.job c.finish.result Finish (held_by c.args.work.now c.args.job.now)
-    c.remember.ensures c.let_go.ensures.table
-    (c.finish.ensures.makes c.let_go.new.work Finish (held_by c.args.work.now c.args.job.now) tt
-    (rw c.remember.ensures (c.let_go.ensures.temps (lowers_of c.args.watched.now.mount.layers) c.requires.temps)))
+pub finish-requires-clause-state : goal.finish-requires-clause-state
+finish-requires-clause-state g c = rw c.remember.ensures c.requires.state
 
-pub returns-then-not-may_lack-clause-allowed : goal.returns-then-not-may_lack-clause-allowed
-returns-then-not-may_lack-clause-allowed g c = λ is s a.
+pub finish-requires-clause-may : goal.finish-requires-clause-may
+finish-requires-clause-may g c =
+    some-looked c.args.job.now.call c.in-One.path.now []
+    (rw c.call-2.ensures at c.in-One.ensures)
+
+pub finish-requires-in-Both-clause-state : goal.finish-requires-in-Both-clause-state
+finish-requires-in-Both-clause-state g c = rw c.remember.ensures c.requires.state
+
+pub finish-requires-in-Both-clause-may : goal.finish-requires-in-Both-clause-may
+finish-requires-in-Both-clause-may g c =
+    some-looked c.args.job.now.call c.in-Both.old.now (c.in-Both.new.now ∷ [])
+    (rw c.call-2.ensures at c.in-Both.ensures)
+
+pub returns-in-None-clause-makes : goal.returns-in-None-clause-makes
+returns-in-None-clause-makes g c =
+    let old = c.args.watched.now in
+    let j = c.args.job.now in
+    let t = held_by c.args.work.now j in
+    made-over g.R.Rule.shows old c.plain.new.watched c.remember.new.self
+    (without c.args.work.now j) c.let_go.new.work c.let_go.new.work j c.plain.new.job c.plain.result
+    Finish t c.remember.ensures c.let_go.ensures.table
+    (c.plain.ensures.makes c.let_go.new.work Finish t tt
+    (rw c.remember.ensures
+    (c.let_go.ensures.temps (lowers_of old.mount.layers) c.requires.temps)))
+
+pub returns-in-None-clause-allowed : goal.returns-in-None-clause-allowed
+returns-in-None-clause-allowed g c = λ is s a.
     c.plain.ensures.allowed is s (subst (λ m. Agrees m c.args.watched.now.notifier s)
     (sym c.remember.ensures) a)
 
-pub returns-clause-allowed : goal.returns-clause-allowed
-returns-clause-allowed g c = λ is s a.
+pub returns-in-One-clause-makes : goal.returns-in-One-clause-makes
+returns-in-One-clause-makes g c =
+    let old = c.args.watched.now in
+    let j = c.args.job.now in
+    let t = held_by c.args.work.now j in
+    made-over g.R.Rule.shows old c.finish.new.watched c.remember.new.self
+    (without c.args.work.now j) c.let_go.new.work c.let_go.new.work j c.finish.new.job
+    c.finish.result
+    Finish t c.remember.ensures c.let_go.ensures.table
+    (c.finish.ensures.makes c.let_go.new.work Finish t tt
+    (rw c.remember.ensures
+    (c.let_go.ensures.temps (lowers_of old.mount.layers) c.requires.temps)))
+
+pub returns-in-One-clause-allowed : goal.returns-in-One-clause-allowed
+returns-in-One-clause-allowed g c = λ is s a.
     c.finish.ensures.allowed is s (subst (λ m. Agrees m c.args.watched.now.notifier s)
     (sym c.remember.ensures) a)
+
+pub returns-in-Both-clause-makes : goal.returns-in-Both-clause-makes
+returns-in-Both-clause-makes g c =
+    let old = c.args.watched.now in
+    let j = c.args.job.now in
+    let t = held_by c.args.work.now j in
+    made-over g.R.Rule.shows old c.finish-in-Both.new.watched c.remember.new.self
+    (without c.args.work.now j) c.let_go.new.work c.let_go.new.work j c.finish-in-Both.new.job
+    c.finish-in-Both.result
+    Finish t c.remember.ensures c.let_go.ensures.table
+    (c.finish-in-Both.ensures.makes c.let_go.new.work Finish t tt
+    (rw c.remember.ensures
+    (c.let_go.ensures.temps (lowers_of old.mount.layers) c.requires.temps)))
+
+pub returns-in-Both-clause-allowed : goal.returns-in-Both-clause-allowed
+returns-in-Both-clause-allowed g c = λ is s a.
+    c.finish-in-Both.ensures.allowed is s (subst (λ m. Agrees m c.args.watched.now.notifier s)
+    (sym c.remember.ensures) a)
+
+pub returns-in-One-clause-memory : goal.returns-in-One-clause-memory
+returns-in-One-clause-memory g c = λ none is.
+    false≢true (sym (plain-memory c.args.job.now.call none)
+    ∙ some-looked c.args.job.now.call c.in-One.path.now []
+    (rw c.call-2.ensures at c.in-One.ensures))
+
+pub returns-in-Both-clause-memory : goal.returns-in-Both-clause-memory
+returns-in-Both-clause-memory g c = λ none is.
+    false≢true (sym (plain-memory c.args.job.now.call none)
+    ∙ some-looked c.args.job.now.call c.in-Both.old.now (c.in-Both.new.now ∷ [])
+    (rw c.call-2.ensures at c.in-Both.ensures))

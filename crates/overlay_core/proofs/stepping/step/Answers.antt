@@ -1,4 +1,5 @@
-use Rattle.std.proofs.Common.{◌≡◌, option_copied, slice_get, refl, sym, ap, ◌∙◌, subst}
+use Rattle.std.proofs.Common.{◌≡◌, false, [], ◌∷◌, option_copied, slice_get}
+use Rattle.std.proofs.Common.{refl, sym, ap, ◌∙◌, subst}
 use Rattle.std.specs.Option.{ForSome}
 use Rattle.std.proofs.lemmas.Bool.{false≢true}
 use Rattle.plain_model.specs.Refusals.{refusal}
@@ -9,6 +10,7 @@ use Rattle.overlay_core.specs.Steps.{held_by, lack_by, without, IsNext}
 use Rattle.overlay_core.specs.declared.turn.Turn.TheVariants.{More, NoMemory}
 use Rattle.overlay_core.specs.Waits.{WaitsFor}
 use Rattle.overlay_core.specs.Watching.{Agrees}
+use Rattle.overlay_core.proofs.Looked.{none-looked, some-looked}
 use Rattle.overlay_core.proofs.NextSteps.{next-ready, plain-lacks, plain-memory}
 use Rattle.overlay_core.proofs.StepsMade.{step-made}
 use Rattle.overlay_core.proofs.stepping.step.Goals as goal
@@ -16,11 +18,31 @@ use Rattle.overlay_core.proofs.stepping.step.Goals as goal
 pub plain-requires-clause-state : goal.plain-requires-clause-state
 plain-requires-clause-state g c = rw c.remember.ensures c.requires.state
 
-pub step_seen-requires-clause-state : goal.step_seen-requires-clause-state
-step_seen-requires-clause-state g c = rw c.remember.ensures c.requires.state
+pub plain-requires-clause-plain : goal.plain-requires-clause-plain
+plain-requires-clause-plain g c =
+    none-looked c.args.job.now.call (rw c.call-2.ensures at c.in-None.ensures)
 
-pub step_seen-requires-clause-temps : goal.step_seen-requires-clause-temps
-step_seen-requires-clause-temps g c = rw c.remember.ensures c.requires.temps
+pub step_by-requires-clause-state : goal.step_by-requires-clause-state
+step_by-requires-clause-state g c = rw c.remember.ensures c.requires.state
+
+pub step_by-requires-clause-may : goal.step_by-requires-clause-may
+step_by-requires-clause-may g c =
+    some-looked c.args.job.now.call c.in-One.path.now []
+    (rw c.call-2.ensures at c.in-One.ensures)
+
+pub step_by-requires-clause-temps : goal.step_by-requires-clause-temps
+step_by-requires-clause-temps g c = rw c.remember.ensures c.requires.temps
+
+pub step_by-requires-in-Both-clause-state : goal.step_by-requires-in-Both-clause-state
+step_by-requires-in-Both-clause-state g c = rw c.remember.ensures c.requires.state
+
+pub step_by-requires-in-Both-clause-may : goal.step_by-requires-in-Both-clause-may
+step_by-requires-in-Both-clause-may g c =
+    some-looked c.args.job.now.call c.in-Both.old.now (c.in-Both.new.now ∷ [])
+    (rw c.call-2.ensures at c.in-Both.ensures)
+
+pub step_by-requires-in-Both-clause-temps : goal.step_by-requires-in-Both-clause-temps
+step_by-requires-in-Both-clause-temps g c = rw c.remember.ensures c.requires.temps
 
 pub copy-requires-clause-due : goal.copy-requires-clause-due
 copy-requires-clause-due g c =
@@ -53,43 +75,96 @@ pub returns-then-copies_on-clause-plain : goal.returns-then-copies_on-clause-pla
 returns-then-copies_on-clause-plain g c = λ plain.
     absurd (false≢true (sym plain ∙ c.if-copies_on.ensures.may refl))
 
-pub returns-then-not-may_lack-clause-makes : goal.returns-then-not-may_lack-clause-makes
-returns-then-not-may_lack-clause-makes g c =
+pub returns-in-None-clause-makes : goal.returns-in-None-clause-makes
+returns-in-None-clause-makes g c =
     let m = c.remember.new.self in
     let j = c.args.job.now in
     let t = held_by c.args.work.now j in
+    let none = none-looked j.call (rw c.call-2.ensures at c.in-None.ensures) in
     step-made g.R.Rule.shows c.args.watched.now c.plain.new.watched m (without c.args.work.now j)
     c.let_go.new.work c.let_go.new.work j c.plain.new.job c.plain.result Finish t t t
     c.remember.ensures c.let_go.ensures.table refl refl
     (λ s st.
     next-ready (refusal s j.client j.call) (lack_by m j) j.placings j.begins t (lack_size (lowers_of m.layers) (lack_by m j))
     (λ fine.
-    plain-lacks (upper_of m.layers) (lowers_of m.layers) m.metacopy j.call c.may_lack.result
-    (rw c.call-2.ensures at c.may_lack.ensures) c.if-not-may_lack.true))
+    plain-lacks (upper_of m.layers) (lowers_of m.layers) m.metacopy j.call false (sym none) refl))
     (c.plain.ensures.makes c.let_go.new.work Finish t tt
-    (rw c.remember.ensures (c.let_go.ensures.temps (lowers_of c.args.watched.now.mount.layers) c.requires.temps)))
+    (rw c.remember.ensures
+    (c.let_go.ensures.temps (lowers_of c.args.watched.now.mount.layers) c.requires.temps)))
 
-pub returns-clause-makes : goal.returns-clause-makes
-returns-clause-makes g c =
-    let made = c.step_seen.ensures.makes in
+pub returns-in-One-clause-makes : goal.returns-in-One-clause-makes
+returns-in-One-clause-makes g c =
+    let made = c.step_by.ensures.makes in
     let work = c.args.work.now in
     let j = c.args.job.now in
     let t = held_by work j in
-    step-made g.R.Rule.shows c.args.watched.now c.step_seen.new.watched c.remember.new.self
-    (without work j) (without work j) c.step_seen.new.work j c.step_seen.new.job
-    c.step_seen.result made.0 t t t
+    step-made g.R.Rule.shows c.args.watched.now c.step_by.new.watched c.remember.new.self
+    (without work j) (without work j) c.step_by.new.work j c.step_by.new.job
+    c.step_by.result made.0 t t t
+    c.remember.ensures refl refl refl made.1 made.2
+
+pub returns-in-Both-clause-makes : goal.returns-in-Both-clause-makes
+returns-in-Both-clause-makes g c =
+    let made = c.step_by-in-Both.ensures.makes in
+    let work = c.args.work.now in
+    let j = c.args.job.now in
+    let t = held_by work j in
+    step-made g.R.Rule.shows c.args.watched.now c.step_by-in-Both.new.watched c.remember.new.self
+    (without work j) (without work j) c.step_by-in-Both.new.work j c.step_by-in-Both.new.job
+    c.step_by-in-Both.result made.0 t t t
     c.remember.ensures refl refl refl made.1 made.2
 
 pub returns-then-copies_on-clause-allowed : goal.returns-then-copies_on-clause-allowed
 returns-then-copies_on-clause-allowed g c = λ is s a.
     let never : More ≡ NoMemory = sym c.copy.ensures.more ∙ is in absurd (cc)
 
-pub returns-then-not-may_lack-clause-allowed : goal.returns-then-not-may_lack-clause-allowed
-returns-then-not-may_lack-clause-allowed g c = λ is s a.
+pub returns-in-None-clause-allowed : goal.returns-in-None-clause-allowed
+returns-in-None-clause-allowed g c = λ is s a.
     c.plain.ensures.allowed is s (subst (λ m. Agrees m c.args.watched.now.notifier s)
     (sym c.remember.ensures) a)
 
-pub returns-clause-allowed : goal.returns-clause-allowed
-returns-clause-allowed g c = λ is s a.
-    c.step_seen.ensures.allowed is s (subst (λ m. Agrees m c.args.watched.now.notifier s)
+pub returns-in-One-clause-allowed : goal.returns-in-One-clause-allowed
+returns-in-One-clause-allowed g c = λ is s a.
+    c.step_by.ensures.allowed is s (subst (λ m. Agrees m c.args.watched.now.notifier s)
     (sym c.remember.ensures) a)
+
+pub returns-in-Both-clause-allowed : goal.returns-in-Both-clause-allowed
+returns-in-Both-clause-allowed g c = λ is s a.
+    c.step_by-in-Both.ensures.allowed is s (subst (λ m. Agrees m c.args.watched.now.notifier s)
+    (sym c.remember.ensures) a)
+
+pub returns-in-One-clause-memory : goal.returns-in-One-clause-memory
+returns-in-One-clause-memory g c = λ none is.
+    false≢true (sym (plain-memory c.args.job.now.call none)
+    ∙ some-looked c.args.job.now.call c.in-One.path.now []
+    (rw c.call-2.ensures at c.in-One.ensures))
+
+pub returns-in-Both-clause-memory : goal.returns-in-Both-clause-memory
+returns-in-Both-clause-memory g c = λ none is.
+    false≢true (sym (plain-memory c.args.job.now.call none)
+    ∙ some-looked c.args.job.now.call c.in-Both.old.now (c.in-Both.new.now ∷ [])
+    (rw c.call-2.ensures at c.in-Both.ensures))
+
+pub returns-in-One-clause-at_once : goal.returns-in-One-clause-at_once
+returns-in-One-clause-at_once g c = λ plain is.
+    false≢true (sym plain
+    ∙ some-looked c.args.job.now.call c.in-One.path.now []
+    (rw c.call-2.ensures at c.in-One.ensures))
+
+pub returns-in-Both-clause-at_once : goal.returns-in-Both-clause-at_once
+returns-in-Both-clause-at_once g c = λ plain is.
+    false≢true (sym plain
+    ∙ some-looked c.args.job.now.call c.in-Both.old.now (c.in-Both.new.now ∷ [])
+    (rw c.call-2.ensures at c.in-Both.ensures))
+
+pub returns-in-One-clause-plain : goal.returns-in-One-clause-plain
+returns-in-One-clause-plain g c = λ plain.
+    absurd (false≢true (sym plain
+    ∙ some-looked c.args.job.now.call c.in-One.path.now []
+    (rw c.call-2.ensures at c.in-One.ensures)))
+
+pub returns-in-Both-clause-plain : goal.returns-in-Both-clause-plain
+returns-in-Both-clause-plain g c = λ plain.
+    absurd (false≢true (sym plain
+    ∙ some-looked c.args.job.now.call c.in-Both.old.now (c.in-Both.new.now ∷ [])
+    (rw c.call-2.ensures at c.in-Both.ensures)))

@@ -1,66 +1,61 @@
-use Rattle.mount_calls.proofs.Judging.{tells-same}
-use Rattle.mount_calls.proofs.Seen.{looks-of}
+use Rattle.std.proofs.Common.{false, [], ◌∷◌, refl, ap, ◌∙◌}
+use Rattle.mount_laws.specs.Renaming.{is_one}
+use Rattle.plain_model.specs.Layers.{shows}
+use Rattle.mount_calls.specs.Lacks.{copied_file, lack_among}
+use Rattle.mount_calls.proofs.Lacking.{attribute-lack, rename-apart}
+use Rattle.mount_calls.proofs.PlanLacks.{can-by, lack-by, name-lack}
+use Rattle.mount_calls.proofs.Planning.{found-of}
+use Rattle.mount_calls.proofs.Stating.{the_layers, the_lowers, the_upper}
 use Rattle.mount_calls.proofs.mount.Mount.lack.Goals as goal
 
-pub returns-in-Chmod : goal.returns-in-Chmod
-returns-in-Chmod c = tells-same c.args.self.now c.args.client _ _ c.attribute_lack.result c.in-Chmod.is (c.attribute_lack.ensures c.args.client)
+pub found_file-file-requires : goal.found_file-file-requires
+found_file-file-requires c =
+    let found = found-of c.args.self.now c.requires.0 c.args.plan.now _ c.in-Rename.is c.requires.1 in
+    (c.in-Rename.old.now, found.2.shown)
 
-pub returns-in-Chown : goal.returns-in-Chown
-returns-in-Chown c = tells-same c.args.self.now c.args.client _ _ c.attribute_lack-in-Chown.result c.in-Chown.is (c.attribute_lack-in-Chown.ensures c.args.client)
+pub returns-in-Alter-clause-can : goal.returns-in-Alter-clause-can
+returns-in-Alter-clause-can c =
+    let m = c.args.self.now in
+    can-by m c.args.plan.now _ c.attribute_lack.result c.requires c.in-Alter.is
+    (c.attribute_lack.ensures
+    ∙ attribute-lack (the_upper m) (the_lowers m) m.metacopy c.in-Alter.path.now c.in-Alter.ask)
 
-pub returns-in-SetAttribute : goal.returns-in-SetAttribute
-returns-in-SetAttribute c = tells-same c.args.self.now c.args.client _ _ c.attribute_lack-in-SetAttribute.result c.in-SetAttribute.is (c.attribute_lack-in-SetAttribute.ensures c.args.client)
+pub returns-in-Mkdir-clause-can : goal.returns-in-Mkdir-clause-can
+returns-in-Mkdir-clause-can c =
+    let m = c.args.self.now in
+    can-by m c.args.plan.now c.args.plan.now c.parent_lack.result c.requires refl
+    (c.parent_lack.ensures ∙ name-lack m c.args.plan.now c.in-Mkdir.path c.in-Mkdir.look c.in-Mkdir.is)
 
-pub returns-in-DeleteAttribute : goal.returns-in-DeleteAttribute
-returns-in-DeleteAttribute c = tells-same c.args.self.now c.args.client _ _ c.attribute_lack-in-DeleteAttribute.result c.in-DeleteAttribute.is (c.attribute_lack-in-DeleteAttribute.ensures c.args.client)
+pub returns-in-Open-clause-lack : goal.returns-in-Open-clause-lack
+returns-in-Open-clause-lack c =
+    lack-by c.args.self.now c.args.plan.now _ c.open_lack.result c.in-Open.is
+    (c.open_lack.ensures c.in-Open.judged.mode)
 
-pub returns-in-Mkdir : goal.returns-in-Mkdir
-returns-in-Mkdir c = tells-same c.args.self.now c.args.client _ _ c.mkdir_lack.result c.in-Mkdir.is (c.mkdir_lack.ensures c.args.client)
+pub returns-in-Open-clause-can : goal.returns-in-Open-clause-can
+returns-in-Open-clause-can c =
+    can-by c.args.self.now c.args.plan.now _ c.open_lack.result c.requires c.in-Open.is
+    (c.open_lack.ensures c.in-Open.judged.mode)
 
-pub returns-in-Symlink : goal.returns-in-Symlink
-returns-in-Symlink c = tells-same c.args.self.now c.args.client _ _ c.symlink_lack.result c.in-Symlink.is (c.symlink_lack.ensures c.args.client)
+pub returns-in-Link-clause-can : goal.returns-in-Link-clause-can
+returns-in-Link-clause-can c =
+    let m = c.args.self.now in
+    let p = c.in-Link.old.now in
+    let q = c.in-Link.new.now in
+    let found = found-of m c.requires.0 c.args.plan.now _ c.in-Link.is c.requires.1 in
+    can-by m c.args.plan.now _ c.both_lack.result c.requires c.in-Link.is
+    (c.both_lack.ensures
+    ∙ ap (λ d. lack_among (the_upper m) false (p ∷ (q ∷ [])) d)
+    (c.copied_inode-file.ensures p found.2.shown))
 
-pub returns-in-Unlink : goal.returns-in-Unlink
-returns-in-Unlink c = tells-same c.args.self.now c.args.client _ _ c.unlink_lack.result c.in-Unlink.is (c.unlink_lack.ensures c.args.client)
-
-pub returns-in-Rmdir : goal.returns-in-Rmdir
-returns-in-Rmdir c = tells-same c.args.self.now c.args.client _ _ c.rmdir_lack.result c.in-Rmdir.is (c.rmdir_lack.ensures c.args.client)
-
-pub returns-in-Hardlink : goal.returns-in-Hardlink
-returns-in-Hardlink c = tells-same c.args.self.now c.args.client _ _ c.link_lack.result c.in-Hardlink.is (c.link_lack.ensures c.args.client)
-
-pub returns-in-Rename : goal.returns-in-Rename
-returns-in-Rename c = tells-same c.args.self.now c.args.client _ _ c.rename_lack.result c.in-Rename.is (c.rename_lack.ensures c.args.client)
-
-pub attribute_lack-requires : goal.attribute_lack-requires
-attribute_lack-requires c = looks-of _ _ _ _ c.in-Chmod.is c.requires.looks
-
-pub attribute_lack-requires-in-Chown : goal.attribute_lack-requires-in-Chown
-attribute_lack-requires-in-Chown c = looks-of _ _ _ _ c.in-Chown.is c.requires.looks
-
-pub attribute_lack-requires-in-SetAttribute : goal.attribute_lack-requires-in-SetAttribute
-attribute_lack-requires-in-SetAttribute c = looks-of _ _ _ _ c.in-SetAttribute.is c.requires.looks
-
-pub attribute_lack-requires-in-DeleteAttribute : goal.attribute_lack-requires-in-DeleteAttribute
-attribute_lack-requires-in-DeleteAttribute c = looks-of _ _ _ _ c.in-DeleteAttribute.is c.requires.looks
-
-pub mkdir_lack-requires : goal.mkdir_lack-requires
-mkdir_lack-requires c = looks-of _ _ _ _ c.in-Mkdir.is c.requires.looks
-
-pub symlink_lack-requires : goal.symlink_lack-requires
-symlink_lack-requires c = looks-of _ _ _ _ c.in-Symlink.is c.requires.looks
-
-pub unlink_lack-requires : goal.unlink_lack-requires
-unlink_lack-requires c = looks-of _ _ _ _ c.in-Unlink.is c.requires.looks
-
-pub rmdir_lack-requires : goal.rmdir_lack-requires
-rmdir_lack-requires c = looks-of _ _ _ _ c.in-Rmdir.is c.requires.looks
-
-pub link_lack-requires : goal.link_lack-requires
-link_lack-requires c = looks-of _ _ _ _ c.in-Hardlink.is c.requires.looks
-
-pub rename_lack-requires : goal.rename_lack-requires
-rename_lack-requires c = looks-of _ _ _ _ c.in-Rename.is c.requires.looks
-
-pub open_lack-requires-clause-looks : goal.open_lack-requires-clause-looks
-open_lack-requires-clause-looks c = looks-of _ _ _ _ c.in-Open.is c.requires.looks
+pub returns-in-Rename-clause-can : goal.returns-in-Rename-clause-can
+returns-in-Rename-clause-can c =
+    let m = c.args.self.now in
+    let p = c.in-Rename.old.now in
+    let q = c.in-Rename.new.now in
+    let found = found-of m c.requires.0 c.args.plan.now _ c.in-Rename.is c.requires.1 in
+    can-by m c.args.plan.now _ c.both_lack-in-Rename.result c.requires c.in-Rename.is
+    (c.both_lack-in-Rename.ensures
+    ∙ ap (λ d. lack_among (the_upper m) false (p ∷ (q ∷ [])) d)
+    (c.found_file-file.ensures p found.2.shown)
+    ∙ rename-apart (the_upper m) p q (is_one (the_upper m) p q)
+    (copied_file m.metacopy (shows 0 (the_layers m) p)) found.2.apart)

@@ -4,25 +4,17 @@ use Rattle.notice_laws.proofs.Unlinked.{law_of_removed}
 use Rattle.ov_base.specs.declared.call.Call.TheVariants.{Rmdir}
 use Rattle.ov_base.specs.declared.reply.Reply.TheVariants.{Done}
 use Rattle.overlay_core.proofs.Bare.{done-bare, removed-bare}
-use Rattle.overlay_core.proofs.Making.{performs-done, performs-judged, performs-out}
-use Rattle.overlay_core.proofs.Performing.{on-err, performed-by, state-of}
+use Rattle.overlay_core.proofs.Making.{performs-done, performs-out}
+use Rattle.overlay_core.proofs.Performing.{performed-by, state-of}
 use Rattle.overlay_core.proofs.Watching.{mount_upper}
 use Rattle.overlay_core.proofs.watched.Watched.rmdir.Goals as goal
-
-pub returns-in-Err-clause-performs : goal.returns-in-Err-clause-performs
-returns-in-Err-clause-performs g c =
-    performs-judged c.in-Err.errno c.requires.there (λ s. refl) c.in-Err.ensures.refused
 
 pub rmdir-requires-clause-state : goal.rmdir-requires-clause-state
 rmdir-requires-clause-state g c = state-of c.args.self.now.mount c.args.self.now.notifier c.requires.state
 
-pub returns-in_err-rmdir-clause-performs : goal.returns-in_err-rmdir-clause-performs
-returns-in_err-rmdir-clause-performs g c =
+pub returns-in_err-rmdir : goal.returns-in_err-rmdir
+returns-in_err-rmdir g c =
     performs-out (c.in_err-rmdir.ensures.makes c.args.client) c.from_residual.result c.from_residual.ensures.0
-
-pub returns-in_err-rmdir-clause-allowed : goal.returns-in_err-rmdir-clause-allowed
-returns-in_err-rmdir-clause-allowed g c =
-    on-err c.from_residual.result _ (λ s a. c.in-Ok.ensures.allowed s a.stands c.args.client)
 
 pub removed-requires : goal.removed-requires
 removed-requires g c =
@@ -34,8 +26,8 @@ removed-requires g c =
     done-bare client (Rmdir path) Done old new from path (performed-by c.requires.there (c.in_ok-rmdir.ensures.makes client)) refl
     c.requires.state (λ s tracks passes. removed-bare (mount_upper old) s from tracks (mount_upper new) (lowers_of old.layers) client path passes)
 
-pub returns-clause-performs : goal.returns-clause-performs
-returns-clause-performs g c =
+pub returns : goal.returns
+returns g c =
     let old = c.args.self.now.mount in
     let to = c.removed.new.self in
     performs-done Done c.requires.there (c.in_ok-rmdir.ensures.makes c.args.client) refl

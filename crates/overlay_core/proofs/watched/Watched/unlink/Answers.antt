@@ -4,25 +4,14 @@ use Rattle.ov_base.specs.declared.reply.Reply.TheVariants.{Done}
 use Rattle.merged_lookup.specs.Merged.{lowers_of}
 use Rattle.notice_laws.proofs.Unlinked.{law_of_unlinked}
 use Rattle.overlay_core.proofs.Bare.{done-bare, unlinked-bare}
-use Rattle.overlay_core.proofs.Making.{performs-done, performs-judged, performs-out}
-use Rattle.overlay_core.proofs.Performing.{on-err, performed-by}
+use Rattle.overlay_core.proofs.Making.{performs-done, performs-out}
+use Rattle.overlay_core.proofs.Performing.{performed-by}
 use Rattle.overlay_core.proofs.Watching.{mount_upper}
 use Rattle.overlay_core.proofs.watched.Watched.unlink.Goals as goal
 
-pub returns-in-Err-clause-performs : goal.returns-in-Err-clause-performs
-returns-in-Err-clause-performs g c =
-    performs-judged c.in-Err.errno c.requires.there (λ s. refl) c.in-Err.ensures.refused
-
-pub unlink_telling-requires : goal.unlink_telling-requires
-unlink_telling-requires g c = c.in-Ok.ensures.found
-
-pub returns-in_err-object-clause-performs : goal.returns-in_err-object-clause-performs
-returns-in_err-object-clause-performs g c =
+pub returns-in_err-object : goal.returns-in_err-object
+returns-in_err-object g c =
     performs-out (c.in_err-object.ensures.makes c.args.client) c.from_residual.result c.from_residual.ensures.0
-
-pub returns-in_err-object-clause-allowed : goal.returns-in_err-object-clause-allowed
-returns-in_err-object-clause-allowed g c =
-    on-err c.from_residual.result _ (λ s a. c.in-Ok.ensures.allowed s a.stands c.args.client)
 
 pub unlinked-requires : goal.unlinked-requires
 unlinked-requires g c =
@@ -34,8 +23,8 @@ unlinked-requires g c =
     done-bare client (Unlink path) Done old new from path (performed-by c.requires.there (c.in_ok-object.ensures.makes client)) refl
     c.requires.state (λ s tracks passes. unlinked-bare (mount_upper old) s from tracks (mount_upper new) (lowers_of old.layers) client path passes)
 
-pub returns-clause-performs : goal.returns-clause-performs
-returns-clause-performs g c =
+pub returns : goal.returns
+returns g c =
     let said = c.in_ok-object.ensures in
     let client = c.args.client in
     let path = c.args.path.now in

@@ -1,0 +1,18 @@
+use Rattle.std.proofs.Common.{refl}
+use Rattle.ov_base.specs.declared.call.Call.TheVariants as call
+use Rattle.mount_calls.proofs.Planning.{plans-found, plans-refusal}
+use Rattle.mount_calls.proofs.mount.Mount.plan_symlink.Goals as goal
+
+pub returns-in-Ok : goal.returns-in-Ok
+returns-in-Ok c = λ client.
+    let m = c.args.self.now in
+    let p = c.args.path.now in
+    let saw = c.one-look.ensures m.layers p c.requires in
+    plans-found m client (call.Symlink c.args.target.now p) _ refl
+    (saw, c.in-Ok.ensures.found, c.in-Ok.ensures.target)
+    (λ s st. c.in-Ok.ensures.allowed s st client)
+
+pub returns-in-Err : goal.returns-in-Err
+returns-in-Err c = λ client.
+    plans-refusal c.args.self.now client (call.Symlink c.args.target.now c.args.path.now)
+    c.in-Err.errno (λ s st. c.in-Err.ensures.refused s st client)
