@@ -1,6 +1,6 @@
 -- What of a client's steps a receipt claims.
 use Rattle.std.proofs.Common.{◌≡◌, ℕ, ◌+◌, Bool, true, List, [], ◌∷◌, ◌++◌, refl, subst}
-use Rattle.ov_base.specs.declared.call.Call.{Call}
+use Rattle.ov_base.specs.Calls.{Call}
 use Rattle.ov_base.specs.declared.reply.Reply.TheVariants.{Done}
 use Rattle.ov_frames.specs.declared.answer.Answer.{Answer}
 use Rattle.ov_frames.specs.declared.answer.Answer.TheVariants.{Replied}

@@ -2,7 +2,7 @@
 use Rattle.std.proofs.Common.{◌≡◌, ℕ, ◌+◌, Bool, true, List, [], ◌∷◌, Some, refl}
 use Rattle.std.specs.Prelude.{IsSomeAnd, Option, None, slice_get}
 use mathlib.Core.List.{IsPrefix}
-use Rattle.ov_base.specs.declared.call.Call.{Call}
+use Rattle.ov_base.specs.Calls.{Call}
 use Rattle.ov_base.specs.declared.reply.Reply.{Reply}
 use Rattle.ov_base.specs.declared.reply.Reply.TheVariants.{Done}
 use Rattle.ov_frames.specs.declared.answer.Answer.TheVariants.{Replied}

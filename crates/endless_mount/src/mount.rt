@@ -9,7 +9,7 @@ ghost use Rattle.work_dir.specs.declared.limits.TheConstants.{STEPS_MAX};
 use crate::blank::Blank;
 use crate::book::{BookName, Front};
 use crate::recorded::{Answered, Pending, Recorded};
-use locked_history::{Gate, Pass, Refused, Session, tags_of};
+use locked_history::{Gate, Pass, Refused, Session, lock_soon, tags_of};
 use ov_base::{Call, Errno, Reply};
 use overlay_core::{Core, Job};
 use std::alloc::Global;
@@ -76,7 +76,7 @@ impl<N: BookName, F: Callback, R: Rule> EndlessMount<N, F, R> {
         ensures back { IfErr result (λ fault. fault.hooks ≡ hooks) }
     {
         let tags = tags_of(self.alloc, hooks.as_slice()).ok();
-        self.shared.lock(rt).attach(rt, hooks, tags)
+        lock_soon(rt, &self.shared).attach(rt, hooks, tags)
     }
 
     /// Detaches a session's client, hands its hooks back, and gives the place of its entry, which the
@@ -93,7 +93,7 @@ impl<N: BookName, F: Callback, R: Rule> EndlessMount<N, F, R> {
         ensures unseen { OnErr result (seen.new ≡ seen.old) }
         ensures refused { IfErr result (λ why. why ≡ Refused.Session) }
     {
-        self.shared.lock(rt).detach(rt, session, seen)
+        lock_soon(rt, &self.shared).detach(rt, session, seen)
     }
 
     /// Makes a session's call, with the lock taken once for each of its steps, at most 66,049. Before
@@ -128,10 +128,10 @@ impl<N: BookName, F: Callback, R: Rule> EndlessMount<N, F, R> {
         let mut job = Job::new(client, call);
         for step in 1..=STEPS_MAX as u64 {
             if gate.pass(client, step) == Pass::Stop {
-                self.shared.lock(rt).give_up(job);
+                lock_soon(rt, &self.shared).give_up(job);
                 return Err(Refused::Stopped);
             }
-            let made = self.shared.lock(rt).step(rt, *session, job, seen);
+            let made = lock_soon(rt, &self.shared).step(rt, *session, job, seen);
             match made {
                 Ok(Answered { place, reply, call }) => {
                     drop(call);

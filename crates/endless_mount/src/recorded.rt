@@ -9,6 +9,7 @@ ghost use Rattle.overlay_core.specs.Views.{core_clients, core_finished, core_wat
 ghost use Rattle.overlay_core.specs.LegalHistories.{Legally};
 ghost use Rattle.locked_history.specs.Entries.{history_of};
 ghost use Rattle.locked_history.specs.declared.entry.Deed.TheVariants.{Called};
+ghost use Rattle.ov_base.specs.Calls.{Call};
 ghost use Rattle.ov_base.specs.declared.reply.Reply.{Reply};
 ghost use Rattle.endless_mount.specs.Numbered.{NumbersIn};
 

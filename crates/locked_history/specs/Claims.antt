@@ -1,6 +1,6 @@
 -- What a receipt claims, and what a note of a cell knows.
 use Rattle.std.specs.Prelude.{◌≡◌, ℕ, ◌<◌, Bool, false, not, nat_lt, slice_get, Option, Some, List, length, slice_index}
-use Rattle.ov_base.specs.declared.call.Call.{Call}
+use Rattle.ov_base.specs.Calls.{Call}
 use Rattle.ov_base.specs.declared.reply.Reply.{Reply}
 use Rattle.plain_model.specs.Runs as runs
 use Rattle.locked_history.specs.declared.entry.Entry.{Entry}

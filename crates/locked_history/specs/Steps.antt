@@ -1,7 +1,7 @@
 -- When a guarded step is made, and why it is not.
 use Rattle.std.specs.Prelude.{◌≡◌, ◌⊎◌, ℕ, suc, ◌<◌, true, List, count_by, Option, None, Result, Ok, Err}
 use Rattle.plain_model.specs.Runs.{is_of}
-use Rattle.ov_base.specs.declared.call.Call.{Call}
+use Rattle.ov_base.specs.Calls.{Call}
 use Rattle.ov_base.specs.declared.reply.Reply.{Reply}
 use Rattle.work_dir.specs.OpenJobs as jobs
 use Rattle.overlay_core.specs.Jobs.{Advances}

@@ -5,6 +5,7 @@
 mod blank;
 mod entry;
 mod gate;
+mod lock;
 mod locked;
 mod mount;
 mod mount_name;
@@ -16,6 +17,7 @@ mod session;
 pub use blank::Blank;
 pub use entry::{Deed, Entry, tags_of};
 pub use gate::{Gate, Open, Pass};
+pub use lock::lock_soon;
 pub use locked::{Arrival, Locked, Pending};
 pub use mount::Mount;
 pub use mount_name::MountName;

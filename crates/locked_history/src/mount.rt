@@ -9,6 +9,7 @@ ghost use Rattle.work_dir.specs.declared.limits.TheConstants.{STEPS_MAX};
 use crate::blank::Blank;
 use crate::entry::{Deed, Entry, tags_of};
 use crate::gate::{Gate, Pass};
+use crate::lock::lock_soon;
 use crate::locked::{Arrival, Locked, Pending};
 use crate::mount_name::MountName;
 use crate::past::{Past, count_all, leave_past_end};
@@ -83,9 +84,7 @@ impl<N: MountName, F: Callback, R: Rule> Mount<N, F, R> {
         ensures back { IfErr result (λ fault. fault.hooks ≡ hooks) }
     {
         let room = arrival(self.alloc, hooks.as_slice());
-        self.shared
-            .lock(rt)
-            .attach(rt, self.row.as_slice(), hooks, room)
+        lock_soon(rt, &self.shared).attach(rt, self.row.as_slice(), hooks, room)
     }
 
     /// Detaches a session's client, and hands its hooks back. It is refused for its session alone.
@@ -99,9 +98,7 @@ impl<N: MountName, F: Callback, R: Rule> Mount<N, F, R> {
         ensures counted { IfOk result (λ r. r.1.counted ≡ true) }
         ensures refused { IfErr result (λ why. why ≡ Refused.Session) }
     {
-        self.shared
-            .lock(rt)
-            .detach(rt, self.row.as_slice(), session)
+        lock_soon(rt, &self.shared).detach(rt, self.row.as_slice(), session)
     }
 
     /// Makes a session's call, with the lock taken once for each of its steps, at most 66,049. Before
@@ -130,13 +127,11 @@ impl<N: MountName, F: Callback, R: Rule> Mount<N, F, R> {
         let mut room = Box::new(self.alloc, blank_entry()).ok();
         for step in 1..=STEPS_MAX as u64 {
             if gate.pass(client, step) == Pass::Stop {
-                self.shared.lock(rt).give_up(job);
+                lock_soon(rt, &self.shared).give_up(job);
                 return Err(Refused::Stopped);
             }
-            let made = self
-                .shared
-                .lock(rt)
-                .step(rt, self.row.as_slice(), *session, job, room);
+            let row = self.row.as_slice();
+            let made = lock_soon(rt, &self.shared).step(rt, row, *session, job, room);
             match made {
                 Ok(receipt) => {
                     session.number += 1;

@@ -3,7 +3,7 @@ use Rattle.std.proofs.Common.{◌≡◌, ◌↔◌, ℕ, ◌-◌, ◌<◌, Bool,
 use Rattle.std.proofs.lemmas.Bool.{false≢true}
 use Rattle.std.specs.Prelude.{option_map}
 use Rattle.slab.specs.Slab.{get}
-use Rattle.ov_base.specs.declared.call.Call.TheVariants as call
+use Rattle.ov_base.specs.declared.call.CallOf.TheVariants as call
 use Rattle.ov_base.specs.declared.errno.Errno.{Errno}
 use Rattle.ov_base.specs.declared.errno.Errno.TheVariants as errno
 use Rattle.plain_model.specs.Layers.{Name, Path, Object, Named, Whiteout, Inode, Layer, IsLayer, AreLayers, fill, held, below, cuts, Shown, Folder, Contents, shows, through, under, is_directory}

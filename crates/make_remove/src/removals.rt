@@ -1,7 +1,7 @@
 // `unlink` and `rmdir`.
 ghost use Rattle.std.specs.Prelude.{◌≡◌, ◌≢◌, ◌∷◌, List, ℕ, Bool, false, cond, Some, None, option_map, reverse, IfOk, IfErr, OnOk, OnErr};
 ghost use Rattle.std.specs.Option.{option_and_then};
-ghost use Rattle.ov_base.specs.declared.call.Call.TheVariants as call;
+ghost use Rattle.ov_base.specs.declared.call.CallOf.TheVariants as call;
 ghost use Rattle.plain_model.specs.Layers as held;
 ghost use Rattle.plain_model.specs.Layers.{IsLayer};
 ghost use Rattle.plain_model.specs.Machine.{State};

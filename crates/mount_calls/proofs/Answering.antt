@@ -3,7 +3,7 @@ use Rattle.std.proofs.Common.{arith, ◌≡◌, ℕ, ◌+◌, true, min, List, O
 use Rattle.mount_calls.proofs.Words.{after, AllocError, Apart, At, Call, directory_in, Errno, GivesNames, Handle, handle_of, is_directory, Layer, Location, Name, OnErr, OpenDirectory, option_and_then, or_else, parents_fault, Path, refusal, Reply, reply_of, Shown, shows, Stat, State}
 use Rattle.std.specs.Option.{unwrap_or}
 use Rattle.std.proofs.lemmas.List.{drop_min, drop-drop}
-use Rattle.ov_base.specs.declared.call.Call.TheVariants as call
+use Rattle.ov_base.specs.declared.call.CallOf.TheVariants as call
 use Rattle.ov_base.specs.declared.reply.Reply.TheVariants as reply
 use Rattle.plain_model.specs.Machine.{Look, look, is_found}
 use Rattle.plain_model.specs.Refusals.{there}

@@ -3,7 +3,7 @@ use Rattle.std.proofs.Common.{arith, ◌≡◌, ◌≢◌, ℕ, ◌<◌, Bool, t
 use Rattle.merged_lookup.specs.Merged.{upper_of}
 use Rattle.mount_calls.proofs.Words.{after, AllocError, Apart, At, Attributes, base, Call, change, Dentries, Descriptors, Directory, Errno, false≢true, folder_attributes, Handle, handle_of, is_directory, is_folder, IsMountOf, Layer, Layers, Location, lowers_of, made_way, MountOptions, Name, nat_cmp, New, Node, node_at, NodeId, OnErr, OpenDirectory, option_and_then, option_map, or_else, over_node, Path, put, refusal, Removes, reply_of, shows, State, StaysMount, Table, Tree, way_of, when}
 use Rattle.std.specs.BTreeMap.{get}
-use Rattle.ov_base.specs.declared.call.Call.TheVariants as call
+use Rattle.ov_base.specs.declared.call.CallOf.TheVariants as call
 use Rattle.ov_base.specs.declared.errno.Errno.TheVariants.{EBUSY, EISDIR}
 use Rattle.ov_base.specs.declared.reply.Reply.TheVariants as reply
 use Rattle.plain_model.specs.Layers.{same_path}

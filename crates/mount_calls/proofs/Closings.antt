@@ -2,7 +2,7 @@
 use Rattle.std.proofs.Common.{arith, ◌≡◌, ◌↔◌, ℕ, ◌<◌, true, false, cond, ◌||◌, List, Option, None, Some, Ok, Err, refl, sym, ap, ◌∙◌, subst, ◌⊎◌, inl, inr, is_some}
 use Rattle.merged_lookup.specs.Merged.{upper_of}
 use Rattle.mount_calls.proofs.Words.{after, cases_Bool, Errno, false≢true, File, file_holders, Handle, handle_of, Inode, IsLive, IsMountOf, Layer, Layers, lowers_of, node_at, NodeId, OpenFile, Path, refusal, SetsSlot, State, StaysMount, Table, Tree, Upper, with_handle}
-use Rattle.ov_base.specs.declared.call.Call.TheVariants as call
+use Rattle.ov_base.specs.declared.call.CallOf.TheVariants as call
 use Rattle.ov_base.specs.declared.errno.Errno.TheVariants as errno
 use Rattle.ov_base.specs.declared.reply.Reply.TheVariants as reply
 use Rattle.plain_model.specs.Changes.{is_named, is_held, settled}

@@ -8,7 +8,7 @@ use Rattle.mount_calls.proofs.Words.{after, AllocError, Attributes, bad_flags, b
 use Rattle.layer_tree.specs.Tree.{own_at}
 use Rattle.slab.specs.Slab.{get}
 use Rattle.ov_base.specs.declared.bytes.Content.TheVariants as content
-use Rattle.ov_base.specs.declared.call.Call.TheVariants as call
+use Rattle.ov_base.specs.declared.call.CallOf.TheVariants as call
 use Rattle.ov_base.specs.declared.errno.Errno.TheVariants.{ELOOP}
 use Rattle.ov_base.specs.declared.reply.Reply.TheVariants as reply
 use Rattle.plain_model.specs.Layers.{Named, fill, held, below, cuts, over, unless}

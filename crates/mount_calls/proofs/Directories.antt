@@ -1,7 +1,7 @@
 -- Open directories where the layers show them, and what closing and listing them does.
 use Rattle.std.proofs.Common.{◌≡◌, ℕ, Bool, true, ◌||◌, List, ◌∷◌, Option, Some, sym, ap, ◌∙◌, take, drop, nat_eq, nat_lt, arith}
 use Rattle.mount_calls.proofs.Words.{after, Attributes, base, Dentries, face, Folder, folder_attributes, Handle, handle_of, is_directory, is_folder, IsMountOf, Layer, Location, Node, node_at, node_of, NodeId, OpenDirectory, Path, refusal, reply_of, see, Shown, shows, State, when, with_handle}
-use Rattle.ov_base.specs.declared.call.Call.TheVariants as call
+use Rattle.ov_base.specs.declared.call.CallOf.TheVariants as call
 use Rattle.ov_base.specs.declared.errno.Errno.TheVariants as errno
 use Rattle.ov_base.specs.declared.reply.Reply.TheVariants as reply
 use Rattle.plain_model.specs.Changes.{listing, listed_on}

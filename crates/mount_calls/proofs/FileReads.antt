@@ -2,7 +2,7 @@
 use Rattle.std.proofs.Common.{◌≡◌, ℕ, ◌+◌, true, not, List, Option, None, Some, Result, Ok, Err, refl, sym, ap, ◌∙◌, subst, is_some, length, take, drop, nat_lt}
 use Rattle.std.proofs.Common.{arith}
 use Rattle.mount_calls.proofs.Words.{Apart, At, Attributes, base, ChangesSlot, Directory, directory_in, Errno, Folder, folder_attributes, Handle, handle_of, Inode, is_directory, Layer, Location, Node, NodeId, OpenDirectory, OpenFile, option_and_then, or_else, Path, refusal, Reply, Shown, shows, Stat, State, Tree, when, with_handle, with_place}
-use Rattle.ov_base.specs.declared.call.Call.TheVariants as call
+use Rattle.ov_base.specs.declared.call.CallOf.TheVariants as call
 use Rattle.ov_base.specs.declared.errno.Errno.TheVariants as errno
 use Rattle.ov_base.specs.declared.reply.ObjectKind.TheVariants as kind
 use Rattle.ov_base.specs.declared.reply.Reply.TheVariants as reply

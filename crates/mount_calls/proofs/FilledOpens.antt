@@ -3,7 +3,7 @@ use Rattle.std.proofs.Common.{◌≡◌, ◌≢◌, ◌↔◌, ℕ, true, false,
 use Rattle.merged_lookup.specs.Merged.{upper_of}
 use Rattle.mount_calls.proofs.Words.{AreLayers, bad_flags, bytes_at, Call, cases_eq, change, Content, Contents, EINVAL, false≢true, File, file_bytes, Handle, Inode, IsLive, IsMountOf, Layer, Layers, layers_of, live_handle, lowers_of, lowest_free, NodeId, OpenFile, OpenFlags, opening_fault, option_and_then, option_map, parents_fault, Path, Place, refusal, shows, shows_link, ShowsInode, State, StaysLayers, Tree, way_of, when, with_handle}
 use Rattle.ov_base.specs.declared.bytes.Content.TheVariants as content
-use Rattle.ov_base.specs.declared.call.Call.TheVariants as call
+use Rattle.ov_base.specs.declared.call.CallOf.TheVariants as call
 use Rattle.ov_base.specs.declared.reply.Reply.TheVariants as reply
 use Rattle.layer_tree.specs.Tree.{inode_at, mark_at}
 use Rattle.merged_lookup.specs.Marking.{inode_over}

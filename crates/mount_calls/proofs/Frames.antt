@@ -1,8 +1,8 @@
 -- What calls leave of what the upper holds at each path.
 use Rattle.std.proofs.Common.{◌≡◌, ◌≢◌, ◌⊎◌, ℕ, Bool, true, false, cond, ◌||◌, ◌&&◌, is_none, is_some, [], ◌∷◌, ◌++◌, List, Option, None, Some, refl, sym, ap, ◌∙◌, inl, inr, arith, length, length-append}
 use Rattle.std.proofs.lemmas.Bool.{false≢true}
-use Rattle.ov_base.specs.declared.call.Call.{Call}
-use Rattle.ov_base.specs.declared.call.Call.TheVariants as call
+use Rattle.ov_base.specs.Calls.{Call}
+use Rattle.ov_base.specs.declared.call.CallOf.TheVariants as call
 use Rattle.ov_base.specs.declared.call.OpenFlags.{OpenFlags}
 use Rattle.plain_model.specs.Layers.{Name, Path, Layer, Object, Named, Whiteout, held, holds_directory, shows, under}
 use Rattle.plain_model.specs.Laws.{left_at}

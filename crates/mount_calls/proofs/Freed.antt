@@ -15,7 +15,7 @@ use Rattle.copy_up.specs.Showing.{ShowsSame, KeepsPath, KeepsOthers}
 use Rattle.copy_up.proofs.Keeping.{lowers-same}
 use Rattle.make_remove.specs.Removing.{TakesName}
 use Rattle.mount_laws.specs.Renaming.{Renames}
-use Rattle.ov_base.specs.declared.call.Call.TheVariants as call
+use Rattle.ov_base.specs.declared.call.CallOf.TheVariants as call
 use Rattle.rename_redirect.specs.Renaming.{Moves, RenameSteps}
 use Rattle.mount_calls.specs.declared.clients.Clients.{Clients}
 use Rattle.mount_calls.specs.Living.{StaysHeld}

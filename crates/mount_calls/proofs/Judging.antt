@@ -1,7 +1,7 @@
 -- Why the machine refuses a call that was judged, or that it doesn't, told by the layers.
 use Rattle.std.proofs.Common.{◌≡◌, ℕ, true, false, List, length, nat_eq, nat_lt, Option, None, Some, refl, ap, ◌∙◌, arith}
 use Rattle.std.specs.Result.{result_err}
-use Rattle.ov_base.specs.declared.call.Call.TheVariants as call
+use Rattle.ov_base.specs.declared.call.CallOf.TheVariants as call
 use Rattle.ov_base.specs.declared.errno.Errno.{Errno}
 use Rattle.ov_base.specs.declared.errno.Errno.TheVariants.{EINVAL, ENAMETOOLONG, ENOENT}
 use Rattle.ov_base.specs.Targets.{target_of}

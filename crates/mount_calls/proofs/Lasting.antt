@@ -5,7 +5,7 @@ use Rattle.merged_lookup.specs.Merged.{upper_of}
 use Rattle.mount_calls.proofs.Words.{after, Attributes, Call, cases_Bool, Content, face, false≢true, fresh, Inode, inode_of, IsLive, IsMountOf, Layer, layer_of, Layers, lowers_of, Node, node_at, node_of, NodeId, OpenFlags, option_and_then, option_map, Path, Removes, State, StaysLayers, Tree}
 use Rattle.slab.specs.Slab.{get}
 use Rattle.ov_base.specs.declared.bytes.Content.TheVariants as content
-use Rattle.ov_base.specs.declared.call.Call.TheVariants as call
+use Rattle.ov_base.specs.declared.call.CallOf.TheVariants as call
 use Rattle.plain_model.specs.Layers.{Named, held, fill, same_path}
 use Rattle.plain_model.specs.Tree.{Sight, SeenBranch, see_inode, merged}
 use Rattle.plain_model.proofs.Merged.{named-seen}

@@ -3,7 +3,7 @@ use Rattle.std.proofs.Common.{◌≡◌, ℕ, Bool, true, false, cond, List, Opt
 use Rattle.mount_calls.proofs.Words.{Attributes, Branch, change, fresh, Leaf, made_way, MountOptions, Name, Node, node_at, NodeId, OpenFlags, Own, Path, put, Table, Tree, way_of}
 use Rattle.std.specs.FinMap as fin
 use Rattle.ov_base.specs.declared.bytes.Content.TheVariants.{SymbolicLink}
-use Rattle.ov_base.specs.declared.call.Call.TheVariants as call
+use Rattle.ov_base.specs.declared.call.CallOf.TheVariants as call
 use Rattle.plain_model.specs.Tree.{IsKept, with_name}
 use Rattle.plain_model.specs.Machine.{look, same_found}
 use Rattle.plain_model.specs.Changes.{lead_way, meta_touched, one_fewer, one_more, with_attributes, with_mode, with_owner, set_value, drop_value, opened, is_held, settled, dropped, renamed}

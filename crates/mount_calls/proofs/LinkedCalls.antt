@@ -1,7 +1,7 @@
 -- A link is answered as the machine answers it, whatever came of it.
 use Rattle.std.proofs.Common.{◌≡◌, ℕ, None, Some, Result, Ok, Err, OnErr, OnOk, refl}
 use Rattle.std.specs.declared.alloc.AllocError.{AllocError}
-use Rattle.ov_base.specs.declared.call.Call.TheVariants as call
+use Rattle.ov_base.specs.declared.call.CallOf.TheVariants as call
 use Rattle.plain_model.specs.Layers.{Path}
 use Rattle.merged_lookup.specs.declared.layers.Layers.{Layers}
 use Rattle.mount_laws.specs.Linking.{link_fault}

@@ -4,7 +4,7 @@ use Rattle.std.proofs.lemmas.Bool.{false≢true}
 use Rattle.mount_calls.proofs.Words.{AllocError, Content, EINVAL, Errno, IfOk, Inode, Layer, Layers, layers_of, lowers_of, option_and_then, or_else, Path, Place, refusal, Reply, Shown, shows, shows_link, ShowsInode, State, when}
 use Rattle.ov_base.specs.declared.bytes.Content.TheVariants as content
 use Rattle.merged_lookup.specs.Marking.{content_in, inode_over}
-use Rattle.ov_base.specs.declared.call.Call.TheVariants as call
+use Rattle.ov_base.specs.declared.call.CallOf.TheVariants as call
 use Rattle.ov_base.specs.declared.reply.Reply.TheVariants as reply
 use Rattle.merged_lookup.specs.Merged.{upper_of, walk_fault}
 use Rattle.mount_laws.specs.Leaves.{Reads, inode_target, shown_target}

@@ -4,7 +4,7 @@ use Rattle.merged_lookup.specs.Merged.{upper_of}
 use Rattle.mount_calls.proofs.Words.{after, AllocError, Call, cases_Bool, cases_eq, change, Content, Contents, false≢true, fresh, Handle, handle_of, Inode, IsLive, IsMountOf, Layer, layer_of, Layers, Leaf, lowers_of, lowest_free, made_way, Node, node_at, NodeId, OnErr, opening_fault, OpenFlags, Own, Path, refusal, Removes, Reply, reply_of, shows, sized, State, Tree, way_of, with_bytes, with_handle}
 use Rattle.std.specs.Result.{OnOk}
 use Rattle.ov_base.specs.declared.bytes.Content.TheVariants as content
-use Rattle.ov_base.specs.declared.call.Call.TheVariants as call
+use Rattle.ov_base.specs.declared.call.CallOf.TheVariants as call
 use Rattle.ov_base.specs.declared.errno.Errno.{Errno}
 use Rattle.ov_base.specs.declared.reply.Reply.TheVariants as reply
 use Rattle.plain_model.specs.Layers.{Object, Directory, Named, Whiteout, held, over, through}

@@ -2,7 +2,7 @@
 use Rattle.std.proofs.Common.{arith, ◌≡◌, ℕ, true, false, cond, List, [], Option, None, Some, Ok, refl, sym, ap, ◌∙◌, subst, ◌⊎◌, inl, inr, nat_eq, nat_lt, is_some}
 use Rattle.mount_calls.proofs.Words.{Attributes, bad_flags, Call, cases_Bool, change, Contents, EINVAL, File, Handle, IsLive, Layer, Layers, layers_of, Leaf, live_handle, Lower, lowest_free, Node, NodeId, OpenFile, OpenFlags, opening_fault, Own, Path, Place, refusal, rewritten, shows, ShowsInode, sized, State, StaysLayers, Tree, Upper, way_of, when, with_handle}
 use Rattle.ov_base.specs.declared.bytes.Content.TheVariants as content
-use Rattle.ov_base.specs.declared.call.Call.TheVariants as call
+use Rattle.ov_base.specs.declared.call.CallOf.TheVariants as call
 use Rattle.ov_base.specs.declared.reply.Reply.TheVariants as reply
 use Rattle.ov_base.specs.declared.place.Place.{Place}
 use Rattle.layer_tree.specs.Tree.{mark_at, own_at}

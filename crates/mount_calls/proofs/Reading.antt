@@ -2,7 +2,7 @@
 use Rattle.std.proofs.Common.{◌≡◌, ℕ, List, None, Some, sym, ap, ◌∙◌, map}
 use Rattle.merged_lookup.specs.Merged.{upper_of}
 use Rattle.mount_calls.proofs.Words.{Errno, lowers_of, Path, refusal, shows, State}
-use Rattle.ov_base.specs.declared.call.Call.TheVariants as call
+use Rattle.ov_base.specs.declared.call.CallOf.TheVariants as call
 use Rattle.ov_base.specs.declared.reply.Reply.TheVariants as reply
 use Rattle.plain_model.specs.Machine.{value_of}
 use Rattle.mount_laws.specs.Attributes.{shown_user, chown_fault, get_fault, GetsAttribute, ListsAttributes}

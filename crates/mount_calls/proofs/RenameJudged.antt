@@ -16,7 +16,7 @@ use Rattle.std.proofs.Common.{
 }
 use Rattle.std.specs.Prelude.{IfErr, IfOk, IsErr, OnOk}
 use Rattle.std.specs.Result.{result_and}
-use Rattle.ov_base.specs.declared.call.Call.TheVariants as call
+use Rattle.ov_base.specs.declared.call.CallOf.TheVariants as call
 use Rattle.ov_base.specs.declared.errno.Errno.{Errno}
 use Rattle.ov_base.specs.declared.reply.Reply.TheVariants as reply
 use Rattle.plain_model.specs.Layers.{Path}

@@ -3,7 +3,7 @@ use Rattle.std.proofs.Common.{◌≡◌, ℕ, true, ◌||◌, List, [], ◌∷�
 use Rattle.std.proofs.lemmas.List.{length-map}
 use Rattle.std.specs.BTreeMap.{get}
 use Rattle.mount_calls.proofs.Words.{after, Apart, At, Attributes, Dentries, Descriptors, false≢true, folder_attributes, Handle, handle_of, handles_of, is_folder, Layer, list_any, Location, Name, nat_cmp, node_at, NodeId, OpenDirectory, option_and_then, option_map, Path, State, Table, Tree}
-use Rattle.ov_base.specs.declared.call.Call.TheVariants as call
+use Rattle.ov_base.specs.declared.call.CallOf.TheVariants as call
 use Rattle.plain_model.specs.Changes.{re_ways, way_of}
 use Rattle.plain_model.proofs.Paths.{place}
 use Rattle.mount_laws.specs.Moving.{Goes, Stays}

@@ -7,7 +7,7 @@ use mathlib.Core.HLevel.{⊥_prop}
 use Rattle.std.specs.BTreeMap.{get}
 use Rattle.merged_lookup.specs.Merged.{upper_of}
 use Rattle.mount_calls.proofs.Words.{after, AreLayers, At, Attributes, base, Errno, Handle, handle_of, is_directory, Layer, layer_of, Layers, lowers_of, nat_cmp, node_at, node_of, OpenDirectory, or_else, Path, refusal, shows, State, StaysMount, Table, Tree, when}
-use Rattle.ov_base.specs.declared.call.Call.TheVariants as call
+use Rattle.ov_base.specs.declared.call.CallOf.TheVariants as call
 use Rattle.ov_base.specs.declared.errno.Errno.TheVariants.{EBUSY, ENOTDIR, ENOTEMPTY}
 use Rattle.ov_base.specs.declared.reply.Reply.TheVariants as reply
 use Rattle.plain_model.specs.Machine.{has_names, is_below, is_root}

@@ -27,7 +27,7 @@ pub use Rattle.open_handles.specs.declared.open_file.FileSource.TheVariants.{Low
 pub use Rattle.open_handles.specs.declared.open_file.OpenFile.{OpenFile}
 pub use Rattle.ov_base.specs.declared.attributes.Attributes.{Attributes}
 pub use Rattle.ov_base.specs.declared.bytes.Content.{Content}
-pub use Rattle.ov_base.specs.declared.call.Call.{Call}
+pub use Rattle.ov_base.specs.Calls.{Call}
 pub use Rattle.ov_base.specs.declared.call.OpenFlags.{OpenFlags}
 pub use Rattle.ov_base.specs.declared.errno.Errno.{Errno}
 pub use Rattle.ov_base.specs.declared.errno.Errno.TheVariants.{EINVAL}

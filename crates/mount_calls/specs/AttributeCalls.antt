@@ -3,8 +3,8 @@
 use Rattle.std.specs.Prelude.{ℕ, not, ◌&&◌, List, Option, None, is_none, length, nat_lt}
 use Rattle.ov_base.specs.UserValues.{value_of, set_value, drop_value}
 use Rattle.ov_base.specs.declared.attributes.Attributes.{Attributes}
-use Rattle.ov_base.specs.declared.call.Call.{Call}
-use Rattle.ov_base.specs.declared.call.Call.TheVariants as call
+use Rattle.ov_base.specs.Calls.{Call}
+use Rattle.ov_base.specs.declared.call.CallOf.TheVariants as call
 use Rattle.ov_base.specs.declared.errno.Errno.{Errno}
 use Rattle.ov_base.specs.declared.errno.Errno.TheVariants.{EFBIG, ENODATA}
 use Rattle.plain_model.specs.Changes.{with_mode, with_owner}

@@ -1,7 +1,7 @@
 -- Which directories come up with a call.
 use Rattle.std.specs.Prelude.{◌≡◌, ◌≢◌, ◌⊎◌, Bool, true, Option, None, Some}
-use Rattle.ov_base.specs.declared.call.Call.{Call}
-use Rattle.ov_base.specs.declared.call.Call.TheVariants as call
+use Rattle.ov_base.specs.Calls.{Call}
+use Rattle.ov_base.specs.declared.call.CallOf.TheVariants as call
 use Rattle.plain_model.specs.Layers.{Path, held, holds_directory}
 use Rattle.layer_tree.specs.Tree.{layer_of}
 use Rattle.merged_lookup.specs.declared.layers.Layers.{Layers}

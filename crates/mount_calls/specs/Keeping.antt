@@ -1,8 +1,8 @@
 -- What calls leave alone.
 use Rattle.std.specs.Prelude.{◌≡◌, ◌≢◌, ◌⊎◌, Bool, true, false, cond, ◌||◌, ◌&&◌, ◌∷◌, ◌++◌}
 use Rattle.std.specs.Prelude.{Option, None, Some, is_none}
-use Rattle.ov_base.specs.declared.call.Call.{Call}
-use Rattle.ov_base.specs.declared.call.Call.TheVariants as call
+use Rattle.ov_base.specs.Calls.{Call}
+use Rattle.ov_base.specs.declared.call.CallOf.TheVariants as call
 use Rattle.plain_model.specs.Layers.{Name, Path, held, holds_directory, shows, AreLayers}
 use Rattle.plain_model.specs.Laws.{IsOutside}
 use Rattle.mount_laws.specs.Moving.{Follows}

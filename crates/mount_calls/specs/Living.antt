@@ -2,7 +2,7 @@
 -- is there until its last descriptor is closed).
 use Rattle.std.specs.Prelude.{◌≡◌, ℕ, ◌<◌, Bool, true, Some, List}
 use Rattle.ov_base.specs.declared.bytes.Content.TheVariants as content
-use Rattle.ov_base.specs.declared.call.Call.{Call}
+use Rattle.ov_base.specs.Calls.{Call}
 use Rattle.ov_base.specs.declared.node_id.NodeId.{NodeId}
 use Rattle.plain_model.specs.Layers.{Path, Named, Inode, Layer, held}
 use Rattle.plain_model.specs.Tree.{Tree, node_at}

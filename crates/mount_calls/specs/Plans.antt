@@ -1,8 +1,8 @@
 -- What a call that changes what paths show, or opens what one shows, comes to once it was looked at
 -- and judged, before it is carried out.
 use Rattle.std.specs.Prelude.{◌≡◌, ℕ, true, None, Some, Result, Ok, IfErr, IfOk}
-use Rattle.ov_base.specs.declared.call.Call.{Call}
-use Rattle.ov_base.specs.declared.call.Call.TheVariants as call
+use Rattle.ov_base.specs.Calls.{Call}
+use Rattle.ov_base.specs.declared.call.CallOf.TheVariants as call
 use Rattle.ov_base.specs.declared.errno.Errno.{Errno}
 use Rattle.ov_base.specs.declared.reply.Reply.TheVariants.{Done}
 use Rattle.ov_base.specs.Targets.{target_of}

@@ -1,7 +1,7 @@
 -- What renames leave of what is open (POSIX.1-2017, rename(): a directory or file that is open stays so, also where it is replaced).
 use Rattle.std.specs.Prelude.{◌≡◌, ℕ, Bool, false, Option, option_map}
 use Rattle.ov_base.specs.declared.attributes.Attributes.{Attributes}
-use Rattle.ov_base.specs.declared.call.Call.TheVariants as call
+use Rattle.ov_base.specs.declared.call.CallOf.TheVariants as call
 use Rattle.plain_model.specs.Layers.{Path}
 use Rattle.plain_model.specs.Machine.{State}
 use Rattle.layer_tree.specs.Tree.{layer_of}

@@ -1,5 +1,6 @@
 // The calls on attributes, by the plain machine.
 ghost use Rattle.std.specs.Prelude.{◌≡◌, ℕ, None, Some, IfOk, IfErr, OnErr, OnOk};
+ghost use Rattle.ov_base.specs.declared.call.CallOf.TheVariants as Call;
 ghost use Rattle.plain_model.specs.Layers.{Path as Names, held};
 ghost use Rattle.plain_model.specs.Machine.{State};
 ghost use Rattle.plain_model.specs.Refusals.{refusal};
@@ -17,7 +18,7 @@ use crate::look::Look;
 use crate::mount::Mount;
 use crate::user_attributes::{get_attribute, list_attributes};
 use merged_lookup::{Stack, Topmost};
-use ov_base::{Bytes, Call, Errno, Path, Reply};
+use ov_base::{Bytes, Errno, Path, Reply};
 use std::alloc::AllocError;
 
 impl Mount {

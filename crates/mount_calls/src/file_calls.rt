@@ -1,6 +1,7 @@
 // The calls on open files, and `lseek` and `fstat` on directories, by the plain machine (POSIX.1-2017, read(), lseek() and fstat()).
 ghost use Rattle.std.specs.Prelude.{◌≡◌, None, Some, Ok, IfOk, IfErr, OnErr, IsSome, length};
 ghost use Rattle.std.specs.Prelude.{option_copied};
+ghost use Rattle.ov_base.specs.declared.call.CallOf.TheVariants as Call;
 ghost use Rattle.ov_base.specs.declared.attributes.Attributes.{Attributes as DirectoryAttributes};
 ghost use Rattle.plain_model.specs.Machine.{State};
 ghost use Rattle.plain_model.specs.Refusals.{refusal};
@@ -16,7 +17,7 @@ use crate::files::{bytes_in, read_at, read_into, size_of, status_in};
 use crate::mount::Mount;
 use crate::status::{status_at, status_with};
 use open_handles::{Handle, OpenFile, sought};
-use ov_base::{Attributes, Call, Errno, ObjectKind, Reply, Stat};
+use ov_base::{Attributes, Errno, ObjectKind, Reply, Stat};
 use std::alloc::AllocError;
 
 /// The most bytes of one read or write.

@@ -1,8 +1,9 @@
 // What a call lacks in the upper before it can be made there.
 ghost use Rattle.std.specs.Prelude.{◌≡◌, ◌∷◌, [], ℕ, true, false, None, Some};
+ghost use Rattle.ov_base.specs.declared.call.CallOf.TheVariants as Call;
 ghost use Rattle.plain_model.specs.Layers.{Path as Names, shows};
 ghost use Rattle.layer_tree.specs.Tree.{layer_of, mark_at};
-ghost use Rattle.merged_lookup.specs.Merged.{upper_of, layers_of, lowers_of, IsFound, IsTopmost, ShowsInode};
+ghost use Rattle.merged_lookup.specs.Merged.{upper_of, layers_of, lowers_of, IsTopmost, ShowsInode};
 ghost use Rattle.mount_calls.specs.Lacks as lacks;
 ghost use Rattle.mount_calls.specs.Lacks.{lacking, parent_lack, lack_among, lack_of};
 ghost use Rattle.mount_calls.specs.Lacks.{CanBeHad, LawOfNeeds};
@@ -14,29 +15,9 @@ use crate::look::Look;
 use crate::mount::Mount;
 use crate::plan::Plan;
 use copy_up::{Need, need_at};
-use merged_lookup::{Found, Layers, Topmost};
-use ov_base::{Call, Content, OpenFlags, Path, Place};
+use merged_lookup::{Layers, Topmost};
+use ov_base::{Content, OpenFlags, Path, Place};
 use work_dir::Lack;
-
-/// Whether a call changes what paths show, or opens what one shows, so that it may lack something.
-pub fn may_lack(call: &Call) -> bool
-    ensures { result ≡ lacks.may_lack call.now }
-{
-    match call {
-        Call::Chmod { .. }
-        | Call::Chown { .. }
-        | Call::SetAttribute { .. }
-        | Call::DeleteAttribute { .. }
-        | Call::Mkdir { .. }
-        | Call::Symlink { .. }
-        | Call::Open { .. }
-        | Call::Unlink { .. }
-        | Call::Rmdir { .. }
-        | Call::Hardlink { .. }
-        | Call::Rename { .. } => true,
-        _ => false,
-    }
-}
 
 /// What `need_at` tells is the lacking parent; it does nothing.
 pub fn law_of_needs()
@@ -85,7 +66,7 @@ impl Mount {
                 onto,
                 moving,
             } => {
-                let file = found_file(&self.layers, self.metacopy, &moving.found);
+                let file = copied_file(&self.layers, self.metacopy, moving.top);
                 self.both_lack(old, new, from, onto, file)
             }
             Plan::Nothing { .. } => Lack::Nothing,
@@ -203,8 +184,8 @@ fn file_lack(file: Option<Place>) -> Lack
     }
 }
 
-// Where the bytes are of a file of a lower layer that is shown as the topmost object, if a change of
-// its attributes copies them.
+// Where the bytes are of a file of a lower layer that is shown as the topmost object, if they are
+// copied with its attributes.
 fn copied_file(layers: &Layers, metacopy: bool, top: Topmost) -> Option<Place>
     requires { (p : Names) × IsTopmost layers.now p (Some top) }
     ensures { (p : Names) → IsTopmost layers.now p (Some top) →
@@ -238,18 +219,6 @@ fn data_inode(layers: &Layers, place: Place) -> Option<Place>
         return marked_place(layers, place.key);
     }
     low_inode(layers, place)
-}
-
-// Where the bytes are of a file of a lower layer that was found, if a rename of it copies them.
-fn found_file(layers: &Layers, metacopy: bool, found: &Found) -> Option<Place>
-    requires { (p : Names) × IsFound layers.now p found.now }
-    ensures { (p : Names) → IsFound layers.now p found.now →
-        result ≡ lacks.copied_file metacopy (shows 0 (layers_of layers.now) p) }
-{
-    match found {
-        Found::Inode(place) => copied_inode(layers, metacopy, *place),
-        Found::Directory(_) => None,
-    }
 }
 
 // Where the bytes are of a file of a lower layer that is shown at a place, if they are copied with its

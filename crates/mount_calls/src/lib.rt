@@ -29,7 +29,7 @@ mod write_calls;
 
 pub use attribute_changes::AttributeCall;
 pub use clients::{CLIENTS_MAX, Clients};
-pub use lacks::{law_of_needs, may_lack};
+pub use lacks::law_of_needs;
 pub use look::Look;
 pub use looks::{LookedPaths, Looks, looked_paths};
 pub use mount::Mount;

@@ -1,5 +1,6 @@
 // `link` of a mount, by the plain machine (POSIX.1-2017, link()).
 ghost use Rattle.std.specs.Prelude.{◌≡◌, IfOk, IfErr, OnOk};
+ghost use Rattle.ov_base.specs.declared.call.CallOf.TheVariants as Call;
 ghost use Rattle.plain_model.specs.Layers.{Path as Names};
 ghost use Rattle.rename_redirect.specs.Judging.{MayLink};
 ghost use Rattle.mount_calls.specs.Looking.{IsKeyAt, IsLook};
@@ -9,7 +10,7 @@ ghost use Rattle.mount_calls.specs.Status.{done_result};
 use crate::look::Look;
 use crate::mount::Mount;
 use merged_lookup::Stack;
-use ov_base::{Call, Errno, Path, Place};
+use ov_base::{Errno, Path, Place};
 use rename_redirect::{link, linkable};
 use std::alloc::AllocError;
 

@@ -6,6 +6,7 @@ ghost use Rattle.mount_calls.specs.States.{AreNamesIn};
 ghost use Rattle.mount_calls.specs.Files.{key_in_upper};
 ghost use Rattle.mount_calls.specs.Status.{target_reply, content_target};
 ghost use Rattle.std.specs.Option.{option_and_then};
+ghost use Rattle.ov_base.specs.declared.call.CallOf.TheVariants as Call;
 
 use crate::clients::Clients;
 use crate::removals::free_closed;
@@ -13,7 +14,7 @@ use crate::status::status_at;
 use dir_listing::{Cursor, names};
 use merged_lookup::{Found, Layers, Topmost};
 use open_handles::{FileSource, Handle, OpenFile};
-use ov_base::{Call, Content, Errno, NameList, Path, Reply};
+use ov_base::{Content, Errno, NameList, Path, Reply};
 use std::alloc::{AllocError, Global};
 use std::hash::RandomState;
 

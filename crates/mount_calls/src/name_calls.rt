@@ -2,6 +2,7 @@
 // (POSIX.1-2017, mkdir(), symlink(), unlink() and rmdir()).
 ghost use Rattle.std.specs.Prelude.{◌≡◌, ℕ, None, Some, IfErr, IfOk, OnOk};
 ghost use Rattle.std.specs.Result.{result_err};
+ghost use Rattle.ov_base.specs.declared.call.CallOf.TheVariants as Call;
 ghost use Rattle.ov_base.specs.Targets.{target_of};
 ghost use Rattle.plain_model.specs.Machine.{State};
 ghost use Rattle.plain_model.specs.Refusals.{refusal};
@@ -20,7 +21,7 @@ use crate::removals::{rmdir_and_free, unlink_and_free};
 use make_remove::{leaf_at, mkdir, removable, symlink, vacant};
 use merged_lookup::Stack;
 use notice_laws::Object;
-use ov_base::{Bytes, Call, Errno, LinkTarget, Mode, Path, Place};
+use ov_base::{Bytes, Errno, LinkTarget, Mode, Path, Place};
 use std::alloc::AllocError;
 
 impl Mount {

@@ -2,6 +2,7 @@
 ghost use Rattle.std.specs.Prelude.{◌≡◌, ◌<◌, ℕ, true, false, cond, is_some, List, [], None, Some, IfOk, IfErr, OnOk, OnErr, IsSome};
 ghost use Rattle.std.specs.BTreeMap.{get};
 ghost use Rattle.std.specs.Ordering.{nat_cmp};
+ghost use Rattle.ov_base.specs.declared.call.CallOf.TheVariants as Call;
 ghost use Rattle.ov_base.specs.declared.bytes.Content.TheVariants.{File};
 ghost use Rattle.ov_base.specs.declared.errno.Errno.TheVariants.{EINVAL};
 ghost use Rattle.plain_model.specs.Layers.{Path as Names, Inode as HeldInode, Contents, shows};
@@ -35,7 +36,7 @@ use layer_tree::{Inode, Node};
 use make_remove::create;
 use merged_lookup::{Layers, Stack, Topmost};
 use open_handles::FileSource;
-use ov_base::{Call, Content, Errno, Mode, OpenFlags, Path, Place, Reply};
+use ov_base::{Content, Errno, Mode, OpenFlags, Path, Place, Reply};
 use std::alloc::AllocError;
 
 /// An open that was judged, which nothing refuses: the descriptor and the mode that it gets, and what

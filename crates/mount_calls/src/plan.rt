@@ -3,6 +3,7 @@
 ghost use Rattle.std.specs.Prelude.{◌≡◌, ◌∷◌, [], ℕ, true, false, is_none, IsSome};
 ghost use Rattle.std.specs.BTreeMap.{get};
 ghost use Rattle.std.specs.Ordering.{nat_cmp};
+ghost use Rattle.ov_base.specs.declared.call.CallOf.TheVariants as Call;
 ghost use Rattle.plain_model.specs.Machine.{State};
 ghost use Rattle.plain_model.specs.Refusals as machine;
 ghost use Rattle.merged_lookup.specs.Merged.{upper_of, lowers_of};
@@ -23,7 +24,7 @@ use ov_base::{Bytes, Call, Errno, Mode, OpenFlags, Path, Place};
 use rename_redirect::JudgedRename;
 
 /// A call that nothing refuses, with what was seen at its paths and what its judge found there.
-#[derive(Drop)]
+#[derive(Clone, Copy)]
 pub enum Plan<'a> {
     /// Attributes of what a path shows are changed.
     Alter {
@@ -103,6 +104,7 @@ impl<'a> Plan<'a> {
 impl Mount {
     /// Plans a call of a client by what was seen at its paths, or tells why it is refused. Nothing
     /// changes, and it takes no memory.
+    #[inline(always)]
     pub fn plan<'a>(&self, client: u64, call: &'a Call, looks: Looks<'a>) -> Result<Plan<'a>, Errno>
         requires attached { IsSome (get nat_cmp self.now.clients.attached client) }
         requires may { may_lack call.now ≡ true }
@@ -132,6 +134,7 @@ impl Mount {
     }
 
     // `plan`, of a change of attributes.
+    #[inline(always)]
     fn plan_alter<'a>(
         &self,
         path: &'a Path,
@@ -154,6 +157,7 @@ impl Mount {
     }
 
     // `plan`, of a mkdir.
+    #[inline(always)]
     fn plan_mkdir<'a>(&self, path: &'a Path, looks: Looks<'a>, mode: u32) -> Result<Plan<'a>, Errno>
         requires { SawEach self.now.layers (path.now ∷ []) looks }
         ensures { (c : ℕ) → PlansCall self.now c (Call.Mkdir path.now mode) result }
@@ -171,6 +175,7 @@ impl Mount {
     }
 
     // `plan`, of a symlink.
+    #[inline(always)]
     fn plan_symlink<'a>(
         &self,
         target: &'a Bytes,
@@ -193,6 +198,7 @@ impl Mount {
     }
 
     // `plan`, of an open.
+    #[inline(always)]
     fn plan_open<'a>(
         &self,
         client: u64,
@@ -218,6 +224,7 @@ impl Mount {
     }
 
     // `plan`, of an unlink.
+    #[inline(always)]
     fn plan_unlink<'a>(&self, path: &'a Path, looks: Looks<'a>) -> Result<Plan<'a>, Errno>
         requires { SawEach self.now.layers (path.now ∷ []) looks }
         ensures { (c : ℕ) → PlansCall self.now c (Call.Unlink path.now) result }
@@ -235,6 +242,7 @@ impl Mount {
     }
 
     // `plan`, of a rmdir.
+    #[inline(always)]
     fn plan_rmdir<'a>(&self, path: &'a Path, looks: Looks<'a>) -> Result<Plan<'a>, Errno>
         requires { SawEach self.now.layers (path.now ∷ []) looks }
         ensures { (c : ℕ) → PlansCall self.now c (Call.Rmdir path.now) result }
@@ -251,6 +259,7 @@ impl Mount {
     }
 
     // `plan`, of a link.
+    #[inline(always)]
     fn plan_link<'a>(
         &self,
         old: &'a Path,
@@ -274,6 +283,7 @@ impl Mount {
     }
 
     // `plan`, of a rename.
+    #[inline(always)]
     fn plan_rename<'a>(
         &self,
         old: &'a Path,

@@ -1,6 +1,6 @@
 // `unlink`, `rmdir` and `rename`, where what loses its last name is freed at once, unless a handle holds it, and what closing frees.
 ghost use Rattle.std.specs.Prelude.{◌≡◌, ◌<◌, ℕ, Bool, true, false, Some, None, IfOk, IfErr, OnOk, OnErr};
-ghost use Rattle.ov_base.specs.declared.call.Call.TheVariants as call;
+ghost use Rattle.ov_base.specs.declared.call.CallOf.TheVariants as call;
 ghost use Rattle.plain_model.specs.Machine.{State};
 ghost use Rattle.mount_laws.specs.Looks.{IsMountOf};
 ghost use Rattle.mount_laws.specs.Removals.{Removes};

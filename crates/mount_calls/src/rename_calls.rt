@@ -14,6 +14,7 @@ ghost use Rattle.std.specs.Prelude.{
   true,
 };
 ghost use Rattle.std.specs.Result.{result_and};
+ghost use Rattle.ov_base.specs.declared.call.CallOf.TheVariants as Call;
 ghost use Rattle.plain_model.specs.Machine.{State};
 ghost use Rattle.plain_model.specs.Refusals.{refusal};
 ghost use Rattle.layer_tree.specs.Tree.{layer_of};
@@ -32,7 +33,7 @@ use crate::look::Look;
 use crate::mount::Mount;
 use crate::removals::rename_and_free;
 use merged_lookup::Topmost;
-use ov_base::{Attributes, Call, Errno, Path, Reply};
+use ov_base::{Attributes, Errno, Path, Reply};
 use rename_redirect::{JudgedRename, movable};
 use std::alloc::AllocError;
 

@@ -1,5 +1,6 @@
 // `write` and `ftruncate`, by the plain machine (POSIX.1-2017, write() and ftruncate()).
 ghost use Rattle.std.specs.Prelude.{◌≡◌, None, Some, IfOk, IfErr, OnErr, is_some};
+ghost use Rattle.ov_base.specs.declared.call.CallOf.TheVariants as Call;
 ghost use Rattle.plain_model.specs.Machine.{State};
 ghost use Rattle.plain_model.specs.Refusals.{refusal};
 ghost use Rattle.mount_calls.specs.Attaching.{file_by, opened_by};
@@ -12,7 +13,7 @@ use crate::file_changes::{resize_file, write_file};
 use crate::files::{bytes_in, size_of};
 use crate::mount::Mount;
 use open_handles::{FileSource, Handle, OpenFile, fitting};
-use ov_base::{Bytes, Call, Errno, Reply};
+use ov_base::{Bytes, Errno, Reply};
 use std::alloc::AllocError;
 
 impl Mount {

@@ -1,7 +1,7 @@
 -- The refusals and answers of chmod, chown and the calls on user attributes are told by the layers.
 use Rattle.std.proofs.Common.{◌≡◌, ℕ, Bool, not, ◌&&◌, List, [], ◌∷◌, Option, None, Some, refl, ap, ◌∙◌, is_none, nat_lt, length, map}
 use Rattle.std.specs.Option.{unwrap_or}
-use Rattle.ov_base.specs.declared.call.Call.TheVariants.{Chmod, Chown, SetAttribute, GetAttribute, DeleteAttribute, ListAttributes}
+use Rattle.ov_base.specs.declared.call.CallOf.TheVariants.{Chmod, Chown, SetAttribute, GetAttribute, DeleteAttribute, ListAttributes}
 use Rattle.ov_base.specs.declared.errno.Errno.{Errno}
 use Rattle.ov_base.specs.declared.errno.Errno.TheVariants.{ELOOP, EFBIG, ENODATA}
 use Rattle.ov_base.specs.declared.reply.Reply.TheVariants as reply

@@ -1,7 +1,7 @@
 -- What an open makes of the tree where it makes its file, and that the layers which gain the file show it.
 use Rattle.std.proofs.Common.{◌≡◌, ◌⊎◌, ℕ, suc, false, cond, List, [], ◌∷◌, Option, None, Some, is_some, is_none, refl, sym, ap, ap₂, subst, ◌∙◌, true≢false}
 use Rattle.ov_base.specs.declared.bytes.Content.TheVariants.{File}
-use Rattle.ov_base.specs.declared.call.Call.TheVariants.{Open}
+use Rattle.ov_base.specs.declared.call.CallOf.TheVariants.{Open}
 use Rattle.ov_base.specs.declared.call.OpenFlags.{OpenFlags}
 use Rattle.ov_base.specs.declared.errno.Errno.TheVariants.{EEXIST}
 use Rattle.ov_base.specs.declared.node_id.NodeId.{NodeId}

@@ -1,7 +1,7 @@
 -- The refusals of link are told by the layers, and the layers that gain the name show the tree that link makes.
 use Rattle.std.proofs.Common.{◌≡◌, ◌≢◌, ℕ, ◌+◌, true, false, List, [], ◌∷◌, ◌++◌, Option, None, Some, option_map, refl, sym, ap, ap₂, subst, ◌∙◌, ◌⊎◌, inl, inr, is_some, ◌&&◌}
 use Rattle.std.proofs.lemmas.Bool.{false≢true, cases_Bool, both_ways}
-use Rattle.ov_base.specs.declared.call.Call.TheVariants.{Hardlink}
+use Rattle.ov_base.specs.declared.call.CallOf.TheVariants.{Hardlink}
 use Rattle.ov_base.specs.declared.errno.Errno.{Errno}
 use Rattle.ov_base.specs.declared.errno.Errno.TheVariants.{EPERM, EEXIST}
 use Rattle.ov_base.specs.declared.node_id.NodeId.{NodeId}

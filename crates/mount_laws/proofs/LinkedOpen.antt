@@ -4,7 +4,7 @@ use Rattle.std.proofs.lemmas.Bool.{false≢true, cases_Bool}
 use Rattle.ov_base.specs.declared.attributes.Attributes.{Attributes}
 use Rattle.ov_base.specs.declared.bytes.Content.{Content}
 use Rattle.ov_base.specs.declared.bytes.Content.TheVariants.{File}
-use Rattle.ov_base.specs.declared.call.Call.TheVariants.{Hardlink}
+use Rattle.ov_base.specs.declared.call.CallOf.TheVariants.{Hardlink}
 use Rattle.ov_base.specs.declared.node_id.NodeId.{NodeId}
 use Rattle.plain_model.specs.Layers.{Name, Path, Named, Inode, Layer, held, Contents, over, shows, through, is_directory, same_path, AreLayers}
 use Rattle.plain_model.specs.Tree.{same_id, Node, Leaf, Own, Tree, node_at, node_of, face, Sight, SeenLeaf, merged}

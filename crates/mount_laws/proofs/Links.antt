@@ -5,7 +5,7 @@ use Rattle.std.proofs.lemmas.Bool.{cases_Bool, both_ways}
 use Rattle.ov_base.specs.declared.attributes.Attributes.{Attributes}
 use Rattle.ov_base.specs.declared.bytes.Content.{Content}
 use Rattle.ov_base.specs.declared.bytes.Content.TheVariants.{SymbolicLink}
-use Rattle.ov_base.specs.declared.call.Call.TheVariants.{Symlink}
+use Rattle.ov_base.specs.declared.call.CallOf.TheVariants.{Symlink}
 use Rattle.ov_base.specs.declared.errno.Errno.{Errno}
 use Rattle.ov_base.specs.declared.errno.Errno.TheVariants.{ENOENT, EEXIST, EINVAL, ENAMETOOLONG}
 use Rattle.plain_model.specs.Layers.{Name, Path, Named, Layer, held, shows, same_path}

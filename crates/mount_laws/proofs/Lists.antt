@@ -11,7 +11,7 @@ use Rattle.std.specs.List.Sorted.{IsStrictlySortedBy}
 use Rattle.std.specs.Ordering.{nat_cmp, is_lt, eq_by_cmp}
 use Rattle.std.specs.declared.cmp.Ordering.{Ordering}
 use Rattle.std.specs.declared.cmp.Ordering.TheVariants.{Less, Equal, Greater}
-use Rattle.ov_base.specs.declared.call.Call.TheVariants.{ListNames, Seek, Close}
+use Rattle.ov_base.specs.declared.call.CallOf.TheVariants.{ListNames, Seek, Close}
 use Rattle.ov_base.specs.declared.errno.Errno.TheVariants.{EBADF, EINVAL, ENOTDIR}
 use Rattle.ov_base.specs.declared.reply.Reply.TheVariants as reply
 use Rattle.plain_model.specs.Layers.{Name, shows, same_name}

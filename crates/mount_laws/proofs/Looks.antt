@@ -2,7 +2,7 @@
 use Rattle.std.proofs.Common.{◌≡◌, ℕ, zero, suc, Bool, true, false, List, [], ◌∷◌, Option, None, Some, refl, sym, ap, ap₂, ◌∙◌, is_some, is_none, length}
 use Rattle.std.proofs.lemmas.Bool.{false≢true}
 use Rattle.ov_base.specs.declared.bytes.Content.{Content}
-use Rattle.ov_base.specs.declared.call.Call.TheVariants.{Stat, Mkdir}
+use Rattle.ov_base.specs.declared.call.CallOf.TheVariants.{Stat, Mkdir}
 use Rattle.ov_base.specs.declared.bytes.Content.TheVariants.{File, SymbolicLink}
 use Rattle.ov_base.specs.declared.errno.Errno.{Errno}
 use Rattle.ov_base.specs.declared.errno.Errno.TheVariants.{ENOENT, ENOTDIR, ELOOP, EEXIST}

@@ -4,7 +4,7 @@ use Rattle.std.specs.FinMap as fin
 use Rattle.std.specs.Cmp.Lexicographic.{slice_cmp}
 use Rattle.std.specs.Ordering.{nat_cmp}
 use Rattle.std.proofs.lemmas.Bool.{false≢true, cases_Bool}
-use Rattle.ov_base.specs.declared.call.Call.TheVariants.{Mkdir}
+use Rattle.ov_base.specs.declared.call.CallOf.TheVariants.{Mkdir}
 use Rattle.ov_base.specs.declared.errno.Errno.{Errno}
 use Rattle.ov_base.specs.declared.errno.Errno.TheVariants.{EEXIST}
 use Rattle.ov_base.specs.declared.node_id.NodeId.{NodeId}

@@ -4,7 +4,7 @@ use Rattle.std.specs.Option.{unwrap_or}
 use Rattle.std.proofs.lemmas.Bool.{false≢true}
 use Rattle.ov_base.specs.declared.bytes.Content.{Content}
 use Rattle.ov_base.specs.declared.bytes.Content.TheVariants.{File, SymbolicLink}
-use Rattle.ov_base.specs.declared.call.Call.TheVariants.{Open}
+use Rattle.ov_base.specs.declared.call.CallOf.TheVariants.{Open}
 use Rattle.ov_base.specs.declared.call.OpenFlags.{OpenFlags}
 use Rattle.ov_base.specs.declared.errno.Errno.{Errno}
 use Rattle.ov_base.specs.declared.errno.Errno.TheVariants.{ENOENT, EEXIST, ENOTDIR, EISDIR, EINVAL, EMFILE, ELOOP}

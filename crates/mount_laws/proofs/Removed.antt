@@ -3,7 +3,7 @@ use Rattle.std.proofs.Common.{◌≡◌, ◌≢◌, ℕ, zero, suc, Bool, true, 
 use Rattle.std.specs.Option.{unwrap_or}
 use Rattle.std.specs.Prelude.{nat_eq, nat_lt}
 use Rattle.std.proofs.lemmas.Bool.{cases_Bool}
-use Rattle.ov_base.specs.declared.call.Call.TheVariants.{Close, ListNames}
+use Rattle.ov_base.specs.declared.call.CallOf.TheVariants.{Close, ListNames}
 use Rattle.ov_base.specs.declared.errno.Errno.TheVariants.{EBADF, EINVAL, ENOTDIR}
 use Rattle.ov_base.specs.declared.node_id.NodeId.{NodeId}
 use Rattle.ov_base.specs.declared.reply.Reply.TheVariants as reply

@@ -1,7 +1,7 @@
 -- What unlink and rmdir make of the tree, and that the layers which lose the object show it.
 use Rattle.std.proofs.Common.{◌≡◌, ◌≢◌, ℕ, zero, Bool, true, false, cond, ◌||◌, List, [], ◌∷◌, ◌++◌, Option, None, Some, refl, sym, ap, subst, ◌∙◌, ◌⊎◌, inl, inr, is_some}
 use Rattle.std.proofs.lemmas.Bool.{false≢true, cases_Bool, both_ways}
-use Rattle.ov_base.specs.declared.call.Call.TheVariants.{Unlink, Rmdir}
+use Rattle.ov_base.specs.declared.call.CallOf.TheVariants.{Unlink, Rmdir}
 use Rattle.ov_base.specs.declared.errno.Errno.TheVariants.{EBUSY, EISDIR}
 use Rattle.ov_base.specs.declared.node_id.NodeId.{NodeId}
 use Rattle.plain_model.specs.Layers.{Name, Path, Inode, Layer, shows, is_directory, same_path}

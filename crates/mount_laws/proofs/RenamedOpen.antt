@@ -5,7 +5,7 @@ use Rattle.std.proofs.lemmas.Bool.{cases_Bool}
 use Rattle.ov_base.specs.declared.attributes.Attributes.{Attributes}
 use Rattle.ov_base.specs.declared.bytes.Content.{Content}
 use Rattle.ov_base.specs.declared.bytes.Content.TheVariants.{File}
-use Rattle.ov_base.specs.declared.call.Call.TheVariants.{Rename}
+use Rattle.ov_base.specs.declared.call.CallOf.TheVariants.{Rename}
 use Rattle.ov_base.specs.declared.node_id.NodeId.{NodeId}
 use Rattle.plain_model.specs.Layers.{Name, Path, Named, Whiteout, Layer, held, under}
 use Rattle.plain_model.specs.Laws.{left_at}

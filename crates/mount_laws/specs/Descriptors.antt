@@ -1,7 +1,7 @@
 -- What calls by a descriptor do: on a file, on a directory, and where it is not open (POSIX.1-2017, read(), write(), lseek(), ftruncate(),
 -- fstat() and close()).
 use Rattle.std.specs.Prelude.{◌≡◌, ◌≢◌, ℕ, ◌+◌, ℤ, pos, ◌+ℤ◌, int_lt, nat_abs, false, true, not, cond, ◌&&◌, List, [], None, Some, nat_eq, nat_lt, length, take, drop}
-use Rattle.ov_base.specs.declared.call.Call.TheVariants as call
+use Rattle.ov_base.specs.declared.call.CallOf.TheVariants as call
 use Rattle.ov_base.specs.declared.errno.Errno.TheVariants as errno
 use Rattle.ov_base.specs.declared.reply.Reply.TheVariants as reply
 use Rattle.plain_model.specs.Tree.{Node, is_folder}

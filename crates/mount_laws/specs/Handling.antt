@@ -2,7 +2,7 @@
 -- Descriptor Allocation, and open() and rename()).
 use Rattle.std.specs.Prelude.{◌≡◌, ◌↔◌, ℕ, ◌<◌, true, List, Option, Some, nat_eq, length}
 use Rattle.std.specs.List.{IsDistinct}
-use Rattle.ov_base.specs.declared.call.Call.TheVariants.{Open}
+use Rattle.ov_base.specs.declared.call.CallOf.TheVariants.{Open}
 use Rattle.ov_base.specs.declared.call.OpenFlags.{OpenFlags}
 use Rattle.ov_base.specs.declared.node_id.NodeId.{NodeId}
 use Rattle.plain_model.specs.Layers.{Name, Path}

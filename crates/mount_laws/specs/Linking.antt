@@ -1,7 +1,7 @@
 -- What link does on the merge of layers, told by what the layers show (link(2) and POSIX.1-2017, link(), as Linux's namei.c asks for its
 -- errors; overlayfs.rst, "Non-directories": a file of a lower layer is copied up first).
 use Rattle.std.specs.Prelude.{◌≡◌, ◌≢◌, ℕ, suc, ◌+◌, Bool, ◌&&◌, List, ◌∷◌, ◌++◌, Option, None, Some, is_some, option_map, ◌⊎◌}
-use Rattle.ov_base.specs.declared.call.Call.TheVariants as call
+use Rattle.ov_base.specs.declared.call.CallOf.TheVariants as call
 use Rattle.ov_base.specs.declared.errno.Errno.{Errno}
 use Rattle.ov_base.specs.declared.errno.Errno.TheVariants as errno
 use Rattle.ov_base.specs.declared.node_id.NodeId.{NodeId}

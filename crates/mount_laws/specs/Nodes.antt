@@ -1,8 +1,8 @@
 -- What becomes of nodes by a call of the plain machine: which stay directories and untouched, which are made, and which go (POSIX.1-2017,
 -- Base Definitions, Link Count, and the pages of the calls; overlayfs.rst, "Non-directories": a file of a lower layer is copied up first).
 use Rattle.std.specs.Prelude.{◌≡◌, ℕ, ◌≤◌, Bool, true, false, not, cond, ◌&&◌, List, ◌∷◌, Option, None, Some, option_and_then, nat_lt, is_none, is_some}
-use Rattle.ov_base.specs.declared.call.Call.{Call}
-use Rattle.ov_base.specs.declared.call.Call.TheVariants.{Chmod, Chown, SetAttribute, DeleteAttribute, Mkdir, Open, Unlink, Rmdir, Hardlink, Rename, Close}
+use Rattle.ov_base.specs.Calls.{Call}
+use Rattle.ov_base.specs.declared.call.CallOf.TheVariants.{Chmod, Chown, SetAttribute, DeleteAttribute, Mkdir, Open, Unlink, Rmdir, Hardlink, Rename, Close}
 use Rattle.ov_base.specs.declared.node_id.NodeId.{NodeId}
 use Rattle.ov_base.specs.declared.node_id.NodeId.TheVariants.{New}
 use Rattle.plain_model.specs.Layers.{Path, Layer, AreLayers}

@@ -2,7 +2,7 @@
 -- its errors; overlayfs.rst, "Non-standard behavior": who reads a file of a lower layer keeps what was there as it was opened).
 use Rattle.std.specs.Prelude.{◌≡◌, ℕ, suc, true, false, not, ◌&&◌, ◌||◌, List, ◌∷◌, Option, None, Some, is_none, is_some}
 use Rattle.ov_base.specs.declared.bytes.Content.TheVariants as content
-use Rattle.ov_base.specs.declared.call.Call.TheVariants as call
+use Rattle.ov_base.specs.declared.call.CallOf.TheVariants as call
 use Rattle.ov_base.specs.declared.call.OpenFlags.{OpenFlags}
 use Rattle.ov_base.specs.declared.errno.Errno.{Errno}
 use Rattle.ov_base.specs.declared.errno.Errno.TheVariants as errno

@@ -1,8 +1,8 @@
 -- Where paths lead after a call of the plain machine that is not refused (POSIX.1-2017, mkdir(), symlink(), open(), link(), unlink(),
 -- rmdir() and rename()).
 use Rattle.std.specs.Prelude.{◌≡◌, ◌≢◌, ℕ, Bool, true, false, List, ◌∷◌, ◌++◌, Option, None, Some}
-use Rattle.ov_base.specs.declared.call.Call.{Call}
-use Rattle.ov_base.specs.declared.call.Call.TheVariants.{Mkdir, Symlink, Open, Unlink, Rmdir, Hardlink, Rename}
+use Rattle.ov_base.specs.Calls.{Call}
+use Rattle.ov_base.specs.declared.call.CallOf.TheVariants.{Mkdir, Symlink, Open, Unlink, Rmdir, Hardlink, Rename}
 use Rattle.ov_base.specs.declared.node_id.NodeId.{NodeId}
 use Rattle.ov_base.specs.declared.node_id.NodeId.TheVariants.{New}
 use Rattle.plain_model.specs.Layers.{Name, Path, Layer}

@@ -1,7 +1,7 @@
 -- What rename does on the merge of layers, told by what the layers show (rename(2) and POSIX.1-2017, rename(), as Linux's namei.c asks for
 -- its errors; overlayfs.rst, "redirect_dir": a directory that lower layers have moves with a redirect alone).
 use Rattle.std.specs.Prelude.{◌≡◌, ◌↔◌, ℕ, Bool, true, false, not, ◌&&◌, ◌||◌, List, [], ◌∷◌, ◌++◌, Option, None, Some, nat_eq, is_some}
-use Rattle.ov_base.specs.declared.call.Call.TheVariants as call
+use Rattle.ov_base.specs.declared.call.CallOf.TheVariants as call
 use Rattle.ov_base.specs.declared.errno.Errno.{Errno}
 use Rattle.ov_base.specs.declared.errno.Errno.TheVariants as errno
 use Rattle.ov_base.specs.declared.node_id.NodeId.{NodeId}

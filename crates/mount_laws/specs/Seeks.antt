@@ -1,6 +1,6 @@
 -- What a seek does on a handle on a directory (POSIX.1-2017, lseek() and rewinddir()).
 use Rattle.std.specs.Prelude.{◌≡◌, ℕ, ℤ, pos, true, not, ◌&&◌, nat_abs, nat_eq, None, Some}
-use Rattle.ov_base.specs.declared.call.Call.TheVariants as call
+use Rattle.ov_base.specs.declared.call.CallOf.TheVariants as call
 use Rattle.ov_base.specs.declared.errno.Errno.TheVariants as errno
 use Rattle.ov_base.specs.declared.reply.Reply.TheVariants as reply
 use Rattle.plain_model.specs.Tree.{is_folder}

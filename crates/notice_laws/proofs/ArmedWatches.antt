@@ -1,6 +1,6 @@
 -- What is kept for watches after the calls on watches: a slot is armed, a watch is taken away, notices are read.
 use Rattle.std.proofs.Common.{◌≡◌, ℕ, List, [], ◌∷◌, Option, None, Some, refl, sym, ap, subst, ◌∙◌, drop}
-use Rattle.ov_base.specs.declared.call.Call.TheVariants.{Arm, Disarm, TakeNotices}
+use Rattle.ov_base.specs.declared.call.CallOf.TheVariants.{Arm, Disarm, TakeNotices}
 use Rattle.ov_base.specs.declared.node_id.NodeId.{NodeId}
 use Rattle.ov_base.specs.declared.node_id.NodeId.TheVariants.{New}
 use Rattle.plain_model.specs.Layers.{Layer}

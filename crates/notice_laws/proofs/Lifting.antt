@@ -1,8 +1,8 @@
 -- Changes of attributes and further names are told by numbers as the machine tells them; a file that was untouched is in the upper then.
 use Rattle.std.proofs.Common.{◌≡◌, ◌≢◌, ℕ, true, List, ◌∷◌, ◌++◌, Option, None, Some, refl, sym, ap, subst, ◌∙◌, ◌⊎◌, inl, inr, is_some, is_none, nat_lt, length}
 use Rattle.std.proofs.lemmas.Bool.{false≢true}
-use Rattle.ov_base.specs.declared.call.Call.{Call}
-use Rattle.ov_base.specs.declared.call.Call.TheVariants.{Chmod, Chown, SetAttribute, DeleteAttribute, Hardlink}
+use Rattle.ov_base.specs.Calls.{Call}
+use Rattle.ov_base.specs.declared.call.CallOf.TheVariants.{Chmod, Chown, SetAttribute, DeleteAttribute, Hardlink}
 use Rattle.ov_base.specs.declared.errno.Errno.TheVariants.{EFBIG}
 use Rattle.ov_base.specs.declared.node_id.NodeId.{NodeId}
 use Rattle.plain_model.specs.Layers.{Path, Layer, Shown, shows, base}

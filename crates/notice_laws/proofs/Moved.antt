@@ -1,7 +1,7 @@
 -- What a rename that moves something tells by numbers, and that what is kept for watches is the new state's then.
 use Rattle.std.proofs.Common.{◌≡◌, ℕ, suc, Bool, true, false, not, cond, List, [], ◌∷◌, Option, None, Some, refl, sym, ap, subst, subst₂, ◌∙◌}
 use Rattle.ov_base.specs.Cookies.{cookie_of}
-use Rattle.ov_base.specs.declared.call.Call.TheVariants.{Rename}
+use Rattle.ov_base.specs.declared.call.CallOf.TheVariants.{Rename}
 use Rattle.ov_base.specs.declared.node_id.NodeId.{NodeId}
 use Rattle.plain_model.specs.Layers.{Name, Path, Layer, shows, is_directory}
 use Rattle.plain_model.specs.Tree.{Tree, node_at, node_of, is_folder}

@@ -1,6 +1,6 @@
 -- How what is kept for watches goes on after a call that leaves what descriptors are on: by what it tells, and where objects are then.
 use Rattle.std.proofs.Common.{◌≡◌, ◌≢◌, ℕ, ◌<◌, true, List, None, Some, refl, sym, ap, subst, ◌∙◌}
-use Rattle.ov_base.specs.declared.call.Call.{Call}
+use Rattle.ov_base.specs.Calls.{Call}
 use Rattle.ov_base.specs.declared.node_id.NodeId.{NodeId}
 use Rattle.ov_base.specs.declared.node_id.NodeId.TheVariants.{New}
 use Rattle.plain_model.specs.Layers.{Path, Layer}

@@ -1,7 +1,7 @@
 -- The directory of a path that a call walked to is shown.
 use Rattle.std.proofs.Common.{◌≡◌, ℕ, true, not, List, [], ◌∷◌, Option, None, Some, refl, sym, ◌∙◌}
 use Rattle.std.proofs.lemmas.Bool.{not-false}
-use Rattle.ov_base.specs.declared.call.Call.TheVariants.{Unlink, Rmdir, Rename}
+use Rattle.ov_base.specs.declared.call.CallOf.TheVariants.{Unlink, Rmdir, Rename}
 use Rattle.ov_base.specs.declared.errno.Errno.TheVariants.{ENOTDIR, EBUSY}
 use Rattle.plain_model.specs.Layers.{Path, Layer, Shown, Folder, Contents, shows, is_directory}
 use Rattle.plain_model.specs.Tree.{node_at, node_of, is_folder}

@@ -4,8 +4,8 @@ use Rattle.std.specs.Option.{IsSome}
 use Rattle.std.specs.Prelude.{slice_get, slice_set}
 use Rattle.std.specs.List.{IsDistinct}
 use Rattle.std.proofs.lemmas.Bool.{cases_Bool, false≢true, both_ways, eqb-true, eq-eqb}
-use Rattle.ov_base.specs.declared.call.Call.TheVariants.{Open, Rename, Read, Write, Seek, ListNames, Close, Arm, TakeNotices}
-use Rattle.ov_base.specs.declared.call.Call.{Call}
+use Rattle.ov_base.specs.declared.call.CallOf.TheVariants.{Open, Rename, Read, Write, Seek, ListNames, Close, Arm, TakeNotices}
+use Rattle.ov_base.specs.Calls.{Call}
 use Rattle.ov_base.specs.declared.node_id.NodeId.{NodeId}
 use Rattle.plain_model.specs.Layers.{Name}
 use Rattle.plain_model.specs.Tree.{is_folder}

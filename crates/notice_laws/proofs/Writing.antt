@@ -1,6 +1,6 @@
 -- Writes and truncations are told by numbers as the machine tells them.
 use Rattle.std.proofs.Common.{◌≡◌, ℕ, false, cond, [], Some, refl, sym, subst, ◌∙◌}
-use Rattle.ov_base.specs.declared.call.Call.TheVariants.{Write, Truncate}
+use Rattle.ov_base.specs.declared.call.CallOf.TheVariants.{Write, Truncate}
 use Rattle.plain_model.specs.Layers.{Layer}
 use Rattle.plain_model.specs.Tree.{is_folder}
 use Rattle.plain_model.specs.Watching.{MODIFY, Rule}

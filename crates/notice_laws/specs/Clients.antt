@@ -1,7 +1,7 @@
 -- What is kept for watches as a mount begins, as clients come and go, and by the calls on watches (inotify_add_watch(2),
 -- inotify_rm_watch(2) and inotify(7)).
 use Rattle.std.specs.Prelude.{◌≡◌, ℕ, ℤ, not, List, [], ◌∷◌, ◌++◌, None, Some, nat_eq, filter, drop}
-use Rattle.ov_base.specs.declared.call.Call.TheVariants.{Arm, Disarm, TakeNotices}
+use Rattle.ov_base.specs.declared.call.CallOf.TheVariants.{Arm, Disarm, TakeNotices}
 use Rattle.ov_base.specs.declared.node_id.NodeId.TheVariants.{New}
 use Rattle.plain_model.specs.Layers.{Path, Layer}
 use Rattle.plain_model.specs.Tree.{Tree}

@@ -2,7 +2,7 @@
 -- `IN_MOVED_TO` and `IN_MOVE_SELF`).
 use Rattle.std.specs.Prelude.{◌≡◌, ◌≢◌, ℕ, suc, Bool, true, false, List, [], ◌++◌, Option, None, Some, option_map}
 use Rattle.ov_base.specs.Cookies.{cookie_of}
-use Rattle.ov_base.specs.declared.call.Call.TheVariants.{Rename}
+use Rattle.ov_base.specs.declared.call.CallOf.TheVariants.{Rename}
 use Rattle.plain_model.specs.Layers.{Path, Layer}
 use Rattle.plain_model.specs.Watching.{ATTRIB, MOVED_FROM, MOVED_TO, MOVE_SELF, Subject, Rule}
 use Rattle.plain_model.specs.Machine.{State, look, same_found}

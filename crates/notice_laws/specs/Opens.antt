@@ -1,6 +1,6 @@
 -- What an open tells by numbers, and how numbers come to be held and are let go (inotify(7), `IN_OPEN` and `IN_CREATE`).
 use Rattle.std.specs.Prelude.{◌≡◌, ◌≢◌, ℕ, Bool, true, false, cond, List, [], ◌∷◌, ◌++◌, Option, None, Some}
-use Rattle.ov_base.specs.declared.call.Call.TheVariants.{Open}
+use Rattle.ov_base.specs.declared.call.CallOf.TheVariants.{Open}
 use Rattle.ov_base.specs.declared.call.OpenFlags.{OpenFlags}
 use Rattle.plain_model.specs.Layers.{Path, Layer, shows}
 use Rattle.plain_model.specs.Tree.{node_at}

@@ -1,7 +1,7 @@
 -- Where nodes that are tracked are after a call, which names they have, and which of them descriptors are on.
 use Rattle.std.specs.Prelude.{◌≡◌, ◌≢◌, ◌↔◌, ℕ, ◌<◌, Bool, true, false, List, Option, Some, IsSome, nat_eq}
 use Rattle.std.specs.List.{IsDistinct}
-use Rattle.ov_base.specs.declared.call.Call.{Call}
+use Rattle.ov_base.specs.Calls.{Call}
 use Rattle.ov_base.specs.declared.node_id.NodeId.{NodeId}
 use Rattle.ov_base.specs.declared.node_id.NodeId.TheVariants.{New}
 use Rattle.plain_model.specs.Layers.{Path, Layer}

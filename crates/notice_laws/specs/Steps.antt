@@ -1,7 +1,7 @@
 -- What the calls tell by numbers, call by call, and that it is what the machine's calls tell (inotify(7); the order is this engine's own).
 use Rattle.std.specs.Prelude.{◌≡◌, ◌≢◌, ◌⊎◌, ℕ, ◌+◌, Bool, true, false, cond, List, [], ◌++◌, Option, None, Some}
-use Rattle.ov_base.specs.declared.call.Call.{Call}
-use Rattle.ov_base.specs.declared.call.Call.TheVariants.{Chmod, Chown, SetAttribute, DeleteAttribute, Mkdir, Symlink, Open, Unlink, Rmdir, Hardlink, Read, Write, Truncate, Close, Rename, Arm, TakeNotices}
+use Rattle.ov_base.specs.Calls.{Call}
+use Rattle.ov_base.specs.declared.call.CallOf.TheVariants.{Chmod, Chown, SetAttribute, DeleteAttribute, Mkdir, Symlink, Open, Unlink, Rmdir, Hardlink, Read, Write, Truncate, Close, Rename, Arm, TakeNotices}
 use Rattle.plain_model.specs.Layers.{Path, Layer}
 use Rattle.plain_model.specs.Tree.{node_at, is_folder}
 use Rattle.plain_model.specs.Watching.{ACCESS, MODIFY, ATTRIB, CREATE, DELETE, ISDIR, Rule}

@@ -1,5 +1,6 @@
 pub mod AttributeChanges
 pub mod AttributeNames
+pub mod Calls
 pub mod Cookies
 pub mod Errnos
 pub mod EventNames

@@ -1,5 +1,5 @@
 // Byte strings, seen by contracts as lists of bytes.
-ghost use Rattle.std.specs.Prelude.{◌≡◌, ◌==◌, [], IfOk};
+ghost use Rattle.std.specs.Prelude.{◌≡◌, ◌==◌, ℕ, List, [], IfOk};
 ghost use Rattle.std.specs.Cmp.Lexicographic.{pointwise};
 ghost use Rattle.std.specs.Cmp.Rules.{comparing, hashing};
 ghost use Rattle.std.specs.Hash as fed;
@@ -96,6 +96,23 @@ impl Bytes {
     {
         let Bytes { bytes } = self;
         bytes
+    }
+}
+
+/// What spells bytes, as a word of a line does.
+pub trait IntoBytes: Drop {
+    ghost bytes: { Self → List ℕ };
+
+    /// The bytes that it spells.
+    fn into_bytes(self, alloc: Global) -> Result<Bytes, AllocError>
+        ensures { IfOk result (λ b. b ≡ bytes self) };
+}
+
+impl IntoBytes for Bytes {
+    ghost bytes = { λ b. b };
+
+    fn into_bytes(self, _alloc: Global) -> Result<Bytes, AllocError> {
+        Ok(self)
     }
 }
 

@@ -17,14 +17,15 @@ mod notice;
 mod options;
 mod path;
 mod place;
+mod plain;
 mod redirect;
 mod reply;
 
 pub use attribute_change::AttributeChange;
 pub use attribute_name::AttributeName;
 pub use attributes::{Attributes, UserAttributes};
-pub use bytes::{Bytes, Content, Texts};
-pub use call::{Call, OpenFlags};
+pub use bytes::{Bytes, Content, IntoBytes, Texts};
+pub use call::{Call, CallOf, OpenFlags};
 pub use cookie::cookie_of;
 pub use errno::Errno;
 pub use event_name::EventName;

@@ -12,6 +12,7 @@ ghost use Rattle.ov_base.specs.StoredNames.{bytes_of, IsWithin};
 
 use crate::bytes::Bytes;
 use crate::errno::Errno;
+use crate::plain::plain_run;
 use std::alloc::{AllocError, Global};
 use std::cmp::Ordering;
 use std::hash::{Hash, Hasher};
@@ -112,21 +113,11 @@ impl Hash for Name {
     }
 }
 
+// Whether no byte is `/` or NUL.
 fn is_plain(bytes: &[u8]) -> bool
     ensures { result ≡ list_all (λ b. not (nat_eq b 47) && not (nat_eq b 0)) bytes.now }
 {
-    bytes.iter().all(|b| *b != b'/' && *b != 0)
-}
-
-// Whether at most 255 bytes are a name.
-fn is_name(bytes: &[u8]) -> bool
-    requires { length bytes.now ≤ 255 }
-    ensures { result ≡ names.is_name bytes.now }
-{
-    match bytes {
-        [] | [b'.'] | [b'.', b'.'] => false,
-        _ => is_plain(bytes),
-    }
+    plain_run(bytes) == bytes.len()
 }
 
 impl Stored {
@@ -178,11 +169,27 @@ impl Name {
         if bytes.len() > NAME_MAX {
             return Ok(Err(Errno::ENAMETOOLONG));
         }
-        if !is_name(bytes) {
+        if !is_plain(bytes) {
             return Ok(Err(Errno::EINVAL));
         }
-        let stored = Stored::new(alloc, bytes)?;
-        Ok(Ok(Name { stored }))
+        Name::of_plain(alloc, bytes)
+    }
+
+    // The same of at most 255 bytes that are known to have no `/` and no NUL.
+    pub(crate) fn of_plain(alloc: Global, bytes: &[u8]) -> Result<Result<Name, Errno>, AllocError>
+        requires within { length bytes.now ≤ 255 }
+        requires plain { IsTrue (list_all (λ b. not (nat_eq b 47) && not (nat_eq b 0)) bytes.now) }
+        ensures told { IfOk result (λ outcome. outcome ≡ name_of bytes.now) }
+        ensures no_memory { OnErr result (name_of bytes.now ≡ Ok bytes.now) }
+        ensures short { length bytes.now ≤ 22 → IsOk result }
+    {
+        match bytes {
+            [] | [b'.'] | [b'.', b'.'] => Ok(Err(Errno::EINVAL)),
+            _ => {
+                let stored = Stored::new(alloc, bytes)?;
+                Ok(Ok(Name { stored }))
+            }
+        }
     }
 
     /// The bytes of the name.

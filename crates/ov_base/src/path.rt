@@ -1,9 +1,13 @@
 // Paths from the root.
-ghost use Rattle.std.specs.Prelude.{◌≡◌, ◌∷◌, [], ◌<◌, IfOk, IfSome, MatchOption, OnErr, reverse, length, nat_eq, position};
+ghost use Rattle.std.specs.Prelude.{◌≡◌, ◌∷◌, [], ◌≤◌, ◌&&◌, reverse, length, nat_eq, nat_lt};
+ghost use Rattle.std.specs.Prelude.{IfOk, MatchOption, OnErr, slice_index};
+ghost use Rattle.std.specs.List.{before_first, position_or_len};
+ghost use Rattle.ov_base.specs.Names.{name_fault};
 ghost use Rattle.ov_base.specs.Paths.{path_of_text, path_below, pieces};
 
 use crate::errno::Errno;
-use crate::name::Name;
+use crate::name::{NAME_MAX, Name};
+use crate::plain::plain_run;
 use std::alloc::{AllocError, Global};
 use std::marker::Model;
 
@@ -74,17 +78,41 @@ impl Path {
     }
 }
 
-// The place of the first `/`.
-fn first_slash(text: &[u8]) -> Option<usize>
-    ensures place { result ≡ position (λ b. nat_eq b 47) text.now }
-    ensures within { IfSome result (λ place. place < length text.now) }
+// Whether a NUL stands at this place.
+fn has_nul_at(text: &[u8], place: usize) -> bool
+    ensures { result ≡ (nat_lt place (length text.now) && nat_eq (slice_index text.now place) 0) }
 {
-    text.iter().position(|b| *b == b'/')
+    place < text.len() && text[place] == 0
 }
 
-// How many `/` a text has.
-fn slashes(text: &[u8]) -> usize {
-    text.iter().filter(|b| **b == b'/').count()
+// How many bytes come before the first `/`.
+fn before_slash(text: &[u8]) -> usize
+    ensures { result ≡ position_or_len (λ b. nat_eq b 47) text.now }
+{
+    text.iter().take_while(|b| **b != b'/').count()
+}
+
+// The refusal of the piece before the first `/`, where that is no name.
+fn first_fault(text: &[u8]) -> Errno
+    ensures { result ≡ name_fault (before_first (λ b. nat_eq b 47) text.now) }
+{
+    if before_slash(text) > NAME_MAX {
+        Errno::ENAMETOOLONG
+    } else {
+        Errno::EINVAL
+    }
+}
+
+// How many `/` a text has. It counts in 16 bits, which no path passes, so that the compiler can
+// count several bytes at a time.
+fn slashes(text: &[u8]) -> usize
+    requires { length text.now ≤ 4095 }
+{
+    let mut count: u16 = 0;
+    for byte in text {
+        count += (*byte == b'/') as u16;
+    }
+    count as usize
 }
 
 // The path below the root; room is made for so many names at once.
@@ -95,18 +123,22 @@ fn parse_names(alloc: Global, text: &[u8], room: usize) -> Result<Result<Path, E
         names: Vec::with_capacity(alloc, room)?,
     };
     let mut rest = text;
-    'names: while let Some(end) = first_slash(rest) {
-        match Name::parse(alloc, &rest[..end])? {
+    'names: loop {
+        let end = plain_run(rest);
+        if end > NAME_MAX {
+            return Ok(Err(Errno::ENAMETOOLONG));
+        }
+        // A piece with a NUL is no name, and goes on to the next `/`.
+        if has_nul_at(rest, end) {
+            return Ok(Err(first_fault(rest)));
+        }
+        match Name::of_plain(alloc, &rest[..end])? {
             Ok(name) => path.push(name)?,
             Err(fault) => return Ok(Err(fault)),
         }
-        rest = &rest[end + 1..];
-    }
-    match Name::parse(alloc, rest)? {
-        Ok(last) => {
-            path.push(last)?;
-            Ok(Ok(path))
+        if end == rest.len() {
+            return Ok(Ok(path));
         }
-        Err(fault) => Ok(Err(fault)),
+        rest = &rest[end + 1..];
     }
 }

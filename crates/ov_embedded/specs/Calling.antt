@@ -2,7 +2,7 @@
 use Rattle.std.specs.Prelude.{◌≡◌, ◌≢◌, ℕ, ◌≤◌, ◌^◌, List, [], ◌∷◌, ◌++◌, length, take, drop, false, Option, Some, None, Result, Ok, Err}
 use Rattle.doors.specs.owned.Entries.{IsPlayed}
 use Rattle.mount_calls.specs.Attaching.{KeepsAttached}
-use Rattle.ov_base.specs.declared.call.Call.{Call}
+use Rattle.ov_base.specs.Calls.{Call}
 use Rattle.ov_base.specs.declared.errno.Errno.{Errno}
 use Rattle.ov_frames.specs.Asked.{asked_of}
 use Rattle.ov_frames.specs.Replies.{answer_frame}

@@ -1,7 +1,7 @@
 // Bytes of a file, without frames.
 ghost use Rattle.std.specs.Prelude.{◌≡◌, ◌≤◌, ◌+◌, ◌<◌, ◌^◌, [], ◌∷◌, length, true};
 ghost use Rattle.mount_calls.specs.Reading.{read_reply, KeepsRoom};
-ghost use Rattle.ov_base.specs.declared.call.Call.TheVariants as call;
+ghost use Rattle.ov_base.specs.declared.call.CallOf.TheVariants as call;
 ghost use Rattle.ov_frames.specs.declared.answer.Answer.TheVariants.{Replied};
 ghost use Rattle.ov_session.specs.declared.exchange.Exchange.TheVariants.{Called};
 ghost use Rattle.overlay_core.specs.Views.{core_finished, has_client};

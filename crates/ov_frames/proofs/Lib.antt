@@ -1,5 +1,6 @@
 pub mod Completing
 pub mod Every
+pub mod FlagBytes
 pub mod Formats
 pub mod Framed
 pub mod Joined

@@ -1,6 +1,7 @@
 pub mod Asked
 pub mod Feeding
 pub mod Fields
+pub mod Flags
 pub mod Frames
 pub mod Fronts
 pub mod Gives

@@ -4,6 +4,7 @@
 use Rattle.std.specs.Prelude.{◌≡◌, ℕ, ◌<◌, ◌≤◌, ◌^◌, FitsSigned, List, [], ◌∷◌, length, Option, Some, None, Result, Ok, Err, nat_eq, nat_lt, if◌then◌else◌}
 use Rattle.std.specs.Int.{w32}
 use Rattle.std.specs.List.{AllByRecursion}
+use Rattle.ov_base.specs.declared.call.CallOf.TheVariants as call
 use Rattle.ov_base.specs.declared.notice.Notice.{Notice}
 use Rattle.ov_base.specs.declared.reply.Reply.{Reply}
 use Rattle.ov_base.specs.declared.reply.Reply.TheVariants as reply
@@ -18,7 +19,7 @@ use Rattle.ov_frames.specs.declared.answer.Answer.TheVariants.{Replied, NotTaken
 use Rattle.ov_frames.specs.declared.fault.FrameFault.{FrameFault}
 use Rattle.ov_frames.specs.declared.fault.FrameFault.TheVariants.{BadLength, BadFields}
 use Rattle.ov_frames.specs.declared.request.Request.{Request}
-use Rattle.ov_frames.specs.declared.request.Request.TheVariants.{Stat as StatRequest, Readlink, GetAttribute, ListAttributes, Open, Read, Write, Seek, Fstat, ListNames, Arm, TakeNotices}
+use Rattle.ov_frames.specs.declared.request.Request.TheVariants.{Call}
 
 -- what the calls answer
 pub data Kind : Type 0 where
@@ -36,18 +37,18 @@ pub data Kind : Type 0 where
   OfNotices : Kind
 
 abbrev pub kind_for : Request → Kind
-kind_for (StatRequest p) = OfStatus
-kind_for (Readlink p) = OfTarget
-kind_for (GetAttribute p name) = OfValue
-kind_for (ListAttributes p) = OfAttributeNames
-kind_for (Open flags mode p) = OfDescriptor
-kind_for (Read fd n) = OfBytes
-kind_for (Write fd bytes) = OfWritten
-kind_for (Seek fd offset whence) = OfPlace
-kind_for (Fstat fd) = OfStatus
-kind_for (ListNames fd n) = OfNames
-kind_for (Arm slot mask p) = OfWatch
-kind_for (TakeNotices n) = OfNotices
+kind_for (Call (call.Stat p)) = OfStatus
+kind_for (Call (call.Readlink p)) = OfTarget
+kind_for (Call (call.GetAttribute p name)) = OfValue
+kind_for (Call (call.ListAttributes p)) = OfAttributeNames
+kind_for (Call (call.Open p flags mode)) = OfDescriptor
+kind_for (Call (call.Read fd n)) = OfBytes
+kind_for (Call (call.Write fd bytes)) = OfWritten
+kind_for (Call (call.Seek fd offset whence)) = OfPlace
+kind_for (Call (call.Fstat fd)) = OfStatus
+kind_for (Call (call.ListNames fd n)) = OfNames
+kind_for (Call (call.Arm slot p mask)) = OfWatch
+kind_for (Call (call.TakeNotices n)) = OfNotices
 kind_for r = OfNothing
 
 -- the answer of a call that was made: all of the bytes behind its place

@@ -3,7 +3,6 @@
 #![tactic(auto)]
 
 mod answer;
-mod asked;
 mod decoder;
 mod fault;
 mod feeding;
@@ -20,5 +19,5 @@ pub use decoder::{Decoder, End};
 pub use fault::FrameFault;
 pub use front::{FRAME_MAX, Front, front_end, front_of};
 pub use laws::{law_of_frames, law_of_pieces, law_of_replies, worked_rows};
-pub use request::Request;
+pub use request::{Request, TextCall};
 pub use writing::{append_reply, encode_reply};

@@ -1,12 +1,12 @@
 // The flags of opens.
 ghost use Rattle.std.specs.Prelude.{◌≡◌};
-ghost use Rattle.ov_frames.specs.Asked as asked;
+ghost use Rattle.ov_frames.specs.Flags as bits;
 
 use ov_base::OpenFlags;
 
 /// The flags of a byte: two bits of access, and one bit for each other flag.
 pub(crate) fn flags_of(flags: u8) -> OpenFlags
-    ensures { result ≡ asked.flags_of flags }
+    ensures { result ≡ bits.flags_of flags }
 {
     let access = flags % 4;
     OpenFlags {

@@ -3,6 +3,7 @@ ghost use Rattle.std.specs.Prelude.{◌≡◌, ◌∷◌, Some, None, ◌<◌, �
 ghost use Rattle.ov_script.specs.Escapes as escapes;
 ghost use Rattle.ov_script.specs.Escapes.{LawOfEscapes, escaped_byte, escaped_of, hexadecimal_value, spelled, spelled_word};
 
+use ov_base::{Bytes, IntoBytes};
 use std::alloc::{AllocError, Global};
 use std::fmt;
 use std::marker::Model;
@@ -90,6 +91,14 @@ impl<'a> EscapedWord<'a> {
         } else {
             spelled_bytes(alloc, self.word)
         }
+    }
+}
+
+impl IntoBytes for EscapedWord<'_> {
+    ghost bytes = { λ w. w };
+
+    fn into_bytes(self, alloc: Global) -> Result<Bytes, AllocError> {
+        Ok(Bytes::from_vec(self.bytes(alloc)?))
     }
 }
 

@@ -1,7 +1,6 @@
 //! Scripts: the commands that lines spell, and the lines that answer them.
 #![tactic(auto)]
 
-mod calls;
 mod escape;
 mod flags;
 mod lines;

@@ -9,7 +9,7 @@ ghost use Rattle.ov_script.specs.Words.{words};
 use crate::escape::EscapedWord;
 use crate::flags::open_flags;
 use crate::numbers::{decimal, mask, octal_mode, offset, size, slot, steps, watch};
-use ov_base::OpenFlags;
+use ov_base::CallOf;
 
 /// A line that is no command.
 #[derive(Clone, Copy, Debug, PartialEq, Eq)]
@@ -34,105 +34,7 @@ pub enum Command<'a> {
 }
 
 /// A call as a line spells it. Its words have their form; whether a path is one is judged later.
-#[derive(Drop)]
-pub enum CallText<'a> {
-    Stat {
-        path: EscapedWord<'a>,
-    },
-    Readlink {
-        path: EscapedWord<'a>,
-    },
-    Chmod {
-        mode: u32,
-        path: EscapedWord<'a>,
-    },
-    Chown {
-        uid: u32,
-        gid: u32,
-        path: EscapedWord<'a>,
-    },
-    SetAttribute {
-        path: EscapedWord<'a>,
-        name: EscapedWord<'a>,
-        value: EscapedWord<'a>,
-    },
-    GetAttribute {
-        path: EscapedWord<'a>,
-        name: EscapedWord<'a>,
-    },
-    DeleteAttribute {
-        path: EscapedWord<'a>,
-        name: EscapedWord<'a>,
-    },
-    ListAttributes {
-        path: EscapedWord<'a>,
-    },
-    Mkdir {
-        mode: u32,
-        path: EscapedWord<'a>,
-    },
-    Symlink {
-        target: EscapedWord<'a>,
-        path: EscapedWord<'a>,
-    },
-    Link {
-        old: EscapedWord<'a>,
-        new: EscapedWord<'a>,
-    },
-    Rename {
-        old: EscapedWord<'a>,
-        new: EscapedWord<'a>,
-    },
-    Unlink {
-        path: EscapedWord<'a>,
-    },
-    Rmdir {
-        path: EscapedWord<'a>,
-    },
-    Open {
-        flags: OpenFlags,
-        path: EscapedWord<'a>,
-        mode: u32,
-    },
-    Read {
-        descriptor: u32,
-        count: u32,
-    },
-    Write {
-        descriptor: u32,
-        bytes: EscapedWord<'a>,
-    },
-    Seek {
-        descriptor: u32,
-        offset: i64,
-        whence: u8,
-    },
-    Truncate {
-        descriptor: u32,
-        size: u64,
-    },
-    Fstat {
-        descriptor: u32,
-    },
-    ListNames {
-        descriptor: u32,
-        count: u32,
-    },
-    Close {
-        descriptor: u32,
-    },
-    Arm {
-        slot: u8,
-        mask: u32,
-        path: EscapedWord<'a>,
-    },
-    Disarm {
-        watch: i32,
-    },
-    TakeNotices {
-        count: u32,
-    },
-}
+pub type CallText<'a> = CallOf<EscapedWord<'a>, EscapedWord<'a>>;
 
 /// How many steps `step` makes where the line has no number.
 const STEPS_DEFAULT: u64 = 1;
@@ -378,7 +280,7 @@ fn path_call_of_two<'a>(name: &[u8], first: &'a [u8], second: &'a [u8]) -> Optio
     } else if name == b"link".as_slice() {
         let old = EscapedWord::parse(first)?;
         let new = EscapedWord::parse(second)?;
-        Some(CallText::Link { old, new })
+        Some(CallText::Hardlink { old, new })
     } else if name == b"rename".as_slice() {
         let old = EscapedWord::parse(first)?;
         let new = EscapedWord::parse(second)?;

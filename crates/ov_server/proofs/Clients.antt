@@ -3,12 +3,11 @@ use Rattle.std.proofs.Common.{◌≡◌, ◌≢◌, ◌∙◌, ℕ, ◌+◌, Boo
 use Rattle.std.specs.Global.{Vec}
 use Rattle.std.proofs.lemmas.Bool.{cases_Bool, cases_eq, eqb-false, eqb-true, ne_eqb}
 use Rattle.std.proofs.lemmas.Map.Views.{any-filter_same}
-use Rattle.ov_base.specs.declared.call.Call.{Call}
+use Rattle.ov_base.specs.Calls.{Call, TextCall, call_of}
 use Rattle.ov_base.specs.declared.errno.Errno.{Errno}
-use Rattle.ov_script.specs.Commands.{call_of, command_of}
+use Rattle.ov_script.specs.Commands.{command_of}
 use Rattle.ov_script.specs.declared.script.Command.{Command}
 use Rattle.ov_script.specs.declared.script.Command.TheVariants as command
-use Rattle.ov_script.specs.declared.script.CallText.{CallText}
 use Rattle.layer_tree.specs.Tree.{Tree}
 use Rattle.mount_calls.specs.Attaching.{Attaches, Detaches, KeepsAttached}
 use Rattle.overlay_core.specs.Views.{CoreKeeps, core_clients, core_layers, core_read_only, has_client}
@@ -147,7 +146,7 @@ pub step_keeps : {F G : Type 0} {asks : Callback F} {rule : Rule G} (old new : C
 step_keeps old new h same lowers = record { attached = h.attached; next = h.next; layers = same_layers old new same lowers }
 
 -- what keeps who is attached plays a call of a client that may call
-pub call_plays : {F G : Type 0} {asks : Callback F} {rule : Rule G} (old new : Stage F G asks rule) (n : ℕ) (text : CallText) → stages.may_call old n ≡ true → KeepsClients old.core new.core → KeepsCalls old new → PlaysCommand old (command.Call n text) new
+pub call_plays : {F G : Type 0} {asks : Callback F} {rule : Rule G} (old new : Stage F G asks rule) (n : ℕ) (text : TextCall) → stages.may_call old n ≡ true → KeepsClients old.core new.core → KeepsCalls old new → PlaysCommand old (command.Call n text) new
 call_plays old new n text may h kept = record {
   good = λ r st. may_same old r n st ∙ may;
   leaves = λ r st. (r, (refl, stands_by old new r r.calling h st (calls_kept old new r st kept)));
@@ -165,7 +164,7 @@ start_leaves old new n (Ok call) (Some a) h goes kept r st = (r, (inl refl, stan
 start_leaves old new n (Err errno) None h goes kept r st = absurd goes
 start_leaves old new n (Err errno) (Some a) h goes kept r st = (r, (refl, stands_by old new r r.calling h st (calls_kept old new r st goes)))
 
-pub start_plays : {F G : Type 0} {asks : Callback F} {rule : Rule G} (old new : Stage F G asks rule) (n : ℕ) (text : CallText) (said : Option Answer) → stages.may_call old n ≡ true → KeepsClients old.core new.core → StartGoes old n (call_of text) new said → KeepsOtherCalls old new n → PlaysCommand old (command.Start n text) new
+pub start_plays : {F G : Type 0} {asks : Callback F} {rule : Rule G} (old new : Stage F G asks rule) (n : ℕ) (text : TextCall) (said : Option Answer) → stages.may_call old n ≡ true → KeepsClients old.core new.core → StartGoes old n (call_of text) new said → KeepsOtherCalls old new n → PlaysCommand old (command.Start n text) new
 start_plays old new n text said may h goes kept = record {
   good = λ r st. may_same old r n st ∙ may;
   leaves = start_leaves old new n (call_of text) said h goes kept;

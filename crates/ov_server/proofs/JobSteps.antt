@@ -1,7 +1,7 @@
 -- Steps of a job, one after the other, and what they are on a stage.
 use Rattle.std.proofs.Common.{◌≡◌, ◌≢◌, ◌∙◌, ◌+◌, ◌≤◌, ℕ, Bool, true, false, ◌&&◌, not, Option, Some, None, IsSomeAnd, Result, Ok, Err, refl, ap, subst, arith, inr}
 use Rattle.ov_base.specs.declared.errno.Errno.{Errno}
-use Rattle.ov_base.specs.declared.call.Call.{Call}
+use Rattle.ov_base.specs.Calls.{Call}
 use Rattle.plain_model.specs.Runs.{Called}
 use Rattle.mount_calls.specs.Attaching.{KeepsAttached}
 use Rattle.overlay_core.specs.Jobs.{TurnsTo, finished_after}

@@ -1,6 +1,6 @@
 -- What the commands of a script do on a mount: deeds of the plain machine, by the rule that the hooks keep.
 use Rattle.std.specs.Prelude.{◌≡◌, ℕ, ◌+◌, ◌≤◌, List, Option, Some, None, Result, Ok, Err}
-use Rattle.ov_base.specs.declared.call.Call.{Call}
+use Rattle.ov_base.specs.Calls.{Call}
 use Rattle.ov_base.specs.declared.errno.Errno.{Errno}
 use Rattle.ov_base.specs.declared.errno.Errno.TheVariants.{ENOMEM}
 use Rattle.ov_base.specs.declared.reply.Reply.{Reply}

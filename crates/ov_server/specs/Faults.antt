@@ -3,30 +3,18 @@ use Rattle.std.specs.Prelude.{◌≡◌, ℕ, ◌<◌, pred, cond, List, Result,
 use Rattle.toml.specs.Data.{Members}
 use Rattle.ov_wire.specs.Manifests.{has_upper, layer_count}
 use Rattle.ov_wire.specs.ManifestLayers.{manifest_of}
-use Rattle.clap.specs.Values.{kind_of}
-use Rattle.clap.specs.declared.error.kind.ErrorKind.{ErrorKind as LineErrorKind}
-use Rattle.clap.specs.declared.error.kind.ErrorKind.TheVariants as kind
-use Rattle.clap.specs.declared.error.Error.{Error}
 use Rattle.ov_wire.specs.declared.manifest.fault.ManifestFault.{ManifestFault}
 use Rattle.ov_wire.specs.declared.manifest.fault.ManifestFault.TheVariants as manifest
 use Rattle.ov_server.specs.Rosters.{Layering}
 use Rattle.ov_server.specs.declared.fault.DeviceFault.{DeviceFault}
 use Rattle.ov_server.specs.declared.fault.DeviceFault.TheVariants as device
 use Rattle.ov_server.specs.declared.fault.Fault.{Fault}
-use Rattle.ov_server.specs.declared.fault.Fault.TheVariants.{CommandLine, NotText, CannotReadManifest, CannotReadBlob, Manifest, Stream, Socket, BadCommand, Memory}
+use Rattle.ov_server.specs.declared.fault.Fault.TheVariants.{CannotReadManifest, CannotReadBlob, Manifest, Stream, Socket, BadCommand, Memory}
 use Rattle.ov_server.specs.declared.fault.Fault.TheVariants.{SaveWithoutEnd, HistoryOfNone, NoUpper, CannotSave, CannotWriteStatus, LeftOut}
 use Rattle.ov_server.specs.declared.fault.Fault.TheVariants.{CannotReadScript, CannotReadUpper, InputTwice, Upper}
 
--- the exit status of what a command line comes to: 0 where help or the version is asked for
-abbrev pub status_of_kind : LineErrorKind → ℕ
-status_of_kind kind.DisplayHelp = 0
-status_of_kind kind.DisplayVersion = 0
-status_of_kind _ = 2
-
 -- the exit status of a fault
 abbrev pub status_of : Fault → ℕ
-status_of (CommandLine error) = status_of_kind (kind_of error)
-status_of NotText = 2
 status_of CannotReadManifest = 1
 status_of (CannotReadBlob blob) = 1
 status_of (Manifest fault) = 1
@@ -54,11 +42,6 @@ device_fault device.Memory = Memory
 abbrev pub manifest_fault : ManifestFault → Fault
 manifest_fault (manifest.Memory error) = Memory
 manifest_fault fault = Manifest fault
-
--- the fault of a command line
-abbrev pub line_fault : Error → LineErrorKind → Fault
-line_fault error kind.OutOfMemory = Memory
-line_fault error _ = CommandLine error
 
 -- an allocation failure
 abbrev pub memory : Fault

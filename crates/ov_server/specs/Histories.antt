@@ -1,6 +1,6 @@
 -- What a script answers where a history has no place, and where it has.
 use Rattle.std.specs.Prelude.{◌≡◌, ℕ, Option, Some, None, Result, Ok, Err, IsOk, ◌⊎◌}
-use Rattle.ov_base.specs.declared.call.Call.{Call}
+use Rattle.ov_base.specs.Calls.{Call}
 use Rattle.ov_base.specs.declared.errno.Errno.{Errno}
 use Rattle.ov_base.specs.declared.errno.Errno.TheVariants.{ENOMEM}
 use Rattle.overlay_core.specs.Histories.{room_refusal}

@@ -2,9 +2,9 @@
 use Rattle.std.specs.Prelude.{◌≡◌, ℕ, ◌+◌, Bool, true, false, not, ◌&&◌, ◌||◌, List, [], ◌∷◌, Option, None, MatchOption, Result, Ok, Err, ◌⊎◌, cond, nat_eq, nat_le}
 use Rattle.std.specs.List.{list_any, filter}
 use Rattle.std.specs.Option.{option_map_or}
-use Rattle.ov_base.specs.declared.call.Call.{Call}
+use Rattle.ov_base.specs.Calls.{Call, call_of}
 use Rattle.ov_base.specs.declared.errno.Errno.{Errno}
-use Rattle.ov_script.specs.Commands.{call_of, command_of}
+use Rattle.ov_script.specs.Commands.{command_of}
 use Rattle.ov_script.specs.declared.script.Command.{Command}
 use Rattle.ov_script.specs.declared.script.Command.TheVariants as command
 

@@ -2,7 +2,7 @@
 use Rattle.std.specs.Prelude.{◌≡◌, ◌≢◌, ℕ, Bool, true, ◌&&◌, not, Option, Some, IsSomeAnd, is_some}
 use Rattle.std.specs.BTreeMap.{get}
 use Rattle.std.specs.Ordering.{nat_cmp}
-use Rattle.ov_base.specs.declared.call.Call.{Call}
+use Rattle.ov_base.specs.Calls.{Call}
 use Rattle.overlay_core.specs.Histories.{HasPlaces}
 use Rattle.overlay_core.specs.Views.{has_client}
 use Rattle.overlay_core.specs.declared.job.Job.{Job}

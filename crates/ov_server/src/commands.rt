@@ -2,7 +2,7 @@
 ghost use Rattle.std.specs.Prelude.{◌≡◌, ◌+◌, ◌<◌, ◌≤◌, true, Some, None, Ok, length, map};
 ghost use Rattle.std.specs.Prelude.{IfErr, IfOk, IsErr, IsOk, OnErr, OnOk};
 ghost use Rattle.ov_script.specs.declared.script.Command.TheVariants as asked;
-ghost use Rattle.ov_script.specs.Commands.{call_of};
+ghost use Rattle.ov_base.specs.Calls.{call_of};
 ghost use Rattle.overlay_core.specs.Views.{CoreGoes, core_finished, core_room, has_client, next_client};
 ghost use Rattle.plain_model.specs.Runs as runs;
 ghost use Rattle.ov_server.specs.Deeds.{AttachGoes, CallGoes, TextGoes};
@@ -55,7 +55,7 @@ pub fn play_line<K: Sink, F: Callback + Copy, H: Rule>(
         Ok(())
     } else {
         output.echo(line)?;
-        play_command(alloc, stage, hooks, &command_of(line)?, output)
+        play_command(alloc, stage, hooks, command_of(line)?, output)
     }
 }
 
@@ -74,28 +74,26 @@ fn play_command<K: Sink, F: Callback + Copy, H: Rule>(
     alloc: Global,
     stage: &mut Stage<F, H>,
     hooks: &[Hook<F, H>],
-    command: &Command<'_>,
+    command: Command<'_>,
     output: &mut Output<K>,
 ) -> Result<(), LineFault>
     requires { IsInOrder stage.old }
     ensures order { IsInOrder stage.new }
     ensures counted { core_finished stage.new.core ≤ core_finished stage.old.core + 1 }
-    ensures ok { OnOk result (PlaysCommand stage.old command.now stage.new) }
-    ensures err { IfErr result (plays.IsCommandRefusal stage.old command.now) }
+    ensures ok { OnOk result (PlaysCommand stage.old command.entry stage.new) }
+    ensures err { IfErr result (plays.IsCommandRefusal stage.old command.entry) }
     ensures stream { TellsLine (K.failures output.old.sink) (K.failures output.new.sink) result }
 {
     match command {
         Command::Attach => put_answer(attached(alloc, stage, hooks), output),
-        Command::Detach { client } => put_played(detached(stage, *client), output),
-        Command::Call { client, call } => {
-            put_played(called(alloc, stage, *client, call), output)
-        }
+        Command::Detach { client } => put_played(detached(stage, client), output),
+        Command::Call { client, call } => { put_played(called(alloc, stage, client, call), output) }
         Command::Start { client, call } => {
-            put_started(started(alloc, stage, *client, call), output)
+            put_started(started(alloc, stage, client, call), output)
         }
-        Command::Step { client, steps } => put_played(stepped(stage, *client, *steps), output),
-        Command::Drop { client } => put_played(dropped(stage, *client), output),
-        Command::Layer { index } => put_layer(alloc, stage, *index, output),
+        Command::Step { client, steps } => put_played(stepped(stage, client, steps), output),
+        Command::Drop { client } => put_played(dropped(stage, client), output),
+        Command::Layer { index } => put_layer(alloc, stage, index, output),
         Command::Merge => put_merge(alloc, stage, output),
         Command::Work => put_answer(temps_of(stage), output),
     }
@@ -240,16 +238,17 @@ fn called<F: Callback, H: Rule>(
     alloc: Global,
     stage: &mut Stage<F, H>,
     client: u32,
-    text: &CallText<'_>,
+    text: CallText<'_>,
 ) -> Result<Answer, BadCommand>
     requires { IsInOrder stage.old }
     ensures order { IsInOrder stage.new }
     ensures counted { core_finished stage.new.core ≤ core_finished stage.old.core + 1 }
-    ensures ok { OnOk result (PlaysCommand stage.old (asked.Call client text.now) stage.new) }
-    ensures err { OnErr result (CannotPlay stage.old (asked.Call client text.now)) }
+    ensures ok { OnOk result (PlaysCommand stage.old (asked.Call client text.entry) stage.new) }
+    ensures err { OnErr result (CannotPlay stage.old (asked.Call client text.entry)) }
     ensures answer { IfOk result (
-        AnswersCall (call_refusal (core_room stage.old.core) (call_of text.now)) client) }
-    ensures goes { IfOk result (TextGoes stage.old.core client (call_of text.now) stage.new.core) }
+        AnswersCall (call_refusal (core_room stage.old.core) (call_of text.entry)) client) }
+    ensures goes { IfOk result (
+        TextGoes stage.old.core client (call_of text.entry) stage.new.core) }
     ensures calls { KeepsCalls stage.old stage.new }
     ensures refused { OnErr result (stage.new ≡ stage.old) }
     ensures full { core_room stage.old.core ≡ 0 → stage.new ≡ stage.old }
@@ -266,18 +265,18 @@ fn call_answer<F: Callback, H: Rule>(
     alloc: Global,
     core: &mut Core<F, H>,
     client: u32,
-    text: &CallText<'_>,
+    text: CallText<'_>,
 ) -> Answer
     requires attached { has_client core.old client ≡ true }
     requires places { HasPlaces core.old }
     ensures places { HasPlaces core.new }
     ensures counted { core_finished core.new ≤ core_finished core.old + 1 }
     ensures keeps { plays.KeepsClients core.old core.new }
-    ensures answer { AnswersCall (call_refusal (core_room core.old) (call_of text.now)) client result }
-    ensures goes { TextGoes core.old client (call_of text.now) core.new result }
+    ensures answer { AnswersCall (call_refusal (core_room core.old) (call_of text.entry)) client result }
+    ensures goes { TextGoes core.old client (call_of text.entry) core.new result }
     ensures full { core_room core.old ≡ 0 → core.new ≡ core.old }
 {
-    match text.call(alloc) {
+    match text.read(alloc) {
         Ok(Ok(call)) => answer_in_room(core, client, call),
         Ok(Err(errno)) => Answer::NotTaken { client, errno },
         Err(AllocError) => Answer::NotTaken {

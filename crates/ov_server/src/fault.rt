@@ -1,6 +1,5 @@
 // The faults of the program.
 ghost use Rattle.std.specs.Prelude.{◌≡◌};
-ghost use Rattle.clap.specs.Values.{kind_of};
 ghost use Rattle.ov_server.specs.Faults as faults;
 
 use ov_wire::ManifestFault;
@@ -11,12 +10,6 @@ use thiserror::Error;
 /// name.
 #[derive(Debug, Drop, Error)]
 pub enum Fault {
-    /// The command line is wrong, or asks for help or the version; the text is clap's.
-    #[error("{0}")]
-    CommandLine(clap::Error),
-    /// A word of the command line is no UTF-8.
-    #[error("a word of the command line is not UTF-8")]
-    NotText,
     /// The manifest's file cannot be read.
     #[error("cannot read manifest")]
     CannotReadManifest,
@@ -71,20 +64,18 @@ pub enum Fault {
 }
 
 impl Fault {
-    /// The exit status: 0 where help or the version is asked for, 1 for a file, a manifest, a stream
-    /// or what can't be saved, 2 for a command line or a script line, 3 for memory.
+    /// The exit status: 1 for a file, a manifest, a stream or what can't be saved, 2 for options that
+    /// don't go together or a script line, 3 for memory.
     pub fn status(&self) -> u8
         ensures { result ≡ faults.status_of self.now }
     {
         match self {
-            Fault::CommandLine(error) if !error.use_stderr() => 0,
-            Fault::CommandLine(_) => 2,
             Fault::CannotReadManifest | Fault::CannotReadBlob { .. } | Fault::Manifest(_) => 1,
             Fault::CannotReadUpper | Fault::Upper(_) | Fault::CannotReadScript => 1,
             Fault::Stream | Fault::Socket => 1,
             Fault::NoUpper | Fault::CannotSave | Fault::LeftOut { .. } => 1,
             Fault::CannotWriteStatus => 1,
-            Fault::NotText | Fault::BadCommand { .. } => 2,
+            Fault::BadCommand { .. } => 2,
             Fault::SaveWithoutEnd | Fault::HistoryOfNone | Fault::InputTwice => 2,
             Fault::Memory => 3,
         }
@@ -98,17 +89,6 @@ impl From<ManifestFault> for Fault {
         match fault {
             ManifestFault::Memory(_) => Fault::Memory,
             fault => Fault::Manifest(fault),
-        }
-    }
-}
-
-impl From<clap::Error> for Fault {
-    ghost from_gives = { λ error fault. fault ≡ faults.line_fault error (kind_of error) };
-
-    fn from(fault: clap::Error) -> Fault {
-        match fault.kind() {
-            clap::error::ErrorKind::OutOfMemory => Fault::Memory,
-            _ => Fault::CommandLine(fault),
         }
     }
 }

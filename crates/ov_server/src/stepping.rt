@@ -1,7 +1,7 @@
 // The commands that make a call in steps.
 ghost use Rattle.std.specs.Prelude.{◌≡◌, ◌+◌, ◌<◌, ◌≤◌, ◌^◌, true, None, IfOk, OnErr, OnOk, count_by};
 ghost use Rattle.ov_script.specs.declared.script.Command.TheVariants as asked;
-ghost use Rattle.ov_script.specs.Commands.{call_of};
+ghost use Rattle.ov_base.specs.Calls.{call_of};
 ghost use Rattle.overlay_core.specs.Views.{CoreSame, core_finished, core_room, core_work, has_client};
 ghost use Rattle.ov_server.specs.Deeds.{StartGoes, StepGoes, StepsJob, answer_of};
 ghost use Rattle.overlay_core.specs.Histories.{room_refusal};
@@ -24,15 +24,15 @@ pub fn started<F: Callback, H: Rule>(
     alloc: Global,
     stage: &mut Stage<F, H>,
     client: u32,
-    text: &CallText<'_>,
+    text: CallText<'_>,
 ) -> Result<Option<Answer>, BadCommand>
     requires { IsInOrder stage.old }
     ensures order { IsInOrder stage.new }
     ensures core { CoreSame stage.old.core stage.new.core }
-    ensures ok { OnOk result (PlaysCommand stage.old (asked.Start client text.now) stage.new) }
-    ensures err { OnErr result (CannotPlay stage.old (asked.Start client text.now)) }
-    ensures answer { IfOk result (AnswersStart (call_of text.now) client) }
-    ensures goes { IfOk result (StartGoes stage.old client (call_of text.now) stage.new) }
+    ensures ok { OnOk result (PlaysCommand stage.old (asked.Start client text.entry) stage.new) }
+    ensures err { OnErr result (CannotPlay stage.old (asked.Start client text.entry)) }
+    ensures answer { IfOk result (AnswersStart (call_of text.entry) client) }
+    ensures goes { IfOk result (StartGoes stage.old client (call_of text.entry) stage.new) }
     ensures others { KeepsOtherCalls stage.old stage.new client }
     ensures refused { OnErr result (stage.new ≡ stage.old) }
 {
@@ -48,15 +48,15 @@ fn start_answer<F: Callback, H: Rule>(
     alloc: Global,
     stage: &mut Stage<F, H>,
     client: u32,
-    text: &CallText<'_>,
+    text: CallText<'_>,
 ) -> Option<Answer>
     requires free { open_call stage.old client ≡ None }
     ensures core { CoreSame stage.old.core stage.new.core }
-    ensures answer { AnswersStart (call_of text.now) client result }
-    ensures goes { StartGoes stage.old client (call_of text.now) stage.new result }
+    ensures answer { AnswersStart (call_of text.entry) client result }
+    ensures goes { StartGoes stage.old client (call_of text.entry) stage.new result }
     ensures others { KeepsOtherCalls stage.old stage.new client }
 {
-    let errno = match text.call(alloc) {
+    let errno = match text.read(alloc) {
         Ok(Ok(call)) => match stage.start(client as u64, call) {
             Ok(()) => return None,
             Err(AllocError) => Errno::ENOMEM,

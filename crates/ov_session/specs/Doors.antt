@@ -1,6 +1,6 @@
 -- What a door does to a session.
 use Rattle.std.specs.Prelude.{◌≡◌, List, [], ◌∷◌, ◌++◌}
-use Rattle.ov_base.specs.declared.call.Call.{Call}
+use Rattle.ov_base.specs.Calls.{Call}
 use Rattle.ov_frames.specs.declared.answer.Answer.{Answer}
 use Rattle.ov_session.specs.declared.door.CallOutcome.{CallOutcome}
 use Rattle.ov_session.specs.declared.door.CallOutcome.TheVariants as outcome

@@ -5,5 +5,6 @@ mod manifest;
 
 pub use manifest::{Blob, EntryFault, ManifestFault, blobs_of, layers_of, manifest_of, table_of};
 pub use ov_frames::{
-    Answer, Decoder, End, FRAME_MAX, FrameFault, LentAnswer, Request, append_reply, encode_reply,
+    Answer, Decoder, End, FRAME_MAX, FrameFault, LentAnswer, Request, TextCall, append_reply,
+    encode_reply,
 };

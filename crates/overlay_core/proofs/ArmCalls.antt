@@ -1,6 +1,6 @@
 -- The refusals of arm, in their order: by the slot and the mask, by the path, and by the node.
 use Rattle.std.proofs.Common.{◌≡◌, ℕ, not, ◌&&◌, Option, None, Some, List, ◌∷◌, is_none, nat_lt, refl, sym, ap, ◌∙◌}
-use Rattle.ov_base.specs.declared.call.Call.TheVariants.{Arm, ListAttributes}
+use Rattle.ov_base.specs.declared.call.CallOf.TheVariants.{Arm, ListAttributes}
 use Rattle.ov_base.specs.declared.errno.Errno.{Errno}
 use Rattle.ov_base.specs.declared.errno.Errno.TheVariants.{EBUSY, EINVAL, ELOOP, ENOSPC, ENOTDIR}
 use Rattle.plain_model.specs.Layers.{Layer, Path}

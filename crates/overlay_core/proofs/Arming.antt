@@ -2,7 +2,7 @@
 use Rattle.std.proofs.Common.{◌≡◌, ◌≢◌, ℕ, pos, Bool, true, false, cond, not, ◌&&◌, inl, inr, List, [], ◌∷◌, Option, None, Some, is_none, is_some, nat_eq, nat_lt, refl, sym, ap, ◌∙◌, subst}
 use Rattle.std.specs.List.{list_any}
 use Rattle.std.proofs.lemmas.Bool.{false≢true}
-use Rattle.ov_base.specs.declared.call.Call.TheVariants.{Arm}
+use Rattle.ov_base.specs.declared.call.CallOf.TheVariants.{Arm}
 use Rattle.ov_base.specs.declared.errno.Errno.{Errno}
 use Rattle.ov_base.specs.declared.errno.Errno.TheVariants.{EBUSY, ELOOP, ENOENT, ENOSPC}
 use Rattle.ov_base.specs.declared.node_id.NodeId.{NodeId}

@@ -125,9 +125,9 @@ module _ {F G : Type 0} (shows : Rule) (m : Watched F G) (work w : List (Option 
     -- the step that copies a chunk where it is kept
     pub copied-more : k.standing ≡ standing.Open → k.number ≡ Some n →
         Counts k j.placings j.begins (j.chunks + 1) →
-        Makes m m (without work j) w j k shows More Copy (held_by work j)
+        Makes m m (without work j) w j k false shows More Copy (held_by work j)
     copied-more goes known counts =
-        subst (Makes m m (without work j) w j k shows More Copy) (sym holds)
+        subst (Makes m m (without work j) w j k false shows More Copy) (sym holds)
         (made-aside shows m (without work j) w j k More Copy (Some t)
         (changes-fit the_lowers work w n longer_entry becomes temps
         (λ x e. subst (IsTemp the_lowers) (same_Some (longer_beginning t) x e) (longer-fits the_lowers t fits)))

@@ -36,7 +36,6 @@ pub mod Waited
 pub mod ReadRefusals
 pub mod ReadOnly
 pub mod ReadSteps
-pub mod Plain
 pub mod Marks
 pub mod Numbering
 pub mod LegalHistories

@@ -5,8 +5,8 @@ use mathlib.Core.Logic.{∥∥₁_elim}
 use mathlib.Core.HLevel.{⊥_prop}
 use Rattle.ov_base.specs.declared.attributes.Attributes.{Attributes}
 use Rattle.ov_base.specs.declared.bytes.Content.TheVariants.{File, SymbolicLink}
-use Rattle.ov_base.specs.declared.call.Call.{Call}
-use Rattle.ov_base.specs.declared.call.Call.TheVariants.{Chmod, Chown, DeleteAttribute, Hardlink, SetAttribute}
+use Rattle.ov_base.specs.Calls.{Call}
+use Rattle.ov_base.specs.declared.call.CallOf.TheVariants.{Chmod, Chown, DeleteAttribute, Hardlink, SetAttribute}
 use Rattle.ov_base.specs.declared.node_id.NodeId.{NodeId}
 use Rattle.plain_model.specs.Layers.{Contents, Folder, Inode, Layer, Name, Path, Shown, base, shows}
 use Rattle.plain_model.specs.Tree.{Branch, Leaf, Node, Own, Untouched, face, is_untouched, node_at, see}

@@ -1,7 +1,7 @@
 -- A call of a mount that may make a tracked file of a lower layer the upper's own, once there was
 -- room for it.
 use Rattle.std.proofs.Common.{◌≡◌, ℕ, Bool, Some, List, ap, map, sym, subst}
-use Rattle.ov_base.specs.declared.call.Call.{Call}
+use Rattle.ov_base.specs.Calls.{Call}
 use Rattle.ov_base.specs.declared.node_id.NodeId.{NodeId}
 use Rattle.ov_base.specs.declared.reply.Reply.TheVariants.{Done}
 use Rattle.plain_model.specs.Layers.{Layer, Path}

@@ -1,7 +1,7 @@
 -- Which calls have paths that are looked at before they are planned.
 use Rattle.std.proofs.Common.{◌≡◌, Bool, true, false, List, [], ◌∷◌, refl, sym, ap, ◌∙◌}
-use Rattle.ov_base.specs.declared.call.Call.{Call}
-use Rattle.ov_base.specs.declared.call.Call.TheVariants as call
+use Rattle.ov_base.specs.Calls.{Call}
+use Rattle.ov_base.specs.declared.call.CallOf.TheVariants as call
 use Rattle.plain_model.specs.Layers.{Path}
 use Rattle.mount_calls.specs.Lacks.{may_lack}
 use Rattle.mount_calls.specs.Looking.{looked_paths}

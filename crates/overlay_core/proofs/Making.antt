@@ -1,24 +1,21 @@
 -- Calls that a mount made, and what is kept for watches then.
-use Rattle.std.proofs.Common.{◌≡◌, ℕ, true, false, Some, Result, Ok, Err, refl, sym, ap, subst}
+use Rattle.std.proofs.Common.{◌≡◌, ℕ, true, false, Result, Ok, Err, refl, sym, ap, subst}
 use Rattle.std.specs.Prelude.{IfOk, IsErr, OnErr}
 use Rattle.std.specs.declared.alloc.AllocError.{AllocError}
-use Rattle.ov_base.specs.declared.call.Call.{Call}
+use Rattle.ov_base.specs.Calls.{Call}
 use Rattle.ov_base.specs.declared.errno.Errno.{Errno}
 use Rattle.ov_base.specs.declared.reply.Reply.{Reply}
 use Rattle.ov_base.specs.declared.reply.Reply.TheVariants.{Done, Refused}
 use Rattle.plain_model.specs.Watching.{Rule}
 use Rattle.plain_model.specs.Machine.{State}
-use Rattle.plain_model.specs.Refusals.{refusal}
 use Rattle.plain_model.specs.Runs.{Called}
 use Rattle.merged_lookup.specs.Merged.{lowers_of}
 use Rattle.notice_laws.specs.Notified.{Passes, Resumes}
 use Rattle.notice_laws.specs.Steps.{IsSilent, keeps_handles}
 use Rattle.mount_calls.specs.declared.mount.Mount.{Mount}
 use Rattle.mount_calls.specs.Attaching.{is_attached}
-use Rattle.mount_calls.specs.Lacks.{may_lack}
 use Rattle.mount_calls.specs.LeftMarks.{LeavesMarks}
 use Rattle.mount_calls.specs.Making.{MakesCall, TellsCall, TellsEach}
-use Rattle.mount_calls.specs.States.{IsStateOf}
 use Rattle.mount_calls.proofs.LeftMarks.{marks-none}
 use Rattle.mount_calls.proofs.MakingCalls.{attached-same, makes-nothing, makes-read}
 use Rattle.overlay_core.specs.declared.watched.Watched.{Watched}
@@ -26,7 +23,6 @@ use Rattle.overlay_core.specs.Performing.{Performs}
 use Rattle.overlay_core.specs.Watching.{Agrees, Goes, Keeps, Stays}
 use Rattle.overlay_core.proofs.Performing.{goes-done, keeps-same, kept-by, performed-by}
 use Rattle.overlay_core.proofs.Uses.{goes-silent}
-use Rattle.overlay_core.proofs.WatchCalls.{goes-refused}
 use Rattle.overlay_core.proofs.Watching.{stays, mount_upper}
 
 module _ {F G : Type 0} {shows : Rule} where
@@ -71,19 +67,6 @@ module _ {F G : Type 0} {shows : Rule} where
   performs-lost (Ok r) wrong stays kept = let no : false ≡ true = wrong in absurd (cc)
   performs-lost (Err e) wrong stays kept =
       record { goes = tt; refused = tt; marks = tt; no_memory = stays; kept = kept }
-
-  -- one that is refused changes nothing
-  pub performs-judged : {c : ℕ} {k : Call} {old : Watched F G} (e : Errno) →
-      is_attached old.mount.clients c ≡ true → may_lack k ≡ true →
-      ((s : State) → IsStateOf old.mount s → refusal s c k ≡ Some e) →
-      Performs shows c k old old (Ok (Refused e))
-  performs-judged {c} {k} {old} e there may refuses = record {
-    goes = goes-refused shows old.mount old.notifier c k e there (λ s a. refuses s a.stands);
-    refused = λ f is. refl;
-    marks = λ is. let no : Refused e ≡ Done = is in cc;
-    no_memory = tt;
-    kept = keeps-same k old.mount;
-  }
 
   module _ {c : ℕ} {k : Call} {old : Watched F G} {new : Mount} where
     -- one for which memory ran out in the mount leaves what is kept for watches

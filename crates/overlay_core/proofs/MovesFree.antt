@@ -3,7 +3,7 @@ use Rattle.std.proofs.Common.{◌≡◌, ◌∷◌, ◌||◌, ◌⊎◌, inl, in
 use Rattle.std.proofs.lemmas.Bool.{false≢true}
 use mathlib.Core.Logic.{∥∥₁_elim}
 use mathlib.Core.HLevel.{⊥_prop}
-use Rattle.ov_base.specs.declared.call.Call.TheVariants.{Rename}
+use Rattle.ov_base.specs.declared.call.CallOf.TheVariants.{Rename}
 use Rattle.ov_base.specs.declared.errno.Errno.TheVariants.{EBUSY}
 use Rattle.plain_model.specs.Layers.{Contents, Folder, Inode, Layer, Path, Shown, is_directory, shows}
 use Rattle.plain_model.specs.Laws.{IsOutside}

@@ -1,7 +1,7 @@
 -- A call that is carried out as it was planned.
 use Rattle.std.proofs.Common.{◌≡◌, ℕ, true, Ok, sym, subst, ◌∙◌}
 use Rattle.std.proofs.lemmas.Bool.{false≢true}
-use Rattle.ov_base.specs.declared.call.Call.TheVariants.{Rename}
+use Rattle.ov_base.specs.declared.call.CallOf.TheVariants.{Rename}
 use Rattle.ov_base.specs.declared.reply.Reply.TheVariants.{Done}
 use Rattle.plain_model.specs.Layers.{Path}
 use Rattle.plain_model.specs.Watching.{Rule}

@@ -1,8 +1,8 @@
 -- Where nothing may be written: what is done agrees with the plain machine's read-only states, too.
 use Rattle.std.proofs.Common.{◌≡◌, ℕ, suc, Bool, true, false, List, [], ◌∷◌, map, Option, None, Some, refl, sym, ap, ◌∙◌, subst}
 use mathlib.Core.Logic.{∥∥₁_map}
-use Rattle.ov_base.specs.declared.call.Call.{Call}
-use Rattle.ov_base.specs.declared.call.Call.TheVariants as call
+use Rattle.ov_base.specs.Calls.{Call}
+use Rattle.ov_base.specs.declared.call.CallOf.TheVariants as call
 use Rattle.ov_base.specs.declared.errno.Errno.{Errno}
 use Rattle.ov_base.specs.declared.reply.Reply.{Reply}
 use Rattle.plain_model.specs.Machine.{Handle, MountOptions, State, handles_of, writable}
@@ -91,25 +91,21 @@ module _ (m n : Mount) (k l : Notified) where
   stays-as b stays s a = (stays (writable s) a.0, a.1)
 
   module _ (shows : Rule) (c : ℕ) (deed : Deed) where
-    -- and what is done where it writes nothing
-    pub goes-reading : ((s : State) → AgreesAs true m k s → ReadsAlone shows c s deed) → Goes shows m k c deed n l → GoesAs true shows m k c deed n l
-    goes-reading alone goes s a =
+    -- and what is done where it writes nothing, or where all may be written
+    pub goes-as : (b : Bool) →
+        (b ≡ true → (s : State) → AgreesAs true m k s → ReadsAlone shows c s deed) →
+        Goes shows m k c deed n l → GoesAs b shows m k c deed n l
+    goes-as true alone goes s a =
         let g = goes (writable s) a.0 in
         let t : State = g.0 in
-        let same : writable (record t { options = s.options }) ≡ t = same-writable s t (does-options shows c (writable s) deed t g.1) in
-        (record t { options = s.options }, does-reads shows c s deed t (alone s a) g.1, (subst (Agrees n l) (sym same) g.2, a.1))
-
-    -- where all may be written a state that agrees does so as it is
-    pub goes-writing : Goes shows m k c deed n l → GoesAs false shows m k c deed n l
-    goes-writing goes s a =
+        let same : writable (record t { options = s.options }) ≡ t =
+        same-writable s t (does-options shows c (writable s) deed t g.1) in
+        let does = does-reads shows c s deed t (alone refl s a) g.1 in
+        (record t { options = s.options }, does, (subst (Agrees n l) (sym same) g.2, a.1))
+    goes-as false alone goes s a =
         let g = goes s (subst (Agrees m k) (is-writable s a.1) a.0) in
         let there : g.0.options.read_only ≡ false = g.2.stands.layers.writable in
         (g.0, g.1, (subst (Agrees n l) (sym (is-writable g.0 there)) g.2, there))
-
-    -- and what is no call goes as it does in each
-    pub goes-free : (b : Bool) → ((s : State) → ReadsAlone shows c s deed) → Goes shows m k c deed n l → GoesAs b shows m k c deed n l
-    goes-free true alone goes = goes-reading (λ s a. alone s) goes
-    goes-free false alone goes = goes-writing goes
 
 -- a state agrees as it is where all may be written
 pub agrees-plain : (b : Bool) (m : Mount) (k : Notified) (s : State) → b ≡ false → AgreesAs b m k s → Agrees m k s
@@ -144,13 +140,17 @@ pub held-none : (o : Option ℕ) (c chunks : ℕ) → held [] o c chunks ≡ Non
 held-none None c chunks = refl
 held-none (Some n) c chunks = refl
 
--- some state agrees as read-only where some state agrees
-given-state : (m : Mount) (k : Notified) (s : State) → Agrees m k s → AgreesAs true m k (record s { options = record s.options { read_only = true } })
-given-state m k s a = (subst (Agrees m k) (sym (is-writable s a.stands.layers.writable)) a, refl)
+-- some state agrees as one that is read-only, or isn't, where some state agrees
+given-state : (b : Bool) (m : Mount) (k : Notified) (s : State) → Agrees m k s →
+    AgreesAs b m k (record s { options = record s.options { read_only = b } })
+given-state b m k s a = (subst (Agrees m k) (sym (is-writable s a.stands.layers.writable)) a, refl)
 
 -- and after what a client does there
-pub state-goes : (shows : Rule) (m n : Mount) (k l : Notified) (c : ℕ) (deed : Deed) → ∥ HasState m k ∥₁ → GoesAs true shows m k c deed n l → ∥ HasState n l ∥₁
-state-goes shows m n k l c deed has goes = ∥∥₁_map has (λ x. let g = goes _ (given-state m k x.0 x.1) in (writable g.0, g.2.0))
+pub state-goes : (b : Bool) (shows : Rule) (m n : Mount) (k l : Notified) (c : ℕ) (deed : Deed) →
+    ∥ HasState m k ∥₁ → GoesAs b shows m k c deed n l → ∥ HasState n l ∥₁
+state-goes b shows m n k l c deed has goes =
+    ∥∥₁_map has (λ x. let g = goes _ (given-state b m k x.0 x.1) in (writable g.0, g.2.0))
 
-pub state-stays : (m n : Mount) (k l : Notified) → ∥ HasState m k ∥₁ → StaysAs true m k n l → ∥ HasState n l ∥₁
-state-stays m n k l has stays = ∥∥₁_map has (λ x. (_, (stays _ (given-state m k x.0 x.1)).0))
+pub state-stays : (b : Bool) (m n : Mount) (k l : Notified) → ∥ HasState m k ∥₁ →
+    StaysAs b m k n l → ∥ HasState n l ∥₁
+state-stays b m n k l has stays = ∥∥₁_map has (λ x. (_, (stays _ (given-state b m k x.0 x.1)).0))

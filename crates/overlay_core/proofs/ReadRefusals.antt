@@ -1,7 +1,13 @@
 -- Why a call is refused where nothing may be written: for what would refuse it else, and then for EROFS.
-use Rattle.std.proofs.Common.{◌≡◌, ℕ, true, false, ◌&&◌, Option, None, Some, refl, sym, ap, ◌∙◌}
-use Rattle.ov_base.specs.declared.call.Call.{Call}
-use Rattle.ov_base.specs.declared.call.Call.TheVariants.{Stat, Readlink, Chmod, Chown, SetAttribute, GetAttribute, DeleteAttribute, ListAttributes, Mkdir, Symlink, Open, Unlink, Rmdir, Hardlink, Rename, Read, Write, Seek, Truncate, Fstat, ListNames, Close, Arm, Disarm, TakeNotices}
+use Rattle.std.proofs.Common.{◌≡◌, ℕ, Bool, true, false, ◌&&◌, Option, None, Some, refl, sym, ap, ◌∙◌}
+use Rattle.ov_base.specs.Calls.{Call}
+use Rattle.ov_base.specs.declared.call.CallOf.TheVariants.{Stat, Readlink, Chmod, Chown}
+use Rattle.ov_base.specs.declared.call.CallOf.TheVariants.{SetAttribute, GetAttribute}
+use Rattle.ov_base.specs.declared.call.CallOf.TheVariants.{DeleteAttribute, ListAttributes, Mkdir}
+use Rattle.ov_base.specs.declared.call.CallOf.TheVariants.{Symlink, Open, Unlink, Rmdir, Hardlink}
+use Rattle.ov_base.specs.declared.call.CallOf.TheVariants.{Rename, Read, Write, Seek, Truncate}
+use Rattle.ov_base.specs.declared.call.CallOf.TheVariants.{Fstat, ListNames, Close, Arm, Disarm}
+use Rattle.ov_base.specs.declared.call.CallOf.TheVariants.{TakeNotices}
 use Rattle.ov_base.specs.declared.errno.Errno.{Errno}
 use Rattle.ov_base.specs.declared.errno.Errno.TheVariants.{EROFS}
 use Rattle.plain_model.specs.Machine.{State, writable}
@@ -78,10 +84,10 @@ module _ (s : State) (c : ℕ) (k : Call) where
       ∙ ap (λ b. when (b && s.options.read_only) EROFS) (sym (same-writes s k) ∙ does)
       ∙ ap (λ b. when b EROFS) only
 
-  -- nothing refuses what doesn't
-  pub refused-none : refusal (writable s) c k ≡ None → writes (writable s) k ≡ false → refusal s c k ≡ None
-  refused-none none never = refusal-reading s c k (sym (same-writes s k) ∙ never) ∙ other-reason None none
-
-  -- a call that writes nothing is refused as where all may be written
-  pub refused-same : writes s k ≡ false → refusal s c k ≡ refusal (writable s) c k
-  refused-same never = refusal-reading s c k never ∙ other-reason (refusal (writable s) c k) refl
+  -- one that writes nothing where nothing may be written is refused as where all may be
+  pub refused-as : (b : Bool) → s.options.read_only ≡ b → (b ≡ true → writes s k ≡ false) →
+      refusal s c k ≡ refusal (writable s) c k
+  refused-as true only never =
+      refusal-reading s c k (never refl) ∙ other-reason (refusal (writable s) c k) refl
+  refused-as false all never =
+      refusal-writable s c k all ∙ other-reason (refusal (writable s) c k) refl

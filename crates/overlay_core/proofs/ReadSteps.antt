@@ -1,40 +1,30 @@
 -- The one step of a job where nothing may be written.
-use Rattle.std.proofs.Common.{◌≡◌, ◌≢◌, Bool, true, false, ◌||◌, ◌&&◌, cond, is_none, List, [], ◌∷◌, Option, None, Some, refl, sym, ap, ◌∙◌, subst}
+use Rattle.std.proofs.Common.{◌≡◌, Bool, true, false, ◌||◌, ◌&&◌, cond, nat_lt, is_none, IsSome, List, [], ◌∷◌, Option, None, refl, sym, ap, ◌∙◌, subst}
+use Rattle.std.specs.Prelude.{IsSomeAnd}
 use Rattle.std.proofs.lemmas.Bool.{false≢true}
-use Rattle.ov_base.specs.declared.call.Call.{Call}
-use Rattle.ov_base.specs.declared.call.Call.TheVariants as call
+use Rattle.ov_base.specs.Calls.{Call}
+use Rattle.ov_base.specs.declared.call.CallOf.TheVariants as call
 use Rattle.ov_base.specs.declared.errno.Errno.{Errno}
-use Rattle.ov_base.specs.declared.reply.Reply.TheVariants as replies
-use Rattle.ov_base.specs.declared.reply.Reply.TheVariants.{Refused}
 use Rattle.plain_model.specs.Layers.{Layer, Path, shows}
-use Rattle.plain_model.specs.Machine.{State, writable}
-use Rattle.plain_model.specs.Refusals.{refusal, writes}
-use Rattle.plain_model.specs.Runs.{Answered, Called}
-use Rattle.plain_model.specs.Watching.{Rule}
+use Rattle.plain_model.specs.Machine.{State}
+use Rattle.plain_model.specs.Refusals.{writes}
 use Rattle.layer_tree.specs.Tree.{SameObjects, layer_of}
 use Rattle.merged_lookup.specs.declared.layers.Layers.{Layers}
 use Rattle.merged_lookup.specs.Merged.{upper_of, lowers_of}
 use Rattle.mount_laws.specs.Renaming.{is_one}
+use Rattle.notice_laws.specs.Notified.{Notified}
 use Rattle.ov_base.specs.declared.place.Place.{Place}
-use Rattle.work_dir.specs.NextSteps.{next_of}
+use Rattle.work_dir.specs.Beginnings.{Beginning}
+use Rattle.work_dir.specs.OpenJobs.{held}
+use Rattle.work_dir.specs.declared.next.Lack.{Lack}
 use Rattle.work_dir.specs.declared.next.Lack.TheVariants.{Nothing}
-use Rattle.work_dir.specs.declared.next.Next.TheVariants.{Finish}
-use Rattle.mount_calls.specs.Attaching.{is_attached}
+use Rattle.work_dir.specs.declared.table.OpenJob.{OpenJob}
 use Rattle.mount_calls.specs.Keeping.{LeavesPaths}
-use Rattle.mount_calls.specs.Lacks.{changed_paths, copied_file, data_at, lack_among, lack_of, lack_size, may_lack}
-use Rattle.mount_calls.specs.States.{IsStateOf}
+use Rattle.mount_calls.specs.Lacks.{changed_paths, copied_file, data_at, lack_among, lack_of, may_lack}
 use Rattle.mount_calls.specs.declared.mount.Mount.{Mount}
-use Rattle.mount_calls.proofs.Frames.{same-layers}
 use Rattle.overlay_core.specs.declared.job.Job.{Job}
-use Rattle.overlay_core.specs.declared.job.Standing.TheVariants as standing
-use Rattle.overlay_core.specs.declared.turn.Turn.{Turn}
-use Rattle.overlay_core.specs.declared.turn.Turn.TheVariants.{More, Done, NoMemory}
-use Rattle.overlay_core.specs.declared.watched.Watched.{Watched}
-use Rattle.overlay_core.specs.Reading.{Reads}
-use Rattle.overlay_core.specs.Steps.{Makes, lack_by, next_by}
-use Rattle.overlay_core.specs.Watching.{AgreesAs}
-use Rattle.overlay_core.proofs.NextSteps.{next-ready}
-use Rattle.overlay_core.proofs.ReadOnly.{goes-reading, stays-as}
+use Rattle.overlay_core.specs.Steps.{ReadsOnly, held_by, lack_by, without}
+use Rattle.overlay_core.proofs.ReadOnly.{closed-none, held-none}
 
 -- some paths are not none
 no-empty : (p : Path) (ps : List Path) → (p ∷ ps) ≡ [] → ⊥
@@ -176,71 +166,35 @@ unchanged-lacks U lowers metacopy (call.Arm slot p mask) h = refl
 unchanged-lacks U lowers metacopy (call.Disarm watch) h = refl
 unchanged-lacks U lowers metacopy (call.TakeNotices n) h = refl
 
--- a job whose call lacks nothing finishes
-pub nothing-finishes : (m : Mount) (j : Job) (r : Option Errno) → lack_by m j ≡ Nothing → next_by m j None r ≡ Finish
-nothing-finishes m j r none =
-    next-ready r (lack_by m j) j.placings j.begins None (lack_size (lowers_of m.layers) (lack_by m j)) (λ fine. none)
+-- nothing is there where there is nothing
+pub none-there : (o : Option Errno) → o ≡ None → IsSome o → ⊥
+none-there o none some = false≢true (subst IsSome none some)
 
-module _ {F G : Type 0} (shows_by : Rule) (old new : Watched F G) (j k : Job) where
-  -- a call that is made, and writes nothing
-  pub reads-made : (turn : Turn) → turn ≢ More → ((s : State) → AgreesAs true old.mount old.notifier s → writes s j.call ≡ false) →
-      lack_by old.mount j ≡ Nothing → SameObjects (layer_of old.mount.layers.upper) (layer_of new.mount.layers.upper) →
-      Makes old new [] [] j k shows_by turn Finish None → Reads old new j k shows_by turn
-  reads-made More over alone none held made = absurd (over refl)
-  reads-made (Done r) over alone none held made = record {
-    turns = (goes-reading old.mount new.mount old.notifier new.notifier shows_by j.client (Called j.call r) alone made.turns.0, made.turns.1);
-    over = made.steps.2;
-    finishes = λ s a. nothing-finishes old.mount j (refusal s j.client j.call) none;
-    clients = made.clients;
-    layers = made.layers;
-    refused = made.refused;
-    marks = made.marks;
-    lowers = made.lowers;
-    thin = made.thin;
-    objects = held;
-  }
-  reads-made NoMemory over alone none held made = record {
-    turns = (stays-as old.mount new.mount old.notifier new.notifier true made.turns.0, made.turns.1);
-    over = made.steps.2;
-    finishes = λ s a. nothing-finishes old.mount j (refusal s j.client j.call) none;
-    clients = made.clients;
-    layers = made.layers;
-    refused = made.refused;
-    marks = made.marks;
-    lowers = made.lowers;
-    thin = made.thin;
-    objects = held;
-  }
+-- where there are no open jobs a job holds no temp, so where one does all may be written
+held-of-none : (j : Job) → held_by [] j ≡ None
+held-of-none j = by (nat_lt 0 j.begins)
+  where
+    by : (b : Bool) → cond b (held [] j.number j.client j.chunks) None ≡ None
+    by true = held-none j.number j.client j.chunks
+    by false = refl
 
--- the same over a mount that is the same
-pub reads-over : {F G : Type 0} (shows_by : Rule) (w0 new : Watched F G) (m1 : Mount) (j k : Job) (turn : Turn) → m1 ≡ w0.mount →
-    Reads (record { mount = m1; notifier = w0.notifier }) new j k shows_by turn → Reads w0 new j k shows_by turn
-reads-over shows_by w0 new m1 j k turn mount reads =
-    subst (λ m. Reads (record { mount = m; notifier = w0.notifier }) new j k shows_by turn) mount reads
+pub held-writes : (b : Bool) (work : List (Option OpenJob)) (j : Job) (P : Beginning → Type 0) →
+    (b ≡ true → work ≡ []) → IsSomeAnd (held_by work j) P → b ≡ false
+held-writes true work j P idle some =
+    let none = ap (λ (w : List (Option OpenJob)). held_by w j) (idle refl) ∙ held-of-none j in
+    absurd (subst (λ (t : Option Beginning). IsSomeAnd t P) none some)
+held-writes false work j P idle some = refl
 
--- and one that is refused
-pub reads-refused : {F G : Type 0} (shows_by : Rule) (old : Watched F G) (j k : Job) (e : Errno) →
-    ((s : State) → IsStateOf old.mount (writable s) → s.options.read_only ≡ true → refusal s j.client j.call ≡ Some e) →
-    is_attached old.mount.clients j.client ≡ true → k.standing ≡ standing.Answered → k.number ≡ None →
-    Reads old old j k shows_by (Done (Refused e))
-reads-refused shows_by old j k e refused attached answered none = record {
-  turns = (
-    (λ s a. (
-      s,
-      (a.0.stands.tables.attached j.client ∙ attached, subst (λ o. Answered o shows_by s j.client j.call (Refused e) s) (sym (refused s a.0.stands a.1)) (refl, refl)),
-      a,
-    )),
-    answered,
-  );
-  over = none;
-  finishes = λ s a.
-      let m = old.mount in
-      ap (λ r. next_of r (lack_by m j) j.placings j.begins None (lack_size (lowers_of m.layers) (lack_by m j))) (refused s a.0.stands a.1);
-  clients = record { attached = λ n. refl; next = refl };
-  layers = same-layers j.call old.mount.layers;
-  refused = λ x is. refl;
-  marks = λ is. let no : Done (Refused e) ≡ Done replies.Done = is in absurd (cc);
-  lowers = refl;
-  thin = λ thin. thin;
-  objects = λ p. refl;
-}
+-- and there are none without one of them
+pub idle-on : (work w : List (Option OpenJob)) (j : Job) → w ≡ without work j → work ≡ [] → w ≡ []
+idle-on work w j is none =
+    is ∙ ap (λ (x : List (Option OpenJob)). without x j) none ∙ closed-none j.number j.client
+
+-- so they may where a call that was planned lacks something
+pub lacks-writes : (b : Bool) (m : Mount) (k : Notified) (j : Job) (l : Lack) →
+    (b ≡ true → ReadsOnly m k j) → lack_by m j ≡ l → (l ≡ Nothing → ⊥) → b ≡ false
+lacks-writes true m k j l reads is some =
+    let none = (reads refl).1 in
+    absurd (some (sym is
+    ∙ unchanged-lacks (upper_of m.layers) (lowers_of m.layers) m.metacopy j.call none))
+lacks-writes false m k j l reads is some = refl

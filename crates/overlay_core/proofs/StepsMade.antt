@@ -1,27 +1,31 @@
 -- What each kind of step makes.
-use Rattle.std.proofs.Common.{◌≡◌, ◌≢◌, ℕ, ◌+◌, Bool, List, Option, None, Result, Ok, Err, IsOk, OnErr, map, refl, sym, ap, ◌∙◌, subst}
+use Rattle.std.proofs.Common.{◌≡◌, ◌≢◌, ℕ, ◌+◌, Bool, true, false, List, Option, None, Some, Result, Ok, Err, IsOk, OnErr, map, refl, sym, ap, ◌∙◌, subst}
 use Rattle.std.specs.declared.alloc.AllocError.{AllocError}
-use Rattle.ov_base.specs.declared.call.Call.{Call}
+use Rattle.std.proofs.lemmas.Bool.{false≢true}
+use Rattle.ov_base.specs.Calls.{Call}
+use Rattle.ov_base.specs.declared.errno.Errno.{Errno}
 use Rattle.ov_base.specs.declared.reply.Reply.{Reply}
 use Rattle.ov_base.specs.declared.reply.Reply.TheVariants as replies
 use Rattle.ov_base.specs.declared.reply.Reply.TheVariants.{Refused}
 use Rattle.plain_model.specs.Machine.{State}
-use Rattle.plain_model.specs.Refusals.{refusal}
-use Rattle.plain_model.specs.Runs.{Called}
+use Rattle.plain_model.specs.Refusals.{refusal, writes}
+use Rattle.plain_model.specs.Runs.{Answered, Called}
 use Rattle.plain_model.specs.Watching.{Rule}
-use Rattle.layer_tree.specs.Tree.{layer_of}
-use Rattle.merged_lookup.specs.Merged.{lowers_of}
+use Rattle.layer_tree.specs.Tree.{SameObjects, layer_of}
+use Rattle.merged_lookup.specs.Merged.{upper_of, lowers_of}
 use Rattle.work_dir.specs.Beginnings.{Beginning}
 use Rattle.work_dir.specs.OpenJobs.{Same}
 use Rattle.work_dir.specs.declared.next.Next.{Next}
 use Rattle.work_dir.specs.declared.next.Next.TheVariants.{Finish, Place, Begin, Copy, AtOnce}
 use Rattle.work_dir.specs.declared.table.OpenJob.{OpenJob}
-use Rattle.mount_calls.specs.Attaching.{KeepsAttached}
+use Rattle.mount_calls.specs.Attaching.{is_attached, KeepsAttached}
 use Rattle.mount_calls.specs.ComingUp.{BringsUp}
+use Rattle.mount_calls.specs.Keeping.{LeavesPaths}
+use Rattle.mount_calls.specs.LeftMarks.{LeavesMarks}
+use Rattle.mount_calls.specs.Lacks.{lack_size, may_lack}
 use Rattle.mount_calls.proofs.ComingUp.{brings-up}
 use Rattle.mount_calls.specs.declared.clients.Clients.{Clients}
 use Rattle.mount_calls.specs.declared.mount.Mount.{Mount}
-use Rattle.mount_calls.specs.States.{IsStateOf}
 use Rattle.mount_calls.proofs.Frames.{same-layers}
 use Rattle.overlay_core.specs.declared.job.Job.{Job}
 use Rattle.overlay_core.specs.declared.job.Standing.TheVariants as standing
@@ -30,10 +34,15 @@ use Rattle.overlay_core.specs.declared.turn.Turn.TheVariants.{More, Done, NoMemo
 use Rattle.overlay_core.specs.declared.watched.Watched.{Watched}
 use Rattle.overlay_core.specs.Performing.{Performs}
 use Rattle.overlay_core.specs.Placing.{PlacesFor}
-use Rattle.overlay_core.specs.Steps.{Counts, EndsBy, GoesOn, IsLast, Makes, StepsBy, TurnsWatched, next_by}
+use Rattle.overlay_core.specs.Steps.{Counts, EndsBy, GoesOn, IsLast, IsRefusal, Makes, MakesNext, ReadsOnly, StepsBy, TurnsWatched, held_by, lack_by, next_by, without}
 use Rattle.overlay_core.specs.Temps.{AreTemps}
-use Rattle.overlay_core.specs.Watching.{Agrees, HasState}
-use Rattle.overlay_core.proofs.Agreeing.{are-layers, goes-on, stays-on}
+use Rattle.overlay_core.specs.Watching.{AgreesAs, HasState, Keeps, StaysAs}
+use Rattle.overlay_core.proofs.Agreeing.{are-layers}
+use Rattle.overlay_core.proofs.Making.{performs-as}
+use Rattle.overlay_core.proofs.NextSteps.{next-ready, plain-lacks}
+use Rattle.overlay_core.proofs.Performing.{keeps-same}
+use Rattle.overlay_core.proofs.ReadOnly.{goes-as, state-goes, state-stays, stays-as}
+use Rattle.overlay_core.proofs.ReadSteps.{plain-held, plain-writes, same-held, unchanged-same}
 use Rattle.overlay_core.proofs.Watching.{stays}
 
 -- the same clients are attached
@@ -50,9 +59,10 @@ last-not-copy Copy last is = absurd last
 
 module _ {F G : Type 0} (shows : Rule) where
   -- a step that changes the open jobs alone
-  pub made-aside : (m : Watched F G) (e w : List (Option OpenJob)) (j k : Job) (turn : Turn) (next : Next)
-      (t : Option Beginning) → AreTemps (lowers_of m.mount.layers) w → TurnsWatched m m e w j k shows turn →
-      StepsBy m m e w j k turn next t → ((r : Reply) → turn ≡ Done r → ⊥) → Makes m m e w j k shows turn next t
+  pub made-aside : (m : Watched F G) (e w : List (Option OpenJob)) (j k : Job) (turn : Turn)
+      (next : Next) (t : Option Beginning) → AreTemps (lowers_of m.mount.layers) w →
+      TurnsWatched m m e w j k false shows turn → StepsBy m m e w j k turn next t →
+      ((r : Reply) → turn ≡ Done r → ⊥) → Makes m m e w j k false shows turn next t
   made-aside m e w j k turn next t temps turns steps more = record {
     turns = turns;
     steps = steps;
@@ -63,14 +73,16 @@ module _ {F G : Type 0} (shows : Rule) where
     lowers = refl;
     thin = λ thin. thin;
     temps = temps;
+    reads = λ only. absurd (false≢true only);
   }
 
   module _ (old new : Watched F G) (e w : List (Option OpenJob)) (j k : Job) (second : Bool) (count : ℕ) (t : Option Beginning) where
     -- a step that places a parent, or runs out of memory for it
     pub made-place : (IsPlaced : Type 0) → PlacesFor old.mount new.mount j.call second count IsPlaced →
         new.notifier ≡ old.notifier → AreTemps (lowers_of new.mount.layers) w → (turn : Turn) →
-        TurnsWatched old new e w j k shows turn → StepsBy old new e w j k turn (Place second count) t →
-        ((r : Reply) → turn ≡ Done r → ⊥) → Makes old new e w j k shows turn (Place second count) t
+        TurnsWatched old new e w j k false shows turn →
+        StepsBy old new e w j k turn (Place second count) t → ((r : Reply) → turn ≡ Done r → ⊥) →
+        Makes old new e w j k false shows turn (Place second count) t
     made-place IsPlaced p told temps turn turns steps more = record {
       turns = turns;
       steps = steps;
@@ -81,80 +93,142 @@ module _ {F G : Type 0} (shows : Rule) where
       lowers = p.lowers;
       thin = p.thin;
       temps = temps;
+      reads = λ only. absurd (false≢true only);
     }
+
+    -- each state that agreed agrees still
+    placed-stays : (IsPlaced : Type 0) →
+        PlacesFor old.mount new.mount j.call second count IsPlaced → new.notifier ≡ old.notifier →
+        StaysAs false old.mount old.notifier new.mount new.notifier
+    placed-stays IsPlaced p told =
+        subst (StaysAs false old.mount old.notifier new.mount) (sym told)
+        (stays-as old.mount new.mount old.notifier old.notifier false
+        (stays old.mount new.mount old.notifier old.notifier p.stays p.live (λ s h. h)))
 
     pub placed-more : {IsPlaced : Type 0} → PlacesFor old.mount new.mount j.call second count IsPlaced → IsPlaced →
         new.notifier ≡ old.notifier → AreTemps (lowers_of new.mount.layers) w → k.standing ≡ standing.Open →
         GoesOn e w j k t → Counts k (j.placings + 1) j.begins j.chunks →
-        Makes old new e w j k shows More (Place second count) t
+        Makes old new e w j k false shows More (Place second count) t
     placed-more {IsPlaced} p placed told temps still goes counts =
-        made-place IsPlaced p told temps More
-        (subst (λ n. TurnsWatched old (record { mount = new.mount; notifier = n }) e w j k shows More) (sym told)
-        (stays old.mount new.mount old.notifier old.notifier p.stays p.live (λ s h. h), still))
+        made-place IsPlaced p told temps More (placed-stays IsPlaced p told, still)
         (goes, counts, p.placed placed, told, ap (λ (m : Mount). m.clients) p.only) (λ r is. cc)
 
     pub placed-none : (IsPlaced : Type 0) → PlacesFor old.mount new.mount j.call second count IsPlaced →
         new.notifier ≡ old.notifier → AreTemps (lowers_of new.mount.layers) w → k.standing ≡ standing.GivenUp →
-        Same e w → k.number ≡ None → Makes old new e w j k shows NoMemory (Place second count) t
+        Same e w → k.number ≡ None →
+        Makes old new e w j k false shows NoMemory (Place second count) t
     placed-none IsPlaced p told temps over same number =
-        made-place IsPlaced p told temps NoMemory
-        (subst (λ n. TurnsWatched old (record { mount = new.mount; notifier = n }) e w j k shows NoMemory) (sym told)
-        (stays old.mount new.mount old.notifier old.notifier p.stays p.live (λ s h. h), over))
+        made-place IsPlaced p told temps NoMemory (placed-stays IsPlaced p told, over)
         ((λ is. cc), same, number) (λ r is. cc)
 
-  -- a call that was made over a mount that is the same, by the job's client
-  pub performs-on : (w0 w2 : Watched F G) (m1 m3 : Mount) (c d : ℕ) (k l : Call) (r : Result Reply AllocError) →
-      m1 ≡ w0.mount → m3 ≡ w2.mount → d ≡ c → l ≡ k →
-      Performs shows d l (record { mount = m1; notifier = w0.notifier }) w2 r →
-      Performs shows c k w0 (record { mount = m3; notifier = w2.notifier }) r
-  performs-on w0 w2 m1 m3 c d k l r e1 e3 ec ek p =
-      subst (λ m. Performs shows c k w0 (record { mount = m; notifier = w2.notifier }) r) (sym e3)
-      (subst (λ m. Performs shows c k (record { mount = m; notifier = w0.notifier }) w2 r) e1
-      (subst (λ n. Performs shows n k (record { mount = m1; notifier = w0.notifier }) w2 r) ec
-      (subst (λ z. Performs shows d z (record { mount = m1; notifier = w0.notifier }) w2 r) ek p)))
-
-  module _ (old new : Watched F G) (work : List (Option OpenJob)) (j k : Job) (next : Next) (t : Option Beginning)
-      (last : IsLast next) (temps : AreTemps (lowers_of old.mount.layers) work) (number : k.number ≡ None) where
-    -- a step that makes the call
-    pub made-done : (r : Reply) → Performs shows j.client j.call old new (Ok r) → k.standing ≡ standing.Answered →
-        Makes old new work work j k shows (Done r) next t
-    made-done r p answered = record {
-      turns = (p.goes, answered);
-      steps = (last, refl, number);
-      clients = p.kept.clients;
-      layers = p.kept.layers;
-      refused = λ e is. let same : r ≡ Refused e = cc in p.refused e same;
-      marks = λ is. let same : r ≡ replies.Done = cc in p.marks same;
-      lowers = p.kept.lowers;
-      thin = p.kept.thin;
-      temps = subst (λ ls. AreTemps (map layer_of ls.items) work) (sym p.kept.lowers) temps;
+  module _ (b : Bool) (old new : Watched F G) (work : List (Option OpenJob)) (j k : Job)
+      (next : Next) (t : Option Beginning) (last : IsLast next)
+      (temps : AreTemps (lowers_of old.mount.layers) work) where
+    -- a step that ends the call
+    made-last : (turn : Turn) → turn ≢ More → Keeps j.call old.mount new.mount →
+        TurnsWatched old new work work j k b shows turn →
+        StepsBy old new work work j k turn next t →
+        ((e : Errno) → turn ≡ Done (Refused e) → new.mount.layers ≡ old.mount.layers) →
+        (turn ≡ Done replies.Done → LeavesMarks j.call old.mount.layers new.mount.layers) →
+        (b ≡ true →
+        SameObjects (layer_of old.mount.layers.upper) (layer_of new.mount.layers.upper)) →
+        Makes old new work work j k b shows turn next t
+    made-last turn over kept turns steps refused marks held = record {
+      turns = turns;
+      steps = steps;
+      clients = kept.clients;
+      layers = kept.layers;
+      refused = refused;
+      marks = marks;
+      lowers = kept.lowers;
+      thin = kept.thin;
+      temps = subst (λ ls. AreTemps (map layer_of ls.items) work) (sym kept.lowers) temps;
+      reads = λ only. (over, refl, held only);
     }
 
-    -- or runs out of memory
-    pub made-none : (a : AllocError) → Performs shows j.client j.call old new (Err a) → k.standing ≡ standing.GivenUp →
-        Makes old new work work j k shows NoMemory next t
-    made-none a p over = record {
-      turns = (p.no_memory, over);
-      steps = (last-not-copy next last, (λ n. refl), number);
-      clients = p.kept.clients;
-      layers = p.kept.layers;
-      refused = λ e is. cc;
-      marks = λ is. let no : NoMemory ≡ Done replies.Done = is in absurd (cc);
-      lowers = p.kept.lowers;
-      thin = p.kept.thin;
-      temps = subst (λ ls. AreTemps (map layer_of ls.items) work) (sym p.kept.lowers) temps;
-    }
+    -- the call writes nothing, and every path of the upper holds what it held
+    abbrev pub Reads : Type 0
+    Reads =
+        ((s : State) → AgreesAs true old.mount old.notifier s → writes s j.call ≡ false)
+        × (LeavesPaths j.call old.mount.layers new.mount.layers →
+        SameObjects (layer_of old.mount.layers.upper) (layer_of new.mount.layers.upper))
 
-  -- so the step that makes a call ends the job by what the call came to
-  pub made-ended : (old new : Watched F G) (work : List (Option OpenJob)) (j k : Job) (next : Next) (t : Option Beginning) →
-      IsLast next → AreTemps (lowers_of old.mount.layers) work → (r : Result Reply AllocError) (turn : Turn) → EndsBy k r turn →
-      Performs shows j.client j.call old new r → Makes old new work work j k shows turn next t
-  made-ended old new work j k next t last temps (Ok r) turn ends p =
-      subst (λ z. Makes old new work work j k shows z next t) (sym ends.0)
-      (made-done old new work j k next t last temps ends.2 r p ends.1)
-  made-ended old new work j k next t last temps (Err a) turn ends p =
-      subst (λ z. Makes old new work work j k shows z next t) (sym ends.0)
-      (made-none old new work j k next t last temps ends.2 a p ends.1)
+    -- one that makes the call ends the job by what the call came to
+    made-ended : (b ≡ true → Reads) → (r : Result Reply AllocError) (turn : Turn) →
+        EndsBy k r turn → Performs shows j.client j.call old new r →
+        Makes old new work work j k b shows turn next t
+    made-ended reads (Ok r) turn ends p =
+        subst (λ z. Makes old new work work j k b shows z next t) (sym ends.0)
+        (made-last (Done r) (λ is. cc) p.kept (
+          goes-as old.mount new.mount old.notifier new.notifier shows j.client (Called j.call r) b
+              (λ only. (reads only).0) p.goes,
+          ends.1,
+        ) (last, refl, ends.2) (λ e is. let same : r ≡ Refused e = cc in p.refused e same)
+        (λ is. let same : r ≡ replies.Done = cc in p.marks same)
+        (λ only. (reads only).1 p.kept.layers.paths))
+    made-ended reads (Err a) turn ends p =
+        subst (λ z. Makes old new work work j k b shows z next t) (sym ends.0)
+        (made-last NoMemory (λ is. cc) p.kept
+        (stays-as old.mount new.mount old.notifier new.notifier b p.no_memory, ends.1)
+        (last-not-copy next last, (λ n. refl), ends.2) (λ e is. cc)
+        (λ is. let no : NoMemory ≡ Done replies.Done = is in absurd (cc))
+        (λ only. (reads only).1 p.kept.layers.paths))
+
+    module _ (c : ℕ) (l : Call) (client : c ≡ j.client) (call : l ≡ j.call)
+        (r : Result Reply AllocError) (turn : Turn) (ends : EndsBy k r turn)
+        (p : Performs shows c l old new r) where
+      performed : Performs shows j.client j.call old new r
+      performed = performs-as (sym call) (subst (λ n. Performs shows n l old new r) client p)
+
+      -- a call that may lack nothing
+      pub made-plain : may_lack j.call ≡ false → Makes old new work work j k b shows turn next t
+      made-plain plain =
+          let held = plain-held old.mount.layers new.mount.layers j.call plain in
+          made-ended (λ only. (λ s a. plain-writes s j.call plain, held)) r turn ends performed
+
+      -- and one that was planned
+      pub made-planned : may_lack j.call ≡ true →
+          (b ≡ true → ReadsOnly old.mount old.notifier j) →
+          Makes old new work work j k b shows turn next t
+      made-planned may reads =
+          made-ended (λ only. (
+            (reads only).0,
+            λ keeps. same-held old.mount.layers new.mount.layers
+                (unchanged-same old.mount.layers new.mount.layers j.call may (reads only).1 keeps),
+          )) r turn ends performed
+
+  -- a step that refuses the call
+  pub made-refused : (b : Bool) (old : Watched F G) (work : List (Option OpenJob)) (j k : Job)
+      (next : Next) (t : Option Beginning) → IsLast next →
+      AreTemps (lowers_of old.mount.layers) work → (e : Errno) (turn : Turn) →
+      EndsBy k (Ok (Refused e)) turn → is_attached old.mount.clients j.client ≡ true →
+      IsRefusal b old.mount old.notifier j (Some e) →
+      Makes old old work work j k b shows turn next t
+  made-refused b old work j k next t last temps e turn ends attached refused =
+      let answers = λ (s : State) (a : AgreesAs b old.mount old.notifier s).
+      subst (λ o. Answered o shows s j.client j.call (Refused e) s) (sym (refused s a))
+      (refl, refl) in
+      subst (λ z. Makes old old work work j k b shows z next t) (sym ends.0)
+      (made-last b old old work j k next t last temps (Done (Refused e)) (λ is. cc)
+      (keeps-same j.call old.mount)
+      ((λ s a. (s, (a.0.stands.tables.attached j.client ∙ attached, answers s a), a)), ends.1)
+      (last, refl, ends.2) (λ x is. refl)
+      (λ is. let no : Done (Refused e) ≡ Done replies.Done = is in absurd (cc)) (λ only p. refl))
+
+  -- THE NEXT STEP WAS MADE, and what it is told by comes to what the job's is
+  pub made-next : (b d : Bool) (old new : Watched F G) (work e w : List (Option OpenJob))
+      (j k : Job) (turn : Turn) (next : Next) (t : Option Beginning) → d ≡ b →
+      e ≡ without work j → t ≡ held_by work j →
+      ((s : State) → AgreesAs b old.mount old.notifier s →
+      next_by old.mount j (held_by work j) (refusal s j.client j.call) ≡ next) →
+      Makes old new e w j k d shows turn next t → MakesNext old new work w j k b shows turn
+  made-next b d old new work e w j k turn next t only jobs temp is makes =
+      let held = subst (Makes old new e w j k d shows turn next) temp makes in (
+        next,
+        is,
+        subst (λ x. Makes old new (without work j) w j k x shows turn next (held_by work j)) only
+            (subst (λ x. Makes old new x w j k d shows turn next (held_by work j)) jobs held),
+      )
 
 -- a job that ended goes on no more, and ran out of memory only where its call did
 pub ended-over : (k : Job) (r : Result Reply AllocError) (turn : Turn) → EndsBy k r turn → turn ≢ More
@@ -172,49 +246,31 @@ pub ended-memory : (k : Job) (r : Result Reply AllocError) (turn : Turn) → End
 ended-memory k (Ok r) turn ends fine is = let e : Done r ≡ NoMemory = sym ends.0 ∙ is in cc
 ended-memory k (Err a) turn ends fine is = cc
 
-module _ {F G : Type 0} (shows : Rule) (w0 new : Watched F G) (m1 : Mount) (e0 e1 w : List (Option OpenJob)) (j k : Job)
-    (turn : Turn) (n : Next) (t0 t1 t2 : Option Beginning) (mount : m1 ≡ w0.mount) (jobs : e1 ≡ e0) (temp : t1 ≡ t0) where
-  -- the step that was next over a mount that is the same
-  next-as : t2 ≡ t1 → ((s : State) → IsStateOf m1 s → next_by m1 j t2 (refusal s j.client j.call) ≡ n) →
-      (s : State) → Agrees w0.mount w0.notifier s → next_by w0.mount j t0 (refusal s j.client j.call) ≡ n
-  next-as same next s a =
-      let there : IsStateOf m1 s = subst (λ m. IsStateOf m s) (sym mount) a.stands in
-      subst (λ m. next_by m j t0 (refusal s j.client j.call) ≡ n) mount
-      (subst (λ t. next_by m1 j t (refusal s j.client j.call) ≡ n) (same ∙ temp) (next s there))
+-- the step of a call that may lack nothing is the last
+pub next-plain : (m : Mount) (j : Job) (t : Option Beginning) (r : Option Errno) →
+    may_lack j.call ≡ false → next_by m j t r ≡ Finish
+next-plain m j t r plain =
+    next-ready r (lack_by m j) j.placings j.begins t (lack_size (lowers_of m.layers) (lack_by m j))
+    (λ fine. plain-lacks (upper_of m.layers) (lowers_of m.layers) m.metacopy j.call false
+    (sym plain) refl)
 
-  -- THE NEXT STEP WAS MADE
-  pub step-made : t2 ≡ t1 → ((s : State) → IsStateOf m1 s → next_by m1 j t2 (refusal s j.client j.call) ≡ n) →
-      Makes (record { mount = m1; notifier = w0.notifier }) new e1 w j k shows turn n t1 →
-      (x : Next) × ((s : State) → Agrees w0.mount w0.notifier s → next_by w0.mount j t0 (refusal s j.client j.call) ≡ x)
-      × Makes w0 new e0 w j k shows turn x t0
-  step-made same next makes = (
-    n,
-    next-as same next,
-    subst (λ m. Makes (record { mount = m; notifier = w0.notifier }) new e0 w j k shows turn n t0) mount
-        (subst (λ e. Makes (record { mount = m1; notifier = w0.notifier }) new e w j k shows turn n t0) jobs
-        (subst (λ t. Makes (record { mount = m1; notifier = w0.notifier }) new e1 w j k shows turn n t) temp makes)),
-  )
-
--- the same of a call that is made at once
-pub made-over : {F G : Type 0} (shows : Rule) (w0 new : Watched F G) (m1 : Mount) (e0 e1 w : List (Option OpenJob)) (j k : Job)
-    (turn : Turn) (n : Next) (t : Option Beginning) → m1 ≡ w0.mount → e1 ≡ e0 →
-    Makes (record { mount = m1; notifier = w0.notifier }) new e1 w j k shows turn n t → Makes w0 new e0 w j k shows turn n t
-made-over shows w0 new m1 e0 e1 w j k turn n t mount jobs makes =
-    subst (λ m. Makes (record { mount = m; notifier = w0.notifier }) new e0 w j k shows turn n t) mount
-    (subst (λ e. Makes (record { mount = m1; notifier = w0.notifier }) new e w j k shows turn n t) jobs makes)
-
-module _ {F G : Type 0} (shows : Rule) (old new : Watched F G) (e w : List (Option OpenJob)) (j k : Job) where
+module _ {F G : Type 0} (b : Bool) (shows : Rule) (old new : Watched F G)
+    (e w : List (Option OpenJob)) (j k : Job) where
   -- some state agrees after a step too
-  after-turn : (turn : Turn) → ∥ HasState old.mount old.notifier ∥₁ → TurnsWatched old new e w j k shows turn →
+  pub after-made : (turn : Turn) (next : Next) (t : Option Beginning) →
+      ∥ HasState old.mount old.notifier ∥₁ → Makes old new e w j k b shows turn next t →
       ∥ HasState new.mount new.notifier ∥₁
-  after-turn More has turns = stays-on old.mount new.mount old.notifier new.notifier has turns.0
-  after-turn (Done r) has turns =
-      goes-on shows old.mount new.mount old.notifier new.notifier j.client (Called j.call r) has turns.0
-  after-turn NoMemory has turns = stays-on old.mount new.mount old.notifier new.notifier has turns.0
+  after-made More next t has made =
+      state-stays b old.mount new.mount old.notifier new.notifier has made.turns.0
+  after-made (Done r) next t has made =
+      state-goes b shows old.mount new.mount old.notifier new.notifier j.client (Called j.call r)
+      has made.turns.0
+  after-made NoMemory next t has made =
+      state-stays b old.mount new.mount old.notifier new.notifier has made.turns.0
 
   -- so a step brings up no directory but what its call may
   pub brings-made : (turn : Turn) (next : Next) (t : Option Beginning) → ∥ HasState old.mount old.notifier ∥₁ →
-      Makes old new e w j k shows turn next t → BringsUp j.call old.mount.layers new.mount.layers
+      Makes old new e w j k b shows turn next t → BringsUp j.call old.mount.layers new.mount.layers
   brings-made turn next t has made =
       brings-up j.call old.mount.layers new.mount.layers (are-layers old.mount old.notifier has)
-      (are-layers new.mount new.notifier (after-turn turn has made.turns)) made.layers
+      (are-layers new.mount new.notifier (after-made turn next t has made)) made.layers

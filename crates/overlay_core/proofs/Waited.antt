@@ -1,10 +1,9 @@
 -- What waits from step to step: an open whose file is copied.
-use Rattle.std.proofs.Common.{◌≡◌, ℕ, ◌<◌, Bool, true, false, not, ◌&&◌, List, [], Option, None, Some, length, refl, sym, ap, ap₂, ◌∙◌, subst}
+use Rattle.std.proofs.Common.{◌≡◌, ◌<◌, Bool, true, false, not, ◌&&◌, List, [], Option, None, Some, length, refl, sym, ap, ap₂, ◌∙◌, subst}
 use Rattle.std.specs.Prelude.{IsSomeAnd}
 use Rattle.std.proofs.lemmas.Bool.{and_parts}
 use mathlib.Core.Bool.{beq}
 use Rattle.ov_base.specs.declared.call.OpenFlags.{OpenFlags}
-use Rattle.ov_base.specs.declared.errno.Errno.{Errno}
 use Rattle.plain_model.specs.Machine.{State}
 use Rattle.plain_model.specs.Refusals.{refusal}
 use Rattle.merged_lookup.specs.Merged.{upper_of, lowers_of}
@@ -12,8 +11,7 @@ use Rattle.work_dir.specs.Beginnings.{Beginning}
 use Rattle.work_dir.specs.NextSteps.{next_of, IsDue, IsPartial}
 use Rattle.work_dir.specs.declared.next.Lack.{Lack}
 use Rattle.work_dir.specs.declared.next.Lack.TheVariants.{File}
-use Rattle.work_dir.specs.declared.next.Next.TheVariants as next
-use Rattle.work_dir.specs.declared.next.Next.TheVariants.{Begin, Copy}
+use Rattle.work_dir.specs.declared.next.Next.TheVariants.{Copy}
 use Rattle.ov_base.specs.declared.place.Place.{Place}
 use Rattle.mount_calls.specs.Lacks.{lack_of, lack_size}
 use Rattle.mount_calls.specs.States.{IsStateOf}
@@ -26,19 +24,6 @@ use Rattle.overlay_core.specs.Waits.{IsFor, WaitsFor, WaitsForAny}
 -- nothing waits
 pub none-waits : (m : Mount) (waiting : List Waiting) → waiting ≡ [] → WaitsForAny m waiting
 none-waits m waiting none = subst (WaitsForAny m) (sym none) (λ w e. cc)
-
--- a call whose next step places a parent is not refused
-pub placed-allowed : (refused : Option Errno) (l : Lack) (p b : ℕ) (t : Option Beginning) (size : ℕ)
-    (second : Bool) (count : ℕ) →
-    next_of refused l p b t size ≡ next.Place second count → refused ≡ None
-placed-allowed (Some e) l p b t size second count h = cc
-placed-allowed None l p b t size second count h = refl
-
--- a call whose next step begins a copy is not refused
-pub begun-allowed : (refused : Option Errno) (l : Lack) (p b : ℕ) (t : Option Beginning) (size : ℕ) (d : Place) →
-    next_of refused l p b t size ≡ Begin d → refused ≡ None
-begun-allowed (Some e) l p b t size d h = cc
-begun-allowed None l p b t size d h = refl
 
 module _ (m : Mount) (w : Waiting) (j : Job) (t : Option Beginning) (is : IsFor j w) (waits : WaitsFor m w) where
   -- so the next step of a job with this call is known by what waits

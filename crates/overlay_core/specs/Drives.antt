@@ -1,6 +1,6 @@
 -- What a schedule of steps leaves.
 use Rattle.std.specs.Prelude.{◌≡◌, ℕ, ◌+◌, ◌&&◌, Bool, true, false, List, [], ◌∷◌, nat_eq, nat_lt, cond, map, set, ◌++◌, Option, Some, None, slice_get}
-use Rattle.ov_base.specs.declared.call.Call.{Call}
+use Rattle.ov_base.specs.Calls.{Call}
 use Rattle.ov_base.specs.declared.reply.Reply.{Reply}
 use Rattle.plain_model.specs.Machine.{State}
 use Rattle.plain_model.specs.Runs.{Called, Entry, Run}

@@ -1,6 +1,6 @@
 -- What agrees with a mount while a client goes, whose watches ended first, and by what bits its closes are told.
 use Rattle.std.specs.Prelude.{◌≡◌, ℕ, ◌+◌, cond, List, None}
-use Rattle.ov_base.specs.declared.call.Call.TheVariants.{Close}
+use Rattle.ov_base.specs.declared.call.CallOf.TheVariants.{Close}
 use Rattle.ov_base.specs.declared.reply.Reply.{Reply}
 use Rattle.plain_model.specs.Watching.{CLOSE_NOWRITE, CLOSE_WRITE, ISDIR, Instance, Rule}
 use Rattle.plain_model.specs.Machine.{State, handles_of}

@@ -15,4 +15,3 @@ pub mod Temps
 pub mod Steps
 pub mod Placing
 pub mod Waits
-pub mod Reading

@@ -1,6 +1,6 @@
 -- What placing a parent for a call does to a mount.
 use Rattle.std.specs.Prelude.{◌≡◌, ℕ, Bool, IfSome}
-use Rattle.ov_base.specs.declared.call.Call.{Call}
+use Rattle.ov_base.specs.Calls.{Call}
 use Rattle.copy_up.specs.Needs.{first_names}
 use Rattle.copy_up.specs.Showing.{GainsParent, StaysThin}
 use Rattle.mount_calls.specs.Keeping.{KeepsLayers}

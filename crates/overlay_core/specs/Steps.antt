@@ -1,5 +1,5 @@
 -- The step that a job makes next, and what it does.
-use Rattle.std.specs.Prelude.{◌≡◌, ◌≢◌, ℕ, ◌+◌, ◌<◌, cond, nat_lt, length, List, [], Option, None, Some, IsSomeAnd, IfSome, unwrap_or, Result, Ok, Err}
+use Rattle.std.specs.Prelude.{◌≡◌, ◌≢◌, ℕ, ◌+◌, ◌<◌, Bool, true, false, cond, nat_lt, length, List, [], Option, None, Some, IsSomeAnd, IfSome, unwrap_or, Result, Ok, Err}
 use Rattle.std.specs.declared.alloc.AllocError.{AllocError}
 use Rattle.ov_base.specs.declared.errno.Errno.{Errno}
 use Rattle.ov_base.specs.declared.reply.Reply.{Reply}
@@ -7,9 +7,10 @@ use Rattle.ov_base.specs.declared.reply.Reply.TheVariants as replies
 use Rattle.ov_base.specs.declared.reply.Reply.TheVariants.{Refused}
 use Rattle.plain_model.specs.Layers.{Layer}
 use Rattle.plain_model.specs.Machine.{State}
-use Rattle.plain_model.specs.Refusals.{refusal}
+use Rattle.plain_model.specs.Refusals.{refusal, writes}
 use Rattle.plain_model.specs.Runs.{Called}
 use Rattle.plain_model.specs.Watching.{Rule}
+use Rattle.layer_tree.specs.Tree.{SameObjects, layer_of}
 use Rattle.merged_lookup.specs.Merged.{upper_of, lowers_of}
 use Rattle.notice_laws.specs.Notified.{Notified}
 use Rattle.copy_up.specs.Needs.{first_names}
@@ -27,7 +28,8 @@ use Rattle.work_dir.specs.declared.table.OpenJob.{OpenJob}
 use Rattle.mount_calls.specs.Attaching.{KeepsAttached}
 use Rattle.mount_calls.specs.Keeping.{KeepsLayers}
 use Rattle.mount_calls.specs.LeftMarks.{LeavesMarks}
-use Rattle.mount_calls.specs.Lacks.{bytes_at, lack_of, lack_size, path_of_call, CanBeHad}
+use Rattle.mount_calls.specs.Lacks.{bytes_at, changed_paths, lack_of, lack_size, path_of_call}
+use Rattle.mount_calls.specs.Lacks.{CanBeHad}
 use Rattle.mount_calls.specs.declared.mount.Mount.{Mount}
 use Rattle.overlay_core.specs.declared.job.Job.{Job}
 use Rattle.overlay_core.specs.declared.job.Standing.TheVariants as standing
@@ -35,7 +37,7 @@ use Rattle.overlay_core.specs.declared.turn.Turn.{Turn}
 use Rattle.overlay_core.specs.declared.turn.Turn.TheVariants.{More, Done, NoMemory}
 use Rattle.overlay_core.specs.declared.watched.Watched.{Watched}
 use Rattle.overlay_core.specs.Temps.{AreTemps}
-use Rattle.overlay_core.specs.Watching.{Agrees, Goes, Stays}
+use Rattle.overlay_core.specs.Watching.{AgreesAs, GoesAs, StaysAs}
 
 -- the temp that a job holds: the one under its number, where it began it
 abbrev pub held_by : List (Option OpenJob) → Job → Option Beginning
@@ -109,20 +111,24 @@ module _ {F G : Type 0} (old new : Watched F G) (e w : List (Option OpenJob)) (j
   StepsBy NoMemory next temp = (next ≢ Copy) × Same e w × (k.number ≡ None)
 
   -- by what it answers each state that agreed agrees still, or goes on by the machine's call
-  abbrev pub TurnsWatched : Rule → Turn → Type 0
-  TurnsWatched shows More =
-      Stays old.mount old.notifier new.mount new.notifier × (k.standing ≡ standing.Open)
-  TurnsWatched shows (Done reply) =
-      Goes shows old.mount old.notifier j.client (Called j.call reply) new.mount new.notifier
-      × (k.standing ≡ standing.Answered)
-  TurnsWatched shows NoMemory =
-      Stays old.mount old.notifier new.mount new.notifier × (k.standing ≡ standing.GivenUp)
+  abbrev pub TurnsWatched : Bool → Rule → Turn → Type 0
+  TurnsWatched read_only shows More =
+      StaysAs read_only old.mount old.notifier new.mount new.notifier
+      × (k.standing ≡ standing.Open)
+  TurnsWatched read_only shows (Done reply) =
+      GoesAs read_only shows old.mount old.notifier j.client (Called j.call reply) new.mount
+      new.notifier × (k.standing ≡ standing.Answered)
+  TurnsWatched read_only shows NoMemory =
+      StaysAs read_only old.mount old.notifier new.mount new.notifier
+      × (k.standing ≡ standing.GivenUp)
 
   -- A step, with what it leaves alone: who is attached, the lower layers, and what the call leaves of
   -- the upper; and each temp is a beginning of its file. Where the call is done, the upper has the
-  -- marks and whiteouts that it leaves.
-  pub record Makes (shows : Rule) (turn : Turn) (next : Next) (temp : Option Beginning) : Type 0 where
-    pub turns : TurnsWatched shows turn
+  -- marks and whiteouts that it leaves. Where nothing may be written the step is the last, and the
+  -- upper holds what it held.
+  pub record Makes (read_only : Bool) (shows : Rule) (turn : Turn) (next : Next)
+      (temp : Option Beginning) : Type 0 where
+    pub turns : TurnsWatched read_only shows turn
     pub steps : StepsBy turn next temp
     pub clients : KeepsAttached old.mount.clients new.mount.clients
     pub layers : KeepsLayers j.call old.mount.layers new.mount.layers
@@ -131,17 +137,38 @@ module _ {F G : Type 0} (old new : Watched F G) (e w : List (Option OpenJob)) (j
     pub lowers : new.mount.layers.lowers ≡ old.mount.layers.lowers
     pub thin : StaysThin old.mount.layers new.mount.layers
     pub temps : AreTemps (lowers_of new.mount.layers) w
+    pub reads :
+        read_only ≡ true → (turn ≢ More) × (w ≡ e)
+        × SameObjects (layer_of old.mount.layers.upper) (layer_of new.mount.layers.upper)
+
+-- the next step of a job, by each state that agrees, was made
+abbrev pub MakesNext : {F G : Type 0} → Watched F G → Watched F G → List (Option OpenJob) →
+    List (Option OpenJob) → Job → Job → Bool → Rule → Turn → Type 0
+MakesNext old new work w j k read_only shows turn =
+    (next : Next) × ((s : State) → AgreesAs read_only old.mount old.notifier s →
+    next_by old.mount j (held_by work j) (refusal s j.client j.call) ≡ next)
+    × Makes old new (without work j) w j k read_only shows turn next (held_by work j)
 
 -- a job's last step by what its call came to: it is answered, or given up when out of memory
 abbrev pub EndsBy : Job → Result Reply AllocError → Turn → Type 0
 EndsBy k (Ok r) turn = (turn ≡ Done r) × (k.standing ≡ standing.Answered) × (k.number ≡ None)
 EndsBy k (Err a) turn = (turn ≡ NoMemory) × (k.standing ≡ standing.GivenUp) × (k.number ≡ None)
 
+-- this is why each state that agrees refuses a job's call, if any reason is
+abbrev pub IsRefusal : Bool → Mount → Notified → Job → Option Errno → Type 0
+IsRefusal read_only m k j why =
+    (s : State) → AgreesAs read_only m k s → refusal s j.client j.call ≡ why
+
+-- a job's call writes nothing, and changes no path
+abbrev pub ReadsOnly : Mount → Notified → Job → Type 0
+ReadsOnly m k j =
+    ((s : State) → AgreesAs true m k s → writes s j.call ≡ false)
+    × (changed_paths (upper_of m.layers) (lowers_of m.layers) j.call ≡ [])
+
 -- WHAT IS REFUSED NEVER RUNS OUT OF MEMORY: where a step of this job does, no state that agreed
 -- refuses its call
-abbrev pub FailsAllowed : Turn → Mount → Notified → Job → Type 0
-FailsAllowed turn m k j =
-    turn ≡ NoMemory → (s : State) → Agrees m k s → refusal s j.client j.call ≡ None
+abbrev pub FailsAllowed : Bool → Turn → Mount → Notified → Job → Type 0
+FailsAllowed read_only turn m k j = turn ≡ NoMemory → IsRefusal read_only m k j None
 
 -- the job is the same client's and the same call's, with one step more
 pub record IsStepped (j k : Job) : Type 0 where

@@ -1,8 +1,8 @@
 -- The open whose file is copied, kept from step to step.
 use Rattle.std.specs.Prelude.{◌≡◌, List, None, reverse, slice_get}
 use Rattle.std.specs.Option.{ForSome}
-use Rattle.ov_base.specs.declared.call.Call.{Call}
-use Rattle.ov_base.specs.declared.call.Call.TheVariants.{Open}
+use Rattle.ov_base.specs.Calls.{Call}
+use Rattle.ov_base.specs.declared.call.CallOf.TheVariants.{Open}
 use Rattle.plain_model.specs.Machine.{State}
 use Rattle.plain_model.specs.Refusals.{refusal}
 use Rattle.merged_lookup.specs.Merged.{upper_of, lowers_of}

@@ -1,6 +1,6 @@
 -- How a state of the plain machine agrees with a mount and what is kept for its watches, and what a client does to all of them.
 use Rattle.std.specs.Prelude.{◌≡◌, ℕ, Bool}
-use Rattle.ov_base.specs.declared.call.Call.{Call}
+use Rattle.ov_base.specs.Calls.{Call}
 use Rattle.plain_model.specs.Tree.{Tree}
 use Rattle.plain_model.specs.Merging.{IsMerge}
 use Rattle.plain_model.specs.Watching.{Rule}

@@ -1,6 +1,6 @@
 -- Whole runs of a core, link by link.
 use Rattle.std.specs.Prelude.{◌≡◌, ℕ, suc, List, [], ◌∷◌, ◌++◌, Some, true, count_by, slice_get}
-use Rattle.ov_base.specs.declared.call.Call.{Call}
+use Rattle.ov_base.specs.Calls.{Call}
 use Rattle.ov_base.specs.declared.reply.Reply.{Reply}
 use Rattle.plain_model.specs.Runs.{Attached, Called, Deed, Detached, Entry, is_of}
 use Rattle.mount_calls.specs.declared.clients.Clients.{Clients}

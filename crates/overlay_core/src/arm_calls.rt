@@ -1,5 +1,6 @@
 // Watches are armed on what stands at a path (inotify_add_watch(2)).
 ghost use Rattle.std.specs.Prelude.{◌≡◌, ℕ, IfErr, IfOk, List, None, OnErr, OnOk, Some, true};
+ghost use Rattle.ov_base.specs.declared.call.CallOf.TheVariants as Call;
 ghost use Rattle.plain_model.specs.Layers as held;
 ghost use Rattle.plain_model.specs.Layers.{Layer, Path as Names, shows};
 ghost use Rattle.plain_model.specs.Machine.{State};
@@ -18,7 +19,7 @@ use layer_tree::{Inode, Node};
 use merged_lookup::{Layers, Topmost};
 use mount_calls::Mount;
 use notice_laws::Object;
-use ov_base::{Call, Content, Errno, Path, Reply};
+use ov_base::{Content, Errno, Path, Reply};
 use std::alloc::AllocError;
 use watch_table::{Callback, Rule};
 

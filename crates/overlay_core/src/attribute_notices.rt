@@ -1,6 +1,7 @@
 // What changes of attributes and further names tell; a file of a lower layer comes into the upper by
 // them.
 ghost use Rattle.std.specs.Prelude.{◌≡◌, true};
+ghost use Rattle.ov_base.specs.declared.call.CallOf.TheVariants as Call;
 ghost use Rattle.mount_calls.specs.Altering.{IsTarget};
 ghost use Rattle.mount_calls.specs.AttributeCalls.{call_at};
 ghost use Rattle.mount_calls.specs.Attaching.{is_attached};
@@ -12,7 +13,7 @@ ghost use Rattle.rename_redirect.specs.Judging.{MayLink};
 use crate::watched::Watched;
 use merged_lookup::{Stack, Topmost};
 use mount_calls::{AttributeCall, Look};
-use ov_base::{Call, Path, Place, Reply};
+use ov_base::{Path, Place, Reply};
 use std::alloc::AllocError;
 use watch_table::{Callback, Rule};
 

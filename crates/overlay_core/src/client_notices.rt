@@ -2,6 +2,7 @@
 ghost use Rattle.std.specs.Prelude.{◌≡◌, ◌+◌, ◌<◌, ◌^◌, ℕ, false, Some, None, Ok, IfErr, IfOk, IfSome, OnErr, length, map, option_copied, option_map, true};
 ghost use Rattle.std.specs.BTreeMap.{btree_map_len, get};
 ghost use Rattle.std.specs.Ordering.{nat_cmp};
+ghost use Rattle.ov_base.specs.declared.call.CallOf.TheVariants as Call;
 ghost use Rattle.plain_model.specs.Layers.{AreLayers};
 ghost use Rattle.plain_model.specs.Machine.{State, instance_of};
 ghost use Rattle.merged_lookup.specs.Merged.{layers_of};
@@ -20,7 +21,7 @@ use merged_lookup::Layers;
 use mount_calls::Mount;
 use notifier::{CLOSE_NOWRITE, CLOSE_WRITE, ISDIR, Notifier};
 use open_handles::{DESCRIPTORS_MAX, Handle};
-use ov_base::{Call, Errno, Options, Reply};
+use ov_base::{Errno, Options, Reply};
 use std::alloc::{AllocError, Global};
 use std::hash::RandomState;
 use watch_table::{Callback, Hook, NotAttached, Rule};

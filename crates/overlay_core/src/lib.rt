@@ -13,7 +13,6 @@ mod move_notices;
 mod name_notices;
 mod open_notices;
 mod perform;
-mod reading;
 mod refusals;
 mod run_laws;
 mod schedule;

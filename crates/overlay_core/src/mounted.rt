@@ -1,5 +1,5 @@
 // The core of a mount: what is done to it, each deed one of the plain machine.
-ghost use Rattle.std.specs.Prelude.{◌≡◌, ◌≢◌, ◌+◌, ◌-◌, ◌<◌, ◌≤◌, ◌^◌, ℕ, true, false, not, [], ◌∷◌, map, count_by, is_none, is_some, Some, None, All, MatchOption, IsSome, cond, IfOk, IfErr, IfSome, OnOk, OnErr, length, option_map, unwrap_or, vec_len};
+ghost use Rattle.std.specs.Prelude.{◌≡◌, ◌≢◌, ◌+◌, ◌-◌, ◌<◌, ◌≤◌, ◌^◌, ℕ, true, false, not, [], ◌∷◌, map, count_by, is_none, is_some, Some, None, MatchOption, IsSome, cond, IfOk, IfErr, IfSome, OnOk, OnErr, length, option_map, unwrap_or, vec_len};
 ghost use Rattle.plain_model.specs.Blank.{IsBlank};
 ghost use Rattle.plain_model.specs.Layers.{AreLayers};
 ghost use Rattle.plain_model.specs.Runs.{Attached, Detached};
@@ -25,7 +25,6 @@ mod reads;
 use crate::blank_upper::upper_over;
 use crate::job::{Job, Standing};
 use crate::mount_faults::{MountFault, fault_of};
-use crate::reading::{answer, is_answered};
 use crate::stepping::{make, step};
 use crate::turn::Turn;
 use crate::waiting::Waiting;
@@ -319,10 +318,13 @@ impl<F: Callback, R: Rule> Core<F, R> {
             LeavesMarks job.old.call (core_layers self.old) (core_layers self.new) }
         ensures kept { CoreKeeps self.old self.new }
     {
-        if is_answered(self.read_only, job) {
-            return self.answer(job);
-        }
-        match step(&mut self.watched, &mut self.work, &mut self.waiting, job) {
+        match step(
+            &mut self.watched,
+            &mut self.work,
+            &mut self.waiting,
+            job,
+            self.read_only,
+        ) {
             Turn::Done(reply) => {
                 self.finished += 1;
                 Turn::Done(reply)
@@ -357,50 +359,8 @@ impl<F: Callback, R: Rule> Core<F, R> {
         ensures work { core_work self.new ≡ without (core_work self.old) job.old }
         ensures kept { CoreKeeps self.old self.new }
     {
-        if is_answered(self.read_only, job) {
-            return self.answer(job);
-        }
         self.waiting.clear();
-        match make(&mut self.watched, &mut self.work, job) {
-            Turn::Done(reply) => {
-                self.finished += 1;
-                Turn::Done(reply)
-            }
-            Turn::NoMemory => Turn::NoMemory,
-            Turn::More => unreachable!(),
-        }
-    }
-
-    // The one step of a job whose call may lack something, where nothing may be written.
-    fn answer(&mut self, job: &mut Job) -> Turn
-        requires read_only { core_read_only self.old ≡ true }
-        requires may { may_lack job.old.call ≡ true }
-        requires open { job.old.standing ≡ Standing.Open }
-        requires attached { has_client self.old job.old.client ≡ true }
-        requires bound { core_finished self.old + 1 < 2 ^ 63 }
-        ensures job { (job.new.client ≡ job.old.client) × (job.new.call ≡ job.old.call) }
-        ensures turn { TurnsTo self.old job.old self.new job.new result }
-        ensures steps { job.new.steps ≡ job.old.steps + 1 }
-        ensures step { (s : State) → CoreAgrees self.old s → CoreSteps self.old job.old
-            self.new job.new result (next_by (core_mount self.old) job.old
-            (held_by (core_work self.old) job.old) (refusal s job.old.client job.old.call)) }
-        ensures over { result ≢ Turn.More }
-        ensures memory { takes_no_memory job.old.call ≡ true → result ≢ Turn.NoMemory }
-        ensures refusals { (s : State) → CoreAgrees self.old s →
-            IsSome (refusal s job.old.client job.old.call) → result ≢ Turn.NoMemory }
-        ensures finished { core_finished self.new ≡ finished_after result (core_finished self.old) }
-        ensures clients { KeepsAttached (core_clients self.old) (core_clients self.new) }
-        ensures layers { KeepsLayers job.old.call (core_layers self.old) (core_layers self.new) }
-        ensures brings { BringsUp job.old.call (core_layers self.old) (core_layers self.new) }
-        ensures refused { (errno : Errno) → result ≡ Turn.Done (Reply.Refused errno) →
-            core_layers self.new ≡ core_layers self.old }
-        ensures marks { result ≡ Turn.Done Reply.Done →
-            LeavesMarks job.old.call (core_layers self.old) (core_layers self.new) }
-        ensures work { core_work self.new ≡ without (core_work self.old) job.old }
-        ensures kept { CoreKeeps self.old self.new }
-    {
-        self.waiting.clear();
-        match answer(&mut self.watched, job) {
+        match make(&mut self.watched, &mut self.work, job, self.read_only) {
             Turn::Done(reply) => {
                 self.finished += 1;
                 Turn::Done(reply)

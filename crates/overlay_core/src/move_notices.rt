@@ -1,5 +1,6 @@
 // What renames tell: both directories, what is replaced, and what moved.
 ghost use Rattle.std.specs.Prelude.{◌≡◌, true};
+ghost use Rattle.ov_base.specs.declared.call.CallOf.TheVariants as Call;
 ghost use Rattle.mount_calls.specs.Attaching.{is_attached};
 ghost use Rattle.mount_calls.specs.Looking.{IsLook};
 ghost use Rattle.overlay_core.specs.Performing.{Performs};
@@ -8,7 +9,7 @@ ghost use Rattle.rename_redirect.specs.Judging.{MayMove};
 
 use crate::watched::Watched;
 use mount_calls::Look;
-use ov_base::{Call, Path, Reply};
+use ov_base::{Path, Reply};
 use rename_redirect::JudgedRename;
 use std::alloc::AllocError;
 use watch_table::{Callback, Rule};

@@ -1,6 +1,7 @@
 // Names that come and go: what making and removing directories, links and files tells.
 ghost use Rattle.std.specs.Prelude.{◌≡◌, None, true};
 ghost use Rattle.std.specs.Result.{result_err};
+ghost use Rattle.ov_base.specs.declared.call.CallOf.TheVariants as Call;
 ghost use Rattle.ov_base.specs.Targets.{target_of};
 ghost use Rattle.mount_calls.specs.Attaching.{is_attached};
 ghost use Rattle.mount_calls.specs.JudgedNames.{IsMakeable, IsRemovable, IsUnlinkable};
@@ -12,7 +13,7 @@ use crate::watched::Watched;
 use merged_lookup::Stack;
 use mount_calls::Look;
 use notifier::{CREATE, ISDIR};
-use ov_base::{Bytes, Call, Mode, Path, Place, Reply};
+use ov_base::{Bytes, Mode, Path, Place, Reply};
 use std::alloc::AllocError;
 use watch_table::{Callback, Rule};
 

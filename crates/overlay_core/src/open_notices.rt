@@ -1,5 +1,6 @@
 // What opens tell: those of what stands at a path, and those that make a file.
 ghost use Rattle.std.specs.Prelude.{◌≡◌, ◌≢◌, true, OnErr, OnOk};
+ghost use Rattle.ov_base.specs.declared.call.CallOf.TheVariants as Call;
 ghost use Rattle.plain_model.specs.Runs.{Called};
 ghost use Rattle.merged_lookup.specs.Merged.{upper_of, lowers_of};
 ghost use Rattle.notice_laws.specs.declared.object.Object.TheVariants as stands;
@@ -12,7 +13,7 @@ ghost use Rattle.overlay_core.specs.Watching.{Goes, HasState, Keeps, Stays};
 use crate::watched::Watched;
 use mount_calls::{Judged, Look};
 use notice_laws::Object;
-use ov_base::{Call, OpenFlags, Path, Reply};
+use ov_base::{OpenFlags, Path, Reply};
 use std::alloc::AllocError;
 use watch_table::{Callback, Rule};
 

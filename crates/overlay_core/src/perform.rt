@@ -56,11 +56,12 @@ impl<F: Callback, R: Rule> Watched<F, R> {
 
     /// Carries out any other call, as it was planned, and notifies of it. An allocation failure
     /// leaves all that is shown as it was, and notifies nobody.
-    pub fn carry_out(&mut self, client: u64, plan: Plan<'_>) -> Result<Reply, AllocError>
+    #[inline(always)]
+    pub fn carry_out(&mut self, client: u64, plan: &Plan<'_>) -> Result<Reply, AllocError>
         requires there { is_attached self.old.mount.clients client ≡ true }
         requires state { ∥ HasState self.old.mount self.old.notifier ∥₁ }
-        requires planned { IsPlanned self.old.mount client plan }
-        ensures { Performs R.shows client (call_of plan.entry) self.old self.new result }
+        requires planned { IsPlanned self.old.mount client plan.now }
+        ensures { Performs R.shows client (call_of plan.now) self.old self.new result }
     {
         match plan {
             Plan::Alter {
@@ -68,13 +69,13 @@ impl<F: Callback, R: Rule> Watched<F, R> {
                 look,
                 found,
                 ask,
-            } => self.alter(client, path, look, found, ask),
+            } => self.alter(client, path, look, (found.0, found.1), *ask),
             Plan::Mkdir {
                 path,
                 directory,
                 mode,
                 ..
-            } => self.mkdir(client, path, directory, mode),
+            } => self.mkdir(client, path, directory, *mode),
             Plan::Symlink {
                 path,
                 directory,
@@ -86,13 +87,13 @@ impl<F: Callback, R: Rule> Watched<F, R> {
                 look,
                 flags,
                 judged,
-            } => self.open(client, path, look, flags, judged),
+            } => self.open(client, path, look, *flags, *judged),
             Plan::Unlink {
                 path,
                 directory,
                 place,
                 ..
-            } => self.unlink(client, path, directory, place),
+            } => self.unlink(client, path, directory, *place),
             Plan::Rmdir {
                 path,
                 look,
@@ -104,14 +105,14 @@ impl<F: Callback, R: Rule> Watched<F, R> {
                 from,
                 found,
                 ..
-            } => self.link(client, old, new, from, found),
+            } => self.link(client, old, new, from, (found.0, found.1, found.2)),
             Plan::Rename {
                 old,
                 new,
                 from,
                 onto,
                 moving,
-            } => self.rename(client, old, new, from, onto, moving),
+            } => self.rename(client, old, new, from, onto, *moving),
             Plan::Nothing { .. } => Ok(Reply::Done),
         }
     }

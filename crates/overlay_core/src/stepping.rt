@@ -1,5 +1,5 @@
 // One step of a job: which one is next, and what it does.
-ghost use Rattle.std.specs.Prelude.{◌≡◌, ◌≢◌, List, [], Option, true, false, All, Some, IfOk, IsOk, OnErr, OnOk, option_copied};
+ghost use Rattle.std.specs.Prelude.{◌≡◌, ◌≢◌, List, [], Option, true, false, Some, IfOk, IsOk, OnErr, option_copied};
 ghost use Rattle.std.specs.Option.{ForSome};
 ghost use Rattle.plain_model.specs.Layers.{Layer};
 ghost use Rattle.plain_model.specs.Machine.{State};
@@ -7,7 +7,6 @@ ghost use Rattle.plain_model.specs.Refusals.{refusal};
 ghost use Rattle.merged_lookup.specs.Merged.{lowers_of};
 ghost use Rattle.work_dir.specs.Beginnings.{Beginning};
 ghost use Rattle.work_dir.specs.OpenJobs.{job_at, Same, Changes};
-ghost use Rattle.work_dir.specs.declared.limits.TheConstants.{CHUNKS_MAX};
 ghost use Rattle.work_dir.specs.declared.next.Lack.TheVariants as Lacking;
 ghost use Rattle.work_dir.specs.declared.table.OpenJob.{OpenJob};
 ghost use Rattle.mount_calls.specs.Attaching.{is_attached};
@@ -18,13 +17,12 @@ ghost use Rattle.mount_calls.specs.Looking.{AreLooks};
 ghost use Rattle.mount_calls.specs.Plans.{call_of, IsPlanned};
 ghost use Rattle.mount_calls.specs.States.{IsStateOf};
 ghost use Rattle.overlay_core.specs.Placing.{PlacesFor};
-ghost use Rattle.overlay_core.specs.Steps as steps;
-ghost use Rattle.overlay_core.specs.Steps.{begun, held_by, lack_by, next_by, without, FailsAllowed, IsNext, IsStepped, Makes};
+ghost use Rattle.overlay_core.specs.Steps.{begun, held_by, lack_by, next_by, without, FailsAllowed, IsNext, IsStepped, Makes, MakesNext};
 ghost use Rattle.overlay_core.specs.Temps.{AreTemps, IsTemp};
 ghost use Rattle.overlay_core.specs.Waits.{WaitsForAny};
-ghost use Rattle.overlay_core.specs.Watching.{Agrees, HasState};
+ghost use Rattle.overlay_core.specs.Watching.{HasState};
 
-use crate::finishing::{ended, finish, plain};
+use crate::finishing::{ended, finish, plain, planned};
 use crate::job::{Job, Standing};
 use crate::turn::Turn;
 use crate::waiting::{Waiting, copies_on};
@@ -36,30 +34,28 @@ use watch_table::{Callback, Rule};
 use work_dir::{Lack, Next, OpenJob, Temp, WorkDir, next_after};
 
 // Makes the next step of a job. What waits is kept where the step copies, and noted anew where it
-// begins a copy.
+// begins a copy. Where nothing may be written it is the last.
 pub(crate) fn step<F: Callback, R: Rule>(
     watched: &mut Watched<F, R>,
     work: &mut WorkDir,
     waiting: &mut Vec<Waiting>,
     job: &mut Job,
+    read_only: bool,
 ) -> Turn
     requires open { job.old.standing ≡ Standing.Open }
     requires attached { is_attached watched.old.mount.clients job.old.client ≡ true }
     requires state { ∥ HasState watched.old.mount watched.old.notifier ∥₁ }
     requires temps { AreTemps (lowers_of watched.old.mount.layers) work.old }
     requires waits { WaitsForAny watched.old.mount waiting.old.items }
+    requires idle { read_only ≡ true → work.old ≡ [] }
     ensures waits { WaitsForAny watched.new.mount waiting.new.items }
-    ensures makes { (next : Next) × ((s : State) →
-        Agrees watched.old.mount watched.old.notifier s →
-        next_by watched.old.mount job.old (held_by work.old job.old)
-        (refusal s job.old.client job.old.call) ≡ next)
-        × Makes watched.old watched.new (without work.old job.old) work.new job.old job.new
-        R.shows result next (held_by work.old job.old) }
+    ensures makes { MakesNext watched.old watched.new work.old work.new job.old job.new
+        read_only R.shows result }
     ensures stepped { IsStepped job.old job.new }
-    ensures allowed { FailsAllowed result watched.old.mount watched.old.notifier job.old }
+    ensures allowed { FailsAllowed read_only result
+        watched.old.mount watched.old.notifier job.old }
     ensures memory { takes_no_memory job.old.call ≡ true → result ≢ Turn.NoMemory }
     ensures at_once { lacks.may_lack job.old.call ≡ false → result ≢ Turn.More }
-    ensures plain { lacks.may_lack job.old.call ≡ false → work.new ≡ without work.old job.old }
 {
     if copies_on(waiting.first(), job, temp_of(work, job)) {
         return copy(watched, work, job);
@@ -73,12 +69,19 @@ pub(crate) fn step<F: Callback, R: Rule>(
         }
         LookedPaths::One(path) => {
             let look = watched.mount.look(path);
-            step_by(watched, work, waiting, job, Looks::One(&look))
+            step_by(watched, work, waiting, job, Looks::One(&look), read_only)
         }
         LookedPaths::Both(old, new) => {
             let from = watched.mount.look(old);
             let onto = watched.mount.look(new);
-            step_by(watched, work, waiting, job, Looks::Both(&from, &onto))
+            step_by(
+                watched,
+                work,
+                waiting,
+                job,
+                Looks::Both(&from, &onto),
+                read_only,
+            )
         }
     }
 }
@@ -90,6 +93,7 @@ fn step_by<F: Callback, R: Rule>(
     waiting: &mut Vec<Waiting>,
     job: &mut Job,
     looks: Looks<'_>,
+    read_only: bool,
 ) -> Turn
     requires open { job.old.standing ≡ Standing.Open }
     requires attached { is_attached watched.old.mount.clients job.old.client ≡ true }
@@ -98,16 +102,15 @@ fn step_by<F: Callback, R: Rule>(
     requires looks { AreLooks watched.old.mount.layers job.old.call looks }
     requires temps { AreTemps (lowers_of watched.old.mount.layers) work.old }
     requires none { waiting.old.items ≡ [] }
+    requires idle { read_only ≡ true → work.old ≡ [] }
     ensures waits { WaitsForAny watched.new.mount waiting.new.items }
-    ensures makes { (next : Next) × ((s : State) → IsStateOf watched.old.mount s →
-        next_by watched.old.mount job.old (held_by work.old job.old)
-        (refusal s job.old.client job.old.call) ≡ next)
-        × Makes watched.old watched.new (without work.old job.old) work.new job.old job.new
-        R.shows result next (held_by work.old job.old) }
+    ensures makes { MakesNext watched.old watched.new work.old work.new job.old job.new
+        read_only R.shows result }
     ensures stepped { IsStepped job.old job.new }
-    ensures allowed { FailsAllowed result watched.old.mount watched.old.notifier job.old }
+    ensures allowed { FailsAllowed read_only result
+        watched.old.mount watched.old.notifier job.old }
 {
-    let plan = match watched.mount.plan(job.client(), job.call(), looks) {
+    let plan = match planned(watched, job, looks, read_only) {
         Ok(plan) => plan,
         Err(errno) => {
             let_go(work, job);
@@ -117,7 +120,7 @@ fn step_by<F: Callback, R: Rule>(
     match next_step(&watched.mount, job, &plan, temp_of(work, job)) {
         Next::Finish | Next::AtOnce => {
             let_go(work, job);
-            let outcome = watched.carry_out(job.client(), plan);
+            let outcome = watched.carry_out(job.client(), &plan);
             ended(job, outcome)
         }
         Next::Place { second, count } => {
@@ -138,16 +141,18 @@ pub(crate) fn make<F: Callback, R: Rule>(
     watched: &mut Watched<F, R>,
     work: &mut WorkDir,
     job: &mut Job,
+    read_only: bool,
 ) -> Turn
     requires open { job.old.standing ≡ Standing.Open }
     requires attached { is_attached watched.old.mount.clients job.old.client ≡ true }
     requires state { ∥ HasState watched.old.mount watched.old.notifier ∥₁ }
     requires temps { AreTemps (lowers_of watched.old.mount.layers) work.old }
     ensures makes { Makes watched.old watched.new (without work.old job.old) work.new job.old
-        job.new R.shows result Next.Finish (held_by work.old job.old) }
+        job.new read_only R.shows result Next.Finish (held_by work.old job.old) }
     ensures work { work.new ≡ without work.old job.old }
     ensures stepped { IsStepped job.old job.new }
-    ensures allowed { FailsAllowed result watched.old.mount watched.old.notifier job.old }
+    ensures allowed { FailsAllowed read_only result
+        watched.old.mount watched.old.notifier job.old }
     ensures memory { takes_no_memory job.old.call ≡ true → result ≢ Turn.NoMemory }
     ensures over { result ≢ Turn.More }
 {
@@ -157,12 +162,12 @@ pub(crate) fn make<F: Callback, R: Rule>(
         LookedPaths::None => plain(watched, job),
         LookedPaths::One(path) => {
             let look = watched.mount.look(path);
-            finish(watched, job, Looks::One(&look))
+            finish(watched, job, Looks::One(&look), read_only)
         }
         LookedPaths::Both(old, new) => {
             let from = watched.mount.look(old);
             let onto = watched.mount.look(new);
-            finish(watched, job, Looks::Both(&from, &onto))
+            finish(watched, job, Looks::Both(&from, &onto), read_only)
         }
     }
 }
@@ -201,9 +206,7 @@ fn temp_of<'a>(work: &'a WorkDir, job: &Job) -> Option<&'a Temp>
 fn next_step(mount: &Mount, job: &Job, plan: &Plan<'_>, temp: Option<&Temp>) -> Next
     requires planned { IsPlanned mount.now job.now.client plan.now }
     requires call { call_of plan.now ≡ job.now.call }
-    ensures next { (s : State) → IsStateOf mount.now s →
-        next_by mount.now job.now (option_copied temp.entry)
-        (refusal s job.now.client job.now.call) ≡ result }
+    ensures next { next_by mount.now job.now (option_copied temp.entry) None ≡ result }
     ensures due { IsNext mount.now job.now (option_copied temp.entry) result }
 {
     let lack = mount.lack(plan);
@@ -251,8 +254,8 @@ fn place<F: Callback, R: Rule>(
     requires due { IsNext watched.old.mount job.old temp (Next.Place second count) }
     requires temps { AreTemps (lowers_of watched.old.mount.layers) work.old }
     requires temp { ForSome temp (IsTemp (lowers_of watched.old.mount.layers)) }
-    ensures makes { Makes watched.old watched.new work.old work.new job.old job.new R.shows result
-        (Next.Place second count) temp }
+    ensures makes { Makes watched.old watched.new work.old work.new job.old job.new false R.shows
+        result (Next.Place second count) temp }
     ensures stepped { IsStepped job.old job.new }
 {
     match keep_placed(&mut watched.mount, work, job, second, count, temp) {
@@ -303,7 +306,7 @@ fn begin<F: Callback, R: Rule>(
     requires due { (t : Option Beginning) → IsNext watched.now.mount job.old t (Next.Begin source) }
     requires temps { AreTemps (lowers_of watched.now.mount.layers) work.old }
     ensures makes { (t : Option Beginning) →
-        Makes watched.now watched.now work.old work.new job.old job.new R.shows result
+        Makes watched.now watched.now work.old work.new job.old job.new false R.shows result
         (Next.Begin source) t }
     ensures stepped { IsStepped job.old job.new }
 {
@@ -350,7 +353,7 @@ fn copy<F: Callback, R: Rule>(watched: &Watched<F, R>, work: &mut WorkDir, job: 
     requires due { IsNext watched.now.mount job.old (held_by work.old job.old) Next.Copy }
     requires temps { AreTemps (lowers_of watched.now.mount.layers) work.old }
     ensures makes { Makes watched.now watched.now (without work.old job.old) work.new job.old
-        job.new R.shows result Next.Copy (held_by work.old job.old) }
+        job.new false R.shows result Next.Copy (held_by work.old job.old) }
     ensures more { result ≡ Turn.More }
     ensures stepped { IsStepped job.old job.new }
 {

@@ -1,5 +1,6 @@
 // What uses of open files tell.
 ghost use Rattle.std.specs.Prelude.{◌≡◌, true, length, None, Ok, OnErr};
+ghost use Rattle.ov_base.specs.declared.call.CallOf.TheVariants as Call;
 ghost use Rattle.plain_model.specs.Machine.{State};
 ghost use Rattle.plain_model.specs.Refusals.{refusal};
 ghost use Rattle.mount_calls.specs.Attaching.{is_attached};
@@ -9,7 +10,7 @@ ghost use Rattle.overlay_core.specs.Watching.{Agrees, HasState};
 
 use crate::watched::Watched;
 use notifier::{ACCESS, MODIFY};
-use ov_base::{Bytes, Call, Errno, Reply};
+use ov_base::{Bytes, Errno, Reply};
 use std::alloc::AllocError;
 use watch_table::{Callback, Rule};
 

@@ -1,5 +1,6 @@
 // The calls on watches.
 ghost use Rattle.std.specs.Prelude.{◌≡◌, IfOk, None, OnErr, true};
+ghost use Rattle.ov_base.specs.declared.call.CallOf.TheVariants as Call;
 ghost use Rattle.plain_model.specs.Machine.{State};
 ghost use Rattle.plain_model.specs.Refusals.{refusal};
 ghost use Rattle.plain_model.specs.Runs.{Called};
@@ -7,7 +8,7 @@ ghost use Rattle.mount_calls.specs.Attaching.{is_attached};
 ghost use Rattle.overlay_core.specs.Watching.{Agrees, Goes, HasState};
 
 use crate::watched::Watched;
-use ov_base::{Call, Errno, Reply};
+use ov_base::{Errno, Reply};
 use std::alloc::{AllocError, Global};
 use watch_table::{Callback, Rule};
 

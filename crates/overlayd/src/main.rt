@@ -8,7 +8,7 @@ mod mounting;
 
 use crate::ending::{Task, closing_in, do_task, ending_of};
 use crate::mounting::{Mounting, mounting_of};
-use command_line::{Invocation, Playing, Serving, Source, command_line};
+use command_line::{Invocation, Playing, Serving, Source, UsageFault, command_line};
 use manifest_files::{Described, Failure, STANDARD_INPUT, read_manifest, tell, why_bad};
 use ov_devices::{CountedReader, CountedWriter};
 use ov_server::{ByTag, Fault, Output, ProgramRule, hooks_by_slot, play_run, show_run};
@@ -46,7 +46,7 @@ fn main(rt: HostRuntime) -> ExitCode {
 
 // The exit status, or the fault of a command line. A thread that closes a server when standard input
 // ends is made by what is given.
-fn run<R, W>(rt: &R, is_terminal: bool, starts: &W) -> Result<ExitCode, Fault>
+fn run<R, W>(rt: &R, is_terminal: bool, starts: &W) -> Result<ExitCode, UsageFault>
 where
     R: Runtime + AllocGlobal + RandomSource + Net + Threads + Wait + Sync,
     W: Fn(Task) -> Result<(), Fault>,
@@ -99,11 +99,11 @@ fn keys<R: RandomSource>(rt: &R) -> Result<RandomState, Fault> {
 }
 
 // The words of the command line, the program's name first.
-fn words<R: Env + AllocGlobal>(rt: &R) -> Result<Vec<String>, Fault> {
+fn words<R: Env + AllocGlobal>(rt: &R) -> Result<Vec<String>, UsageFault> {
     match env::args(rt) {
         Ok(words) => Ok(words.collect(rt.alloc())?),
-        Err(fault) if fault.kind() == io::ErrorKind::OutOfMemory => Err(Fault::Memory),
-        Err(_) => Err(Fault::NotText),
+        Err(fault) if fault.kind() == io::ErrorKind::OutOfMemory => Err(UsageFault::Memory),
+        Err(_) => Err(UsageFault::NotText),
     }
 }
 
@@ -376,9 +376,9 @@ fn options_of<'a>(
 }
 
 // Tells the fault of a command line and gives the exit status. The texts are its parser's own.
-fn report<R: Print + Eprint>(rt: &R, fault: &Fault) -> ExitCode {
+fn report<R: Print + Eprint>(rt: &R, fault: &UsageFault) -> ExitCode {
     let told = match fault {
-        Fault::CommandLine(error) => error.print(rt),
+        UsageFault::CommandLine(error) => error.print(rt),
         fault => eprintln!(rt; "overlayd: {fault}"),
     };
     match told {
@@ -388,7 +388,7 @@ fn report<R: Print + Eprint>(rt: &R, fault: &Fault) -> ExitCode {
 }
 
 // The same where the telling failed: for help, which standard output didn't take, it is a fault of its own.
-fn report_untold<R: Eprint>(rt: &R, fault: &Fault) -> ExitCode {
+fn report_untold<R: Eprint>(rt: &R, fault: &UsageFault) -> ExitCode {
     if fault.status() == 0 {
         let stream = Fault::Stream;
         let _ = eprintln!(rt; "overlayd: {stream}");

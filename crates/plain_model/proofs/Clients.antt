@@ -4,8 +4,8 @@ use Rattle.std.specs.List.{All, AllByRecursion, IsDistinct, list_any}
 use Rattle.std.proofs.lemmas.Bool.{or_cases}
 use Rattle.std.proofs.lemmas.Map.Keys.{IsDistinct-head, IsDistinct-tail, IsDistinct-cons}
 use Rattle.std.proofs.lemmas.List.Elements.{All-from_recursion, recursion_from_All, All-map}
-use Rattle.ov_base.specs.declared.call.Call.{Call}
-use Rattle.ov_base.specs.declared.call.Call.TheVariants.{Open, Rename, Read, Write, Seek, ListNames, Close, Arm, TakeNotices}
+use Rattle.ov_base.specs.Calls.{Call}
+use Rattle.ov_base.specs.declared.call.CallOf.TheVariants.{Open, Rename, Read, Write, Seek, ListNames, Close, Arm, TakeNotices}
 use Rattle.ov_base.specs.declared.node_id.NodeId.{NodeId}
 use Rattle.plain_model.specs.Tree.{same_id, node_at}
 use Rattle.plain_model.specs.Watching.{EVENTS, ONESHOT, has_bit, Instance, Subject, Rule, AllHear, passed, all_passed}

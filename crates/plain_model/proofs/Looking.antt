@@ -6,7 +6,7 @@ use Rattle.ov_base.specs.declared.errno.Errno.{Errno}
 use Rattle.ov_base.specs.declared.node_id.NodeId.{NodeId}
 use Rattle.plain_model.specs.Layers.{Name, Path}
 use Rattle.plain_model.specs.Tree.{Node, Branch, Leaf, Tree, root, names_of, entry, node_at, is_folder}
-use Rattle.ov_base.specs.declared.call.Call.{Call}
+use Rattle.ov_base.specs.Calls.{Call}
 use Rattle.ov_base.specs.declared.errno.Errno.TheVariants.{EROFS}
 use Rattle.plain_model.specs.Machine.{State, Look, Found, Absent, Fails, within, enter, into, look}
 use Rattle.plain_model.specs.Refusals.{◌or_else◌, when, walked, writes, writable_refusal, refusal}

@@ -1,7 +1,7 @@
 -- Every state of a run that begins with a merge keeps what trees keep: each node has as many names as it says.
 use Rattle.std.proofs.Common.{◌≡◌, ℕ, List, [], ◌∷◌, Option, None, Some, refl, sym, subst}
-use Rattle.ov_base.specs.declared.call.Call.{Call}
-use Rattle.ov_base.specs.declared.call.Call.TheVariants.{Close}
+use Rattle.ov_base.specs.Calls.{Call}
+use Rattle.ov_base.specs.declared.call.CallOf.TheVariants.{Close}
 use Rattle.ov_base.specs.declared.errno.Errno.{Errno}
 use Rattle.ov_base.specs.declared.reply.Reply.{Reply}
 use Rattle.plain_model.specs.Layers.{Layer}

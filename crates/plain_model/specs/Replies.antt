@@ -2,8 +2,8 @@
 use Rattle.std.specs.Prelude.{ℕ, ◌+◌, pos, min, List, [], Option, None, Some, length, map, take, drop, unwrap_or}
 use Rattle.ov_base.specs.declared.attributes.Attributes.{Attributes}
 use Rattle.ov_base.specs.declared.bytes.Content.TheVariants.{File, SymbolicLink}
-use Rattle.ov_base.specs.declared.call.Call.{Call}
-use Rattle.ov_base.specs.declared.call.Call.TheVariants.{Stat, Readlink, GetAttribute, ListAttributes, Open, Read, Write, Seek, Fstat, ListNames, Arm, TakeNotices}
+use Rattle.ov_base.specs.Calls.{Call}
+use Rattle.ov_base.specs.declared.call.CallOf.TheVariants.{Stat, Readlink, GetAttribute, ListAttributes, Open, Read, Write, Seek, Fstat, ListNames, Arm, TakeNotices}
 use Rattle.ov_base.specs.declared.notice.Notice.{Notice}
 use Rattle.ov_base.specs.declared.reply.ObjectKind.{ObjectKind}
 use Rattle.ov_base.specs.declared.reply.ObjectKind.TheVariants as kind

@@ -2,8 +2,8 @@
 use Rattle.std.specs.Prelude.{ℕ, suc, ◌+◌, ◌-◌, ◌%◌, ◌^◌, cond, List, [], ◌∷◌, ◌++◌, Option, None, Some, nat_eq, is_none, length}
 pub use Rattle.ov_base.specs.Cookies.{cookie_of}
 use Rattle.std.specs.List.{All}
-use Rattle.ov_base.specs.declared.call.Call.{Call}
-use Rattle.ov_base.specs.declared.call.Call.TheVariants.{Chmod, Chown, SetAttribute, DeleteAttribute, Mkdir, Symlink, Open, Unlink, Rmdir, Hardlink, Rename, Read, Write, Truncate, Close, Disarm}
+use Rattle.ov_base.specs.Calls.{Call}
+use Rattle.ov_base.specs.declared.call.CallOf.TheVariants.{Chmod, Chown, SetAttribute, DeleteAttribute, Mkdir, Symlink, Open, Unlink, Rmdir, Hardlink, Rename, Read, Write, Truncate, Close, Disarm}
 use Rattle.ov_base.specs.declared.node_id.NodeId.{NodeId}
 use Rattle.ov_base.specs.declared.node_id.NodeId.TheVariants.{New}
 use Rattle.plain_model.specs.Layers.{Name}

@@ -16,7 +16,7 @@ use Rattle.mount_laws.proofs.Looks.{shown-there}
 use Rattle.layer_tree.specs.Tree.{layer_of}
 use Rattle.merged_lookup.specs.declared.layers.Layers.{Layers}
 use Rattle.merged_lookup.specs.declared.found.Found.{Found}
-use Rattle.merged_lookup.specs.Merged.{upper_of, layers_of, lowers_of, parents_fault, walk_fault, parent, IsStackOf, IsFound, IsAnswer, ShowsNothing}
+use Rattle.merged_lookup.specs.Merged.{upper_of, layers_of, lowers_of, parents_fault, walk_fault, parent, IsStackOf, IsTopmost, IsAnswer, ShowsNothing}
 use Rattle.copy_up.proofs.Keeping.{or-first}
 use Rattle.copy_up.proofs.Placing.{mount-parents}
 use Rattle.make_remove.proofs.Removing.{unshown-in}
@@ -103,7 +103,9 @@ module _ (l : Layers) (redirects : Bool) (p q : Path) (first : is_root p ≡ fal
   apart (k ∷ r) e = false≢true (sym beside ∙ ap (is_below p) e ∙ below-told p k r)
 
   -- may move
-  pub may-move : (m : JudgedRename) → IsStackOf l (parent p) m.directory.now → IsFound l p m.found → IsStackOf l (parent q) m.onto.now → Fits l redirects p q → MayMove l redirects p q m
+  pub may-move : (m : JudgedRename) → IsStackOf l (parent p) m.directory.now →
+      IsTopmost l p (Some m.top) → IsStackOf l (parent q) m.onto.now → Fits l redirects p q →
+      MayMove l redirects p q m
   may-move m at is onto fits = record {
     fine = fault-fit false ∙ fits.fine;
     directory = at;

@@ -13,12 +13,12 @@ use Rattle.layer_tree.specs.Nameless.{KeepsObjects}
 use Rattle.layer_tree.proofs.Changing.{same_presence}
 use Rattle.layer_tree.proofs.Nameless.{keeps_then}
 use Rattle.merged_lookup.specs.declared.layers.Layers.{Layers}
-use Rattle.merged_lookup.specs.declared.found.Found.{Found}
-use Rattle.merged_lookup.specs.declared.found.Found.TheVariants as found
-use Rattle.merged_lookup.specs.Merged.{upper_of, layers_of, lowers_of, places_at, IsFound}
+use Rattle.merged_lookup.specs.declared.found.Topmost.{Topmost}
+use Rattle.merged_lookup.specs.declared.found.Topmost.TheVariants as topmost
+use Rattle.merged_lookup.specs.Merged.{upper_of, layers_of, lowers_of, IsTopmost}
 use Rattle.copy_up.specs.Showing.{ShowsSame, Stays, GainsParents, KeepsPath, IsParent}
 use Rattle.copy_up.proofs.Frames.{through-same, parent-since, parent-then}
-use Rattle.copy_up.proofs.Keeping.{lowers-same, linked-by, places-agree}
+use Rattle.copy_up.proofs.Keeping.{lowers-same, linked-by}
 use Rattle.copy_up.proofs.Raising.{inode-raised}
 use Rattle.make_remove.specs.Making.{shown_under}
 use Rattle.make_remove.specs.Removing.{last_named}
@@ -99,13 +99,10 @@ module _ (a b : Layers) (p q : Path) (same : ShowsSame a b) (stays : Stays a b) 
   still-shows : shows 0 (layers_of b) p ≡ shows 0 (layers_of a) p
   still-shows = shown-over ∙ over-alike B.inodes A.inodes inodes (held A p) (through A (lowers_of a) p)
 
-  still-places : places_at 0 (layers_of b) p ≡ places_at 0 (layers_of a) p
-  still-places = ap (λ Ls. places_at 0 (B ∷ Ls) p) low ∙ places-agree 0 A B (lowers_of a) p old-held (same.passes.cuts p) (same.passes.spelling p)
-
-  -- so it is found as before
-  pub still-found : (f : Found) → IsFound a p f → IsFound b p f
-  still-found (found.Directory s) h = record { attributes = h.attributes; shown = still-shows ∙ h.shown; places = h.places ∙ sym still-places }
-  still-found (found.Inode d) h = record { inode = h.inode; shown = still-shows ∙ h.shown }
+  -- with the same object at its top
+  pub still-topmost : (t : Topmost) → IsTopmost a p (Some t) → IsTopmost b p (Some t)
+  still-topmost (topmost.Directory d) h = (h.0, still-shows ∙ h.1)
+  still-topmost (topmost.Inode d) h = record { inode = h.inode; shown = still-shows ∙ h.shown }
 
   pub still-folder : is_directory (shows 0 (layers_of b) p) ≡ is_directory (shows 0 (layers_of a) p)
   still-folder = ap is_directory shown-over ∙ folder-over B.inodes A.inodes (held A p) (through A (lowers_of a) p)

@@ -1,7 +1,7 @@
 -- rename is the machine's: what it refuses, and its step.
 use Rattle.std.proofs.Common.{◌≡◌, ℕ, Bool, false, ◌∷◌, List, Option, None, Some, is_some, refl, sym, ap, ◌∙◌, subst}
 use Rattle.std.proofs.lemmas.Bool.{false≢true}
-use Rattle.ov_base.specs.declared.call.Call.TheVariants.{Rename}
+use Rattle.ov_base.specs.declared.call.CallOf.TheVariants.{Rename}
 use Rattle.ov_base.specs.declared.errno.Errno.{Errno}
 use Rattle.plain_model.specs.Layers.{Path, Layer, Shown, shows}
 use Rattle.plain_model.specs.Machine.{State, has_names}

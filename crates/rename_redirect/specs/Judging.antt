@@ -11,7 +11,7 @@ use Rattle.layer_tree.specs.Tree.{layer_of}
 use Rattle.merged_lookup.specs.declared.layers.Layers.{Layers}
 use Rattle.ov_base.specs.declared.place.Place.{Place}
 use Rattle.merged_lookup.specs.declared.stack.Stack.{Stack}
-use Rattle.merged_lookup.specs.Merged.{upper_of, layers_of, lowers_of, parents_fault, parent, IsFound, IsStackOf, ShowsInode}
+use Rattle.merged_lookup.specs.Merged.{upper_of, layers_of, lowers_of, parents_fault, parent, IsStackOf, IsTopmost, ShowsInode}
 pub use Rattle.make_remove.specs.Sights.{IsSeen}
 use Rattle.rename_redirect.specs.declared.renames.JudgedRename.{JudgedRename}
 
@@ -45,13 +45,14 @@ pub record Fits (l : Layers) (redirects : Bool) (p q : Path) : Type 0 where
   pub empty : ShowsNoName (layers_of l) q
   pub kind : is_directory (shows 0 (layers_of l) p) ≡ true → NamesNoInode (layer_of l.upper) q
 
--- THE RENAME WAS JUDGED, and nothing refuses it: what was found at p, in its merged directory, may move to q, in the other one
+-- THE RENAME WAS JUDGED, and nothing refuses it: what p shows, in its merged directory, with this
+-- object at the top, may move to q, in the other one
 pub record MayMove (l : Layers) (redirects : Bool) (p q : Path) (moving : JudgedRename) : Type 0
   where
     pub fine : rename_fault (upper_of l) (lowers_of l) redirects p q false ≡ None
     pub directory : IsStackOf l (parent p) moving.directory.now
     pub way : parents_fault (layers_of l) p ≡ None
-    pub shown : IsFound l p moving.found
+    pub shown : IsTopmost l p (Some moving.top)
     pub onto : IsStackOf l (parent q) moving.onto.now
     pub parents : parents_fault (layers_of l) q ≡ None
     pub empty : ShowsNoName (layers_of l) q

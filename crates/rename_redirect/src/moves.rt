@@ -8,7 +8,7 @@ ghost use Rattle.mount_laws.specs.Moving.{NamesNoInode};
 ghost use Rattle.mount_laws.specs.Renaming.{is_one};
 ghost use Rattle.layer_tree.specs.Nameless.{KeepsObjects};
 ghost use Rattle.layer_tree.specs.Tree.{layer_of, SameObjects};
-ghost use Rattle.merged_lookup.specs.Merged.{layers_of, lowers_of, parents_fault, parent, top_of, IsFound, IsStackOf, ShowsInode};
+ghost use Rattle.merged_lookup.specs.Merged.{layers_of, lowers_of, parents_fault, parent, top_of, IsStackOf, IsTopmost, ShowsInode};
 ghost use Rattle.copy_up.specs.Showing.{ShowsSame, Stays, StaysThin};
 ghost use Rattle.copy_up.specs.Texts.{KeepsTexts};
 ghost use Rattle.rename_redirect.specs.Linking.{GainsBoth};
@@ -20,6 +20,7 @@ use crate::entries::{Route, insert_and_move, mark_in_upper, move_in_upper};
 use crate::renames::{JudgedRename, Renamed};
 use copy_up::place_parents;
 use layer_tree::{Marks, Object};
+use make_remove::found_in;
 use merged_lookup::{Found, Layers, Stack};
 use ov_base::{Name, Path, Place, Redirect};
 use std::alloc::{AllocError, Global};
@@ -117,7 +118,7 @@ pub(crate) fn move_placed(
     requires from_upper { (top_of moving.directory.now.places.items).layer ≡ 0 }
     requires onto { IsStackOf layers.old (parent new.now) moving.onto.now }
     requires onto_upper { (top_of moving.onto.now.places.items).layer ≡ 0 }
-    requires shown { IsFound layers.old old.now moving.found }
+    requires shown { IsTopmost layers.old old.now (Some moving.top) }
     requires empty { ShowsNoName (layers_of layers.old) new.now }
     requires apart { is_one (layer_of layers.old.upper) old.now new.now ≡ false }
     requires kind { is_directory (shows 0 (layers_of layers.old) old.now) ≡ true → NamesNoInode (layer_of layers.old.upper) new.now }
@@ -139,9 +140,10 @@ pub(crate) fn move_placed(
     };
     let JudgedRename {
         directory,
-        found,
+        top,
         onto,
     } = moving;
+    let found = found_in(layers, directory, old, top);
     let route = Route {
         from: directory.top().key,
         name,

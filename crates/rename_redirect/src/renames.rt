@@ -18,16 +18,16 @@ use crate::seen::answer_in;
 use copy_up::placed_or;
 use dir_listing::shows_names;
 use make_remove::{Seen, found_in, there};
-use merged_lookup::{Found, Layers, Stack};
+use merged_lookup::{Found, Layers, Stack, Topmost};
 use ov_base::{Errno, Path};
 use std::alloc::{AllocError, Global};
 
-/// A rename that was judged, which nothing refuses: what was found at its old path, the merged
+/// A rename that was judged, which nothing refuses: the topmost object at its old path, the merged
 /// directory in which that stands, and the one that it goes to.
-#[derive(Drop)]
+#[derive(Clone, Copy)]
 pub struct JudgedRename<'a> {
     pub directory: &'a Stack,
-    pub found: Found,
+    pub top: Topmost,
     pub onto: &'a Stack,
 }
 
@@ -70,13 +70,13 @@ pub fn rename(
 {
     let JudgedRename {
         directory,
-        found,
+        top,
         onto,
     } = moving;
     let (placed, placed_onto) = place_ways(layers, old, new, directory, onto)?;
     let moving = JudgedRename {
         directory: placed_or(&placed, directory),
-        found,
+        top,
         onto: placed_or(&placed_onto, onto),
     };
     let renamed = move_placed(alloc, layers, old, new, metacopy, moving)?;
@@ -133,7 +133,7 @@ pub fn movable<'a>(
     match fits(layers, &found, &target, redirects) {
         Ok(()) => Ok(Some(JudgedRename {
             directory,
-            found,
+            top,
             onto,
         })),
         Err(errno) => Err(errno),

@@ -34,12 +34,12 @@ pub fn started(
     alloc: Global,
     mount: &mut PlainMount,
     client: u32,
-    text: &CallText<'_>,
+    text: CallText<'_>,
 ) -> Result<Option<String>, AllocError> {
     if !mount.may_call(client) {
         return Ok(None);
     }
-    match text.call(alloc)? {
+    match text.read(alloc)? {
         Err(errno) => Ok(Some(not_taken_line(alloc, client, errno)?)),
         Ok(call) => {
             match mount.begun.insert(client, Begun { call, steps: 0 }) {

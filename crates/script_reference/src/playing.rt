@@ -156,8 +156,8 @@ fn answer_of(
     let lines = match command {
         Command::Attach => told(attached(alloc, mount)),
         Command::Detach { client } => detached(alloc, mount, client),
-        Command::Call { client, call } => called(alloc, mount, client, &call),
-        Command::Start { client, call } => started(alloc, mount, client, &call),
+        Command::Call { client, call } => called(alloc, mount, client, call),
+        Command::Start { client, call } => started(alloc, mount, client, call),
         Command::Step { client, steps } => stepped(alloc, mount, client, steps, wanted),
         Command::Drop { client } => dropped(alloc, mount, client),
         Command::Layer { index } => return Ok(layer_answer(mount, index as usize)),
@@ -223,12 +223,12 @@ fn called(
     alloc: Global,
     mount: &mut PlainMount,
     client: u32,
-    call: &CallText<'_>,
+    call: CallText<'_>,
 ) -> Result<Option<String>, AllocError> {
     if !mount.may_call(client) {
         return Ok(None);
     }
-    match call.call(alloc)? {
+    match call.read(alloc)? {
         Err(errno) => Ok(Some(not_taken_line(alloc, client, errno)?)),
         Ok(call) => {
             let line = mount.make(alloc, client, &call);

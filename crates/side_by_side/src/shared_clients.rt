@@ -55,7 +55,7 @@ impl Clients {
         match command {
             Command::Attach => self.attach(rt, alloc, mount),
             Command::Detach { client } => self.detach(rt, alloc, mount, client),
-            Command::Call { client, call } => self.call(rt, alloc, mount, client, &call),
+            Command::Call { client, call } => self.call(rt, alloc, mount, client, call),
             Command::Layer { .. } | Command::Merge => Ok(Answer::Asks),
             Command::Start { .. } | Command::Step { .. } | Command::Drop { .. } | Command::Work => {
                 Ok(Answer::BadCommand)
@@ -108,12 +108,12 @@ impl Clients {
         alloc: Global,
         mount: &mut M,
         client: u32,
-        call: &CallText<'_>,
+        call: CallText<'_>,
     ) -> Result<Answer, AllocError> {
         let Some(session) = self.session(client) else {
             return Ok(Answer::BadCommand);
         };
-        match call.call(alloc)? {
+        match call.read(alloc)? {
             Ok(call) => self.make(rt, alloc, mount, (client, session), call),
             Err(errno) => Ok(Answer::Lines(not_taken_line(alloc, client, errno)?)),
         }

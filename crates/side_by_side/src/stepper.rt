@@ -38,7 +38,7 @@ impl<F: Callback + Copy, R: Rule> Stepper<F, R> {
     ) -> Result<(), AllocError> {
         for line in lines.split(|byte| *byte == b'\n') {
             if let Ok(command) = command_of(line) {
-                self.play_command(alloc, hooks, &command)?;
+                self.play_command(alloc, hooks, command)?;
             }
         }
         Ok(())
@@ -49,18 +49,18 @@ impl<F: Callback + Copy, R: Rule> Stepper<F, R> {
         &mut self,
         alloc: Global,
         hooks: &[Hook<F, R>],
-        command: &Command<'_>,
+        command: Command<'_>,
     ) -> Result<(), AllocError> {
         match command {
             Command::Attach => return self.attach(alloc, hooks),
-            Command::Start { client, call } => return self.start(alloc, *client, call),
+            Command::Start { client, call } => return self.start(alloc, client, call),
             Command::Call { client, call } => {
-                self.start(alloc, *client, call)?;
-                self.step(*client, u64::MAX);
+                self.start(alloc, client, call)?;
+                self.step(client, u64::MAX);
             }
-            Command::Detach { client } => self.detach(*client),
-            Command::Step { client, steps } => self.step(*client, *steps),
-            Command::Drop { client } => self.drop_call(*client),
+            Command::Detach { client } => self.detach(client),
+            Command::Step { client, steps } => self.step(client, steps),
+            Command::Drop { client } => self.drop_call(client),
             Command::Layer { .. } | Command::Merge | Command::Work => {}
         }
         Ok(())
@@ -84,8 +84,8 @@ impl<F: Callback + Copy, R: Rule> Stepper<F, R> {
         drop(self.core.detach(client));
     }
 
-    fn start(&mut self, alloc: Global, client: u32, text: &CallText<'_>) -> Result<(), AllocError> {
-        let Ok(call) = text.call(alloc)? else {
+    fn start(&mut self, alloc: Global, client: u32, text: CallText<'_>) -> Result<(), AllocError> {
+        let Ok(call) = text.read(alloc)? else {
             return Ok(());
         };
         let client = u64::from(client);

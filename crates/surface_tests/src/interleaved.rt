@@ -4,8 +4,8 @@ use crate::cores::{Answer, DEEDS_MAX, answer_of, answer_to, attached, mounted, u
 use crate::fixtures::{flags, path};
 use crate::schedules::drop_all;
 use ov_base::{Call, Path, Reply};
-use ov_server::{ByTag, ProgramRule};
 use overlay_core::{Core, Job, Turn, drive};
+use program_hooks::{ByTag, ProgramRule};
 use std::alloc::{AllocError, Global};
 use std::hash::RandomState;
 use std::process::Abort;

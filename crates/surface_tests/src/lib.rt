@@ -1,4 +1,4 @@
-//! Tests of what no script reaches: sessions on a core, streams that fail, options, schedules of jobs, callbacks that are
+//! Tests of what no script reaches: sessions on a core, options, schedules of jobs, callbacks that are
 //! asked, hooks that are too many, marks and long files that no manifest makes, places that are freed, and public functions that no command
 //! calls. Scripts and manifests with what they come to are rows of `side_by_side`.
 #![tactic(auto)]
@@ -35,7 +35,5 @@ mod schedules;
 mod sessions;
 #[cfg(test)]
 mod shared_bytes;
-#[cfg(test)]
-mod streams;
 #[cfg(test)]
 mod whole_runs;

@@ -11,8 +11,8 @@ use layer_tree::{Entry, Layer, Object, ROOT};
 use ov_base::{
     Attributes, Bytes, Call, Mode, Name, ObjectKind, Options, Reply, Stat, UserAttributes,
 };
-use ov_server::{ByTag, ProgramRule};
 use overlay_core::{Core, MountFault, Unmounted};
+use program_hooks::{ByTag, ProgramRule};
 use std::alloc::Global;
 use std::hash::RandomState;
 use std::process::Abort;

@@ -13,15 +13,14 @@ mod rows;
 mod served_streams;
 mod shaky;
 mod told;
-mod told_calls;
 
 use crate::cores::{DEEDS_MAX, attached, mounted, unmount};
 use crate::fixtures::EMPTY;
 use doors::owned::{CoreSession, run_session};
 use ov_devices::{CountedReader, CountedWriter};
-use ov_server::{ByTag, ProgramRule};
 use ov_session::{Ending, SessionOutput};
 use overlay_core::Core;
+use program_hooks::{ByTag, ProgramRule};
 use std::alloc::Global;
 use std::hash::RandomState;
 use std::io::{Read, Write};

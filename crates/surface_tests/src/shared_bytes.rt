@@ -9,9 +9,9 @@ use crate::cores::{Answer, answer_to, answers, attached, mounted_on, reply, unmo
 use crate::marked_files::open;
 use layer_tree::Layer;
 use ov_base::{Bytes, Call, Options, Reply};
-use ov_server::{ByTag, ProgramRule};
 use ov_wire::{Blob, layers_of, table_of};
 use overlay_core::Core;
+use program_hooks::{ByTag, ProgramRule};
 use std::alloc::Global;
 use std::hash::RandomState;
 use std::process::Abort;

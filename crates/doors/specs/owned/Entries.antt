@@ -1,6 +1,6 @@
 -- What the exchanges of a session are in the history of its mount.
 use Rattle.std.specs.Prelude.{◌≡◌, ℕ, suc, ◌+◌, ◌^◌, ◌≤◌, false, List, [], ◌∷◌}
-use Rattle.ov_base.specs.declared.call.Call.{Call}
+use Rattle.ov_base.specs.Calls.{Call}
 use Rattle.ov_base.specs.declared.errno.Errno.{Errno}
 use Rattle.ov_base.specs.declared.errno.Errno.TheVariants.{ENOMEM, ENOSPC}
 use Rattle.ov_base.specs.declared.reply.Reply.TheVariants.{Done}

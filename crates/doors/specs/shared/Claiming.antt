@@ -1,6 +1,6 @@
 -- What a receipt claims of a client.
 use Rattle.std.specs.Prelude.{◌≡◌, ℕ, true}
-use Rattle.ov_base.specs.declared.call.Call.{Call}
+use Rattle.ov_base.specs.Calls.{Call}
 use Rattle.ov_base.specs.declared.reply.Reply.{Reply}
 use Rattle.ov_frames.specs.declared.answer.Answer.{Answer}
 use Rattle.ov_frames.specs.declared.answer.Answer.TheVariants.{Replied}

@@ -1,12 +1,13 @@
 // Reads whose bytes go straight to where the caller wants them.
 ghost use Rattle.std.specs.Prelude.{◌≡◌, ◌+◌, ◌<◌, ◌^◌, length, true};
+ghost use Rattle.ov_base.specs.declared.call.CallOf.TheVariants as Call;
 ghost use Rattle.plain_model.specs.Runs.{Called};
 ghost use Rattle.mount_calls.specs.Attaching.{KeepsAttached};
 ghost use Rattle.mount_calls.specs.Keeping.{KeepsLayers};
 ghost use Rattle.mount_calls.specs.Reading.{read_reply, KeepsRoom};
 
 use super::Core;
-use ov_base::{Call, Errno};
+use ov_base::Errno;
 use watch_table::{Callback, Rule};
 
 impl<F: Callback, R: Rule> Core<F, R> {

@@ -4,7 +4,7 @@ use super::dice::Dice;
 use super::frame_reference::{Asked, Stream, StreamEnd, read_stream};
 use super::generated::stream_of;
 use super::served;
-use super::told_calls::asked_of;
+use super::told::asked_of;
 use crate::checks::{holds, keys_of};
 use ov_base::Path;
 use ov_frames::FrameFault;

@@ -1,5 +1,5 @@
 use Rattle.std.proofs.Common.{None}
-use Rattle.ov_base.specs.declared.call.Call.TheVariants as call
+use Rattle.ov_base.specs.declared.call.CallOf.TheVariants as call
 use Rattle.copy_up.proofs.Keeping.{on-err, sound-then}
 use Rattle.copy_up.proofs.Texts.{texts-after, texts-gained}
 use Rattle.mount_calls.proofs.Frames.{none-parents, none-taken}

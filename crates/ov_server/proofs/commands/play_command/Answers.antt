@@ -28,7 +28,7 @@ returns-in-Detach-clause-ok g c =
 
 pub returns-in-Detach-clause-err : goal.returns-in-Detach-clause-err
 returns-in-Detach-clause-err g c =
-    refused c.args.stage.now c.args.command.now _ c.put_played.result c.detached.result c.in-Detach.is
+    refused c.args.stage.now c.args.command _ c.put_played.result c.detached.result c.in-Detach.is
     c.put_played.ensures.err c.detached.ensures.err
 
 pub returns-in-Call-clause-ok : goal.returns-in-Call-clause-ok
@@ -37,7 +37,7 @@ returns-in-Call-clause-ok g c =
 
 pub returns-in-Call-clause-err : goal.returns-in-Call-clause-err
 returns-in-Call-clause-err g c =
-    refused c.args.stage.now c.args.command.now _ c.put_played-in-Call.result c.called.result c.in-Call.is
+    refused c.args.stage.now c.args.command _ c.put_played-in-Call.result c.called.result c.in-Call.is
     c.put_played-in-Call.ensures.err c.called.ensures.err
 
 pub returns-in-Start-clause-ok : goal.returns-in-Start-clause-ok
@@ -46,7 +46,7 @@ returns-in-Start-clause-ok g c =
 
 pub returns-in-Start-clause-err : goal.returns-in-Start-clause-err
 returns-in-Start-clause-err g c =
-    refused c.args.stage.now c.args.command.now _ c.put_started.result c.started.result c.in-Start.is
+    refused c.args.stage.now c.args.command _ c.put_started.result c.started.result c.in-Start.is
     c.put_started.ensures.err c.started.ensures.err
 
 pub returns-in-Step-clause-ok : goal.returns-in-Step-clause-ok
@@ -55,7 +55,7 @@ returns-in-Step-clause-ok g c =
 
 pub returns-in-Step-clause-err : goal.returns-in-Step-clause-err
 returns-in-Step-clause-err g c =
-    refused c.args.stage.now c.args.command.now _ c.put_played-in-Step.result c.stepped.result c.in-Step.is
+    refused c.args.stage.now c.args.command _ c.put_played-in-Step.result c.stepped.result c.in-Step.is
     c.put_played-in-Step.ensures.err c.stepped.ensures.err
 
 pub returns-in-Drop-clause-ok : goal.returns-in-Drop-clause-ok
@@ -64,5 +64,5 @@ returns-in-Drop-clause-ok g c =
 
 pub returns-in-Drop-clause-err : goal.returns-in-Drop-clause-err
 returns-in-Drop-clause-err g c =
-    refused c.args.stage.now c.args.command.now _ c.put_played-in-Drop.result c.dropped.result c.in-Drop.is
+    refused c.args.stage.now c.args.command _ c.put_played-in-Drop.result c.dropped.result c.in-Drop.is
     c.put_played-in-Drop.ensures.err c.dropped.ensures.err

@@ -1,7 +1,7 @@
 use Rattle.std.proofs.Common.{arith, ◌≡◌, ◌+◌, ℕ, List, [], ◌∷◌, ◌++◌, get_or, cond, nat_eq, take, Some, None, refl, sym, ap, ◌∙◌, subst, vec_len, length}
 use Rattle.std.proofs.lemmas.List.{append-nil, length-append}
 use Rattle.std.specs.Vec.{vec_capacity}
-use Rattle.ov_base.specs.declared.call.Call.{Call}
+use Rattle.ov_base.specs.Calls.{Call}
 use Rattle.ov_base.specs.declared.reply.Reply.{Reply}
 use Rattle.overlay_core.specs.Views.{core_clients}
 use Rattle.overlay_core.specs.Drives.{calls_of, Drives, DriveSteps, Answers, replies_to}

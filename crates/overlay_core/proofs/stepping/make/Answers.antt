@@ -1,12 +1,10 @@
-use Rattle.std.proofs.Common.{[], ◌∷◌, sym, ◌∙◌, subst}
+use Rattle.std.proofs.Common.{[], ◌∷◌, sym, ◌∙◌}
 use Rattle.std.proofs.lemmas.Bool.{false≢true}
 use Rattle.merged_lookup.specs.Merged.{lowers_of}
 use Rattle.work_dir.specs.declared.next.Next.TheVariants.{Finish}
 use Rattle.overlay_core.specs.Steps.{held_by, without}
-use Rattle.overlay_core.specs.Watching.{Agrees}
 use Rattle.overlay_core.proofs.Looked.{none-looked, some-looked}
 use Rattle.overlay_core.proofs.NextSteps.{plain-memory}
-use Rattle.overlay_core.proofs.StepsMade.{made-over}
 use Rattle.overlay_core.proofs.stepping.make.Goals as goal
 
 pub plain-requires-clause-state : goal.plain-requires-clause-state
@@ -34,56 +32,40 @@ finish-requires-in-Both-clause-may g c =
 
 pub returns-in-None-clause-makes : goal.returns-in-None-clause-makes
 returns-in-None-clause-makes g c =
-    let old = c.args.watched.now in
+    let work = c.args.work.now in
     let j = c.args.job.now in
-    let t = held_by c.args.work.now j in
-    made-over g.R.Rule.shows old c.plain.new.watched c.remember.new.self
-    (without c.args.work.now j) c.let_go.new.work c.let_go.new.work j c.plain.new.job c.plain.result
-    Finish t c.remember.ensures c.let_go.ensures.table
-    (c.plain.ensures.makes c.let_go.new.work Finish t tt
-    (rw c.remember.ensures
-    (c.let_go.ensures.temps (lowers_of old.mount.layers) c.requires.temps)))
+    let lowers = lowers_of c.args.watched.now.mount.layers in
+    rw c.let_go.ensures.table (rw c.remember.ensures at
+    c.plain.ensures.makes c.args.read_only (without work j) Finish (held_by work j) tt
+    (rw c.let_go.ensures.table at c.let_go.ensures.temps lowers c.requires.temps))
 
 pub returns-in-None-clause-allowed : goal.returns-in-None-clause-allowed
-returns-in-None-clause-allowed g c = λ is s a.
-    c.plain.ensures.allowed is s (subst (λ m. Agrees m c.args.watched.now.notifier s)
-    (sym c.remember.ensures) a)
+returns-in-None-clause-allowed g c =
+    rw c.remember.ensures at c.plain.ensures.allowed c.args.read_only
 
 pub returns-in-One-clause-makes : goal.returns-in-One-clause-makes
 returns-in-One-clause-makes g c =
-    let old = c.args.watched.now in
+    let work = c.args.work.now in
     let j = c.args.job.now in
-    let t = held_by c.args.work.now j in
-    made-over g.R.Rule.shows old c.finish.new.watched c.remember.new.self
-    (without c.args.work.now j) c.let_go.new.work c.let_go.new.work j c.finish.new.job
-    c.finish.result
-    Finish t c.remember.ensures c.let_go.ensures.table
-    (c.finish.ensures.makes c.let_go.new.work Finish t tt
-    (rw c.remember.ensures
-    (c.let_go.ensures.temps (lowers_of old.mount.layers) c.requires.temps)))
+    let lowers = lowers_of c.args.watched.now.mount.layers in
+    rw c.let_go.ensures.table (rw c.remember.ensures at
+    c.finish.ensures.makes (without work j) Finish (held_by work j) tt
+    (rw c.let_go.ensures.table at c.let_go.ensures.temps lowers c.requires.temps))
 
 pub returns-in-One-clause-allowed : goal.returns-in-One-clause-allowed
-returns-in-One-clause-allowed g c = λ is s a.
-    c.finish.ensures.allowed is s (subst (λ m. Agrees m c.args.watched.now.notifier s)
-    (sym c.remember.ensures) a)
+returns-in-One-clause-allowed g c = rw c.remember.ensures at c.finish.ensures.allowed
 
 pub returns-in-Both-clause-makes : goal.returns-in-Both-clause-makes
 returns-in-Both-clause-makes g c =
-    let old = c.args.watched.now in
+    let work = c.args.work.now in
     let j = c.args.job.now in
-    let t = held_by c.args.work.now j in
-    made-over g.R.Rule.shows old c.finish-in-Both.new.watched c.remember.new.self
-    (without c.args.work.now j) c.let_go.new.work c.let_go.new.work j c.finish-in-Both.new.job
-    c.finish-in-Both.result
-    Finish t c.remember.ensures c.let_go.ensures.table
-    (c.finish-in-Both.ensures.makes c.let_go.new.work Finish t tt
-    (rw c.remember.ensures
-    (c.let_go.ensures.temps (lowers_of old.mount.layers) c.requires.temps)))
+    let lowers = lowers_of c.args.watched.now.mount.layers in
+    rw c.let_go.ensures.table (rw c.remember.ensures at
+    c.finish-in-Both.ensures.makes (without work j) Finish (held_by work j) tt
+    (rw c.let_go.ensures.table at c.let_go.ensures.temps lowers c.requires.temps))
 
 pub returns-in-Both-clause-allowed : goal.returns-in-Both-clause-allowed
-returns-in-Both-clause-allowed g c = λ is s a.
-    c.finish-in-Both.ensures.allowed is s (subst (λ m. Agrees m c.args.watched.now.notifier s)
-    (sym c.remember.ensures) a)
+returns-in-Both-clause-allowed g c = rw c.remember.ensures at c.finish-in-Both.ensures.allowed
 
 pub returns-in-One-clause-memory : goal.returns-in-One-clause-memory
 returns-in-One-clause-memory g c = λ none is.

@@ -1,18 +1,18 @@
-use Rattle.std.proofs.Common.{◌≡◌, false, [], ◌∷◌, option_copied, slice_get}
+use Rattle.std.proofs.Common.{◌≡◌, [], ◌∷◌, slice_get}
 use Rattle.std.proofs.Common.{refl, sym, ap, ◌∙◌, subst}
 use Rattle.std.specs.Option.{ForSome}
 use Rattle.std.proofs.lemmas.Bool.{false≢true}
 use Rattle.plain_model.specs.Refusals.{refusal}
-use Rattle.merged_lookup.specs.Merged.{upper_of, lowers_of}
+use Rattle.merged_lookup.specs.Merged.{lowers_of}
 use Rattle.work_dir.specs.declared.next.Next.TheVariants.{Finish, Copy}
-use Rattle.mount_calls.specs.Lacks.{lack_size}
-use Rattle.overlay_core.specs.Steps.{held_by, lack_by, without, IsNext}
+use Rattle.overlay_core.specs.Steps.{held_by, without, IsNext}
 use Rattle.overlay_core.specs.declared.turn.Turn.TheVariants.{More, NoMemory}
 use Rattle.overlay_core.specs.Waits.{WaitsFor}
-use Rattle.overlay_core.specs.Watching.{Agrees}
 use Rattle.overlay_core.proofs.Looked.{none-looked, some-looked}
-use Rattle.overlay_core.proofs.NextSteps.{next-ready, plain-lacks, plain-memory}
-use Rattle.overlay_core.proofs.StepsMade.{step-made}
+use Rattle.overlay_core.proofs.NextSteps.{plain-memory}
+use Rattle.overlay_core.proofs.ReadOnly.{agrees-plain}
+use Rattle.overlay_core.proofs.ReadSteps.{held-writes}
+use Rattle.overlay_core.proofs.StepsMade.{made-next, next-plain}
 use Rattle.overlay_core.proofs.stepping.step.Goals as goal
 
 pub plain-requires-clause-state : goal.plain-requires-clause-state
@@ -56,12 +56,12 @@ returns-then-copies_on-clause-makes g c =
     let work = c.args.work.now in
     let j = c.args.job.now in
     let waits = subst (λ o. ForSome o (WaitsFor old.mount)) (sym (c.first.ensures.value ∙ ap (λ xs. slice_get xs 0) c.deref.ensures.value)) c.requires.waits in
-    step-made g.R.Rule.shows old old
-    old.mount (without work j) (without work j) c.copy.new.work
-    j c.copy.new.job c.copy.result Copy (held_by work j)
-    (held_by work j) (option_copied c.temp_of.result) refl refl
-    refl c.temp_of.ensures (c.if-copies_on.ensures.next refl old.mount waits)
-    c.copy.ensures.makes
+    let all = held-writes c.args.read_only work j _ c.requires.idle
+    (rw c.temp_of.ensures at c.if-copies_on.ensures.due refl old.mount waits) in
+    made-next g.R.Rule.shows c.args.read_only _ old old work (without work j) c.copy.new.work j
+    c.copy.new.job c.copy.result Copy (held_by work j) (sym all) refl refl
+    (λ s a. (rw c.temp_of.ensures at c.if-copies_on.ensures.next refl old.mount waits) s
+    (agrees-plain c.args.read_only old.mount old.notifier s all a).stands) c.copy.ensures.makes
 
 pub returns-then-copies_on-clause-memory : goal.returns-then-copies_on-clause-memory
 returns-then-copies_on-clause-memory g c = λ none is.
@@ -71,67 +71,41 @@ pub returns-then-copies_on-clause-at_once : goal.returns-then-copies_on-clause-a
 returns-then-copies_on-clause-at_once g c = λ plain is.
     false≢true (sym plain ∙ c.if-copies_on.ensures.may refl)
 
-pub returns-then-copies_on-clause-plain : goal.returns-then-copies_on-clause-plain
-returns-then-copies_on-clause-plain g c = λ plain.
-    absurd (false≢true (sym plain ∙ c.if-copies_on.ensures.may refl))
-
-pub returns-in-None-clause-makes : goal.returns-in-None-clause-makes
-returns-in-None-clause-makes g c =
-    let m = c.remember.new.self in
-    let j = c.args.job.now in
-    let t = held_by c.args.work.now j in
-    let none = none-looked j.call (rw c.call-2.ensures at c.in-None.ensures) in
-    step-made g.R.Rule.shows c.args.watched.now c.plain.new.watched m (without c.args.work.now j)
-    c.let_go.new.work c.let_go.new.work j c.plain.new.job c.plain.result Finish t t t
-    c.remember.ensures c.let_go.ensures.table refl refl
-    (λ s st.
-    next-ready (refusal s j.client j.call) (lack_by m j) j.placings j.begins t (lack_size (lowers_of m.layers) (lack_by m j))
-    (λ fine.
-    plain-lacks (upper_of m.layers) (lowers_of m.layers) m.metacopy j.call false (sym none) refl))
-    (c.plain.ensures.makes c.let_go.new.work Finish t tt
-    (rw c.remember.ensures
-    (c.let_go.ensures.temps (lowers_of c.args.watched.now.mount.layers) c.requires.temps)))
-
-pub returns-in-One-clause-makes : goal.returns-in-One-clause-makes
-returns-in-One-clause-makes g c =
-    let made = c.step_by.ensures.makes in
-    let work = c.args.work.now in
-    let j = c.args.job.now in
-    let t = held_by work j in
-    step-made g.R.Rule.shows c.args.watched.now c.step_by.new.watched c.remember.new.self
-    (without work j) (without work j) c.step_by.new.work j c.step_by.new.job
-    c.step_by.result made.0 t t t
-    c.remember.ensures refl refl refl made.1 made.2
-
-pub returns-in-Both-clause-makes : goal.returns-in-Both-clause-makes
-returns-in-Both-clause-makes g c =
-    let made = c.step_by-in-Both.ensures.makes in
-    let work = c.args.work.now in
-    let j = c.args.job.now in
-    let t = held_by work j in
-    step-made g.R.Rule.shows c.args.watched.now c.step_by-in-Both.new.watched c.remember.new.self
-    (without work j) (without work j) c.step_by-in-Both.new.work j c.step_by-in-Both.new.job
-    c.step_by-in-Both.result made.0 t t t
-    c.remember.ensures refl refl refl made.1 made.2
-
 pub returns-then-copies_on-clause-allowed : goal.returns-then-copies_on-clause-allowed
 returns-then-copies_on-clause-allowed g c = λ is s a.
     let never : More ≡ NoMemory = sym c.copy.ensures.more ∙ is in absurd (cc)
 
+pub returns-in-None-clause-makes : goal.returns-in-None-clause-makes
+returns-in-None-clause-makes g c =
+    let m = c.remember.new.self in
+    let old = record c.args.watched.now { mount = m } in
+    let work = c.args.work.now in
+    let j = c.args.job.now in
+    let t = held_by work j in
+    let w = c.let_go.new.work in
+    let none = none-looked j.call (rw c.call-2.ensures at c.in-None.ensures) in
+    rw c.remember.ensures at (made-next g.R.Rule.shows c.args.read_only c.args.read_only old
+    c.plain.new.watched work w w j c.plain.new.job c.plain.result Finish t refl
+    c.let_go.ensures.table refl (λ s a. next-plain m j t (refusal s j.client j.call) none)
+    (c.plain.ensures.makes c.args.read_only w Finish t tt
+    (rw c.remember.ensures
+    (c.let_go.ensures.temps (lowers_of c.args.watched.now.mount.layers) c.requires.temps))))
+
 pub returns-in-None-clause-allowed : goal.returns-in-None-clause-allowed
-returns-in-None-clause-allowed g c = λ is s a.
-    c.plain.ensures.allowed is s (subst (λ m. Agrees m c.args.watched.now.notifier s)
-    (sym c.remember.ensures) a)
+returns-in-None-clause-allowed g c =
+    rw c.remember.ensures at c.plain.ensures.allowed c.args.read_only
+
+pub returns-in-One-clause-makes : goal.returns-in-One-clause-makes
+returns-in-One-clause-makes g c = rw c.remember.ensures at c.step_by.ensures.makes
 
 pub returns-in-One-clause-allowed : goal.returns-in-One-clause-allowed
-returns-in-One-clause-allowed g c = λ is s a.
-    c.step_by.ensures.allowed is s (subst (λ m. Agrees m c.args.watched.now.notifier s)
-    (sym c.remember.ensures) a)
+returns-in-One-clause-allowed g c = rw c.remember.ensures at c.step_by.ensures.allowed
+
+pub returns-in-Both-clause-makes : goal.returns-in-Both-clause-makes
+returns-in-Both-clause-makes g c = rw c.remember.ensures at c.step_by-in-Both.ensures.makes
 
 pub returns-in-Both-clause-allowed : goal.returns-in-Both-clause-allowed
-returns-in-Both-clause-allowed g c = λ is s a.
-    c.step_by-in-Both.ensures.allowed is s (subst (λ m. Agrees m c.args.watched.now.notifier s)
-    (sym c.remember.ensures) a)
+returns-in-Both-clause-allowed g c = rw c.remember.ensures at c.step_by-in-Both.ensures.allowed
 
 pub returns-in-One-clause-memory : goal.returns-in-One-clause-memory
 returns-in-One-clause-memory g c = λ none is.
@@ -156,15 +130,3 @@ returns-in-Both-clause-at_once g c = λ plain is.
     false≢true (sym plain
     ∙ some-looked c.args.job.now.call c.in-Both.old.now (c.in-Both.new.now ∷ [])
     (rw c.call-2.ensures at c.in-Both.ensures))
-
-pub returns-in-One-clause-plain : goal.returns-in-One-clause-plain
-returns-in-One-clause-plain g c = λ plain.
-    absurd (false≢true (sym plain
-    ∙ some-looked c.args.job.now.call c.in-One.path.now []
-    (rw c.call-2.ensures at c.in-One.ensures)))
-
-pub returns-in-Both-clause-plain : goal.returns-in-Both-clause-plain
-returns-in-Both-clause-plain g c = λ plain.
-    absurd (false≢true (sym plain
-    ∙ some-looked c.args.job.now.call c.in-Both.old.now (c.in-Both.new.now ∷ [])
-    (rw c.call-2.ensures at c.in-Both.ensures)))

@@ -54,7 +54,9 @@ returns-in-Ok-fits-clause-moves c =
     let two = two-objects l p q c.if-same_path.ensures (c.if-same_inode.ensures l p q found answer) in
     let beside = sym c.if-is_below.ensures in
     may-move l c.args.redirects p q first second walk way two beside _
-    (c.in-Ok.ensures.directory l p c.requires.from) found (seen-directory l q c.args.onto.now (c.in-Ok-onto.onto, c.in-Ok-onto.target) c.in-Ok-onto.is c.requires.onto)
+    (c.in-Ok.ensures.directory l p c.requires.from) (c.in-Ok.ensures.top l p c.requires.from)
+    (seen-directory l q c.args.onto.now (c.in-Ok-onto.onto, c.in-Ok-onto.target) c.in-Ok-onto.is
+    c.requires.onto)
     (c.in-Ok-fits.ensures.fits p q found answer)
 
 pub returns-in-Err-fits-clause-refused : goal.returns-in-Err-fits-clause-refused

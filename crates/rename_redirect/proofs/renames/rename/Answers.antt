@@ -1,13 +1,16 @@
 use Rattle.std.proofs.Common.{◌∙◌, ◌∷◌, Some, sym}
 use Rattle.copy_up.proofs.Keeping.{on-err, failed-stays, then-layers}
 use Rattle.rename_redirect.proofs.Given.{fails-both}
-use Rattle.rename_redirect.proofs.Since.{does-since, still-found, still-one, still-folder, still-unnamed}
+use Rattle.rename_redirect.proofs.Since.{does-since, still-topmost, still-one, still-folder, still-unnamed}
 use Rattle.rename_redirect.proofs.Steps.{renamed-over, rename-steps}
 use Rattle.rename_redirect.proofs.Texts.{texts-both, texts-since}
 use Rattle.rename_redirect.proofs.renames.rename.Goals as goal
 
 pub move_placed-requires-clause-shown : goal.move_placed-requires-clause-shown
-move_placed-requires-clause-shown c = still-found c.args.layers.now c.place_ways.new.layers c.args.old.now c.args.new.now c.place_ways.ensures.same c.place_ways.ensures.stays c.place_ways.ensures.gains c.requires.may.1.out c.requires.may.1.within c.args.moving.found c.requires.may.1.shown
+move_placed-requires-clause-shown c =
+    still-topmost c.args.layers.now c.place_ways.new.layers c.args.old.now c.args.new.now
+    c.place_ways.ensures.same c.place_ways.ensures.stays c.place_ways.ensures.gains
+    c.requires.may.1.out c.requires.may.1.within c.args.moving.top c.requires.may.1.shown
 
 pub move_placed-requires-clause-kind : goal.move_placed-requires-clause-kind
 move_placed-requires-clause-kind c = λ h. still-unnamed c.args.layers.now c.place_ways.new.layers c.args.old.now c.args.new.now c.place_ways.ensures.same c.place_ways.ensures.stays c.place_ways.ensures.gains c.requires.may.1.out c.requires.may.1.within (c.requires.may.1.kind (sym (still-folder c.args.layers.now c.place_ways.new.layers c.args.old.now c.args.new.now c.place_ways.ensures.same c.place_ways.ensures.stays c.place_ways.ensures.gains c.requires.may.1.out c.requires.may.1.within) ∙ h))

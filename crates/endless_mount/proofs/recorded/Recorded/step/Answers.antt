@@ -1,5 +1,5 @@
 use Rattle.std.proofs.Common.{arith, ◌≡◌, ◌∙◌, ℕ, ◌+◌, suc, refl, subst, sym, ap, Some, is_some, length, length-append}
-use Rattle.ov_base.specs.declared.call.Call.{Call}
+use Rattle.ov_base.specs.Calls.{Call}
 use Rattle.plain_model.specs.Runs as runs
 use Rattle.overlay_core.specs.Views.{CoreGoes}
 use Rattle.locked_history.specs.declared.entry.Deed.TheVariants.{Called}

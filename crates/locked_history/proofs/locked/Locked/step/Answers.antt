@@ -1,6 +1,6 @@
 use Rattle.std.proofs.Common.{arith, ◌≡◌, ◌∙◌, ℕ, ◌+◌, ◌-◌, ◌<◌, ap, inr, is_some, length, map, refl, subst, sym, vec_len}
 use Rattle.std.proofs.lemmas.List.{length-map}
-use Rattle.ov_base.specs.declared.call.Call.{Call}
+use Rattle.ov_base.specs.Calls.{Call}
 use Rattle.plain_model.specs.Runs as runs
 use Rattle.overlay_core.specs.Views.{CoreGoes, client_count, core_clients, core_finished, core_options, next_client}
 use Rattle.overlay_core.proofs.Histories.{few, kept_places, step_places}

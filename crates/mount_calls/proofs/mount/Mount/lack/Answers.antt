@@ -8,8 +8,8 @@ use Rattle.mount_calls.proofs.Planning.{found-of}
 use Rattle.mount_calls.proofs.Stating.{the_layers, the_lowers, the_upper}
 use Rattle.mount_calls.proofs.mount.Mount.lack.Goals as goal
 
-pub found_file-file-requires : goal.found_file-file-requires
-found_file-file-requires c =
+pub copied_file-file-requires : goal.copied_file-file-requires
+copied_file-file-requires c =
     let found = found-of c.args.self.now c.requires.0 c.args.plan.now _ c.in-Rename.is c.requires.1 in
     (c.in-Rename.old.now, found.2.shown)
 
@@ -56,6 +56,6 @@ returns-in-Rename-clause-can c =
     can-by m c.args.plan.now _ c.both_lack-in-Rename.result c.requires c.in-Rename.is
     (c.both_lack-in-Rename.ensures
     ∙ ap (λ d. lack_among (the_upper m) false (p ∷ (q ∷ [])) d)
-    (c.found_file-file.ensures p found.2.shown)
+    (c.copied_file-file.ensures p found.2.shown)
     ∙ rename-apart (the_upper m) p q (is_one (the_upper m) p q)
     (copied_file m.metacopy (shows 0 (the_layers m) p)) found.2.apart)

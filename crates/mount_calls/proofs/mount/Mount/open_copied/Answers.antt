@@ -6,7 +6,7 @@ use Rattle.mount_calls.specs.Opening.{OpensFile}
 use Rattle.mount_calls.proofs.Answering.{on-err}
 use Rattle.mount_calls.proofs.Makings.{none-countable, reserved-state, wanted-state}
 use Rattle.mount_calls.proofs.CopiedOpens.{vacant, copied-files, copied-kept, copied-emptied}
-use Rattle.ov_base.specs.declared.call.Call.TheVariants as call
+use Rattle.ov_base.specs.declared.call.CallOf.TheVariants as call
 use Rattle.ov_base.specs.declared.reply.Reply.TheVariants as reply
 use Rattle.mount_calls.specs.Living.{KeepsFiles}
 use Rattle.mount_calls.proofs.Named.{open-paths, stays-named}

@@ -12,7 +12,7 @@ use Rattle.mount_calls.proofs.FilledOpens.{filled-files, marked-file, open-fille
 use Rattle.mount_calls.proofs.Frames.{none-same, none-then}
 use Rattle.mount_calls.proofs.Makings.{reserved-state}
 use Rattle.merged_lookup.specs.Merged.{layers_of}
-use Rattle.ov_base.specs.declared.call.Call.TheVariants as call
+use Rattle.ov_base.specs.declared.call.CallOf.TheVariants as call
 use Rattle.ov_base.specs.declared.reply.Reply.TheVariants as reply
 use Rattle.mount_calls.proofs.Named.{open-paths, stays-named}
 use Rattle.mount_calls.proofs.Stating.{the_lowers, the_upper}

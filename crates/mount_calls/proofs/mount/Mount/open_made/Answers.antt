@@ -5,7 +5,7 @@ use Rattle.mount_calls.specs.Files.{file_at}
 use Rattle.mount_calls.specs.Opening.{OpensFile}
 use Rattle.mount_calls.proofs.Answering.{on-err}
 use Rattle.mount_calls.proofs.Makings.{none-countable, reserved-state, wanted-state, open-made}
-use Rattle.ov_base.specs.declared.call.Call.TheVariants as call
+use Rattle.ov_base.specs.declared.call.CallOf.TheVariants as call
 use Rattle.mount_calls.proofs.Lasting.{create-live, parents-live}
 use Rattle.mount_calls.proofs.Named.{keeps-named}
 use Rattle.mount_calls.proofs.Frames.{none-named, none-parents, none-same}

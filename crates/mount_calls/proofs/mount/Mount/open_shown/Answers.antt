@@ -10,7 +10,7 @@ use Rattle.mount_calls.proofs.Answering.{on-err}
 use Rattle.mount_calls.proofs.Marks.{none-mark}
 use Rattle.mount_calls.proofs.Openings.{open-wanted, open-directory, writes-kept}
 use Rattle.mount_calls.proofs.OpeningWrites.{truncate-writes, open-emptied, open-whole}
-use Rattle.ov_base.specs.declared.call.Call.TheVariants as call
+use Rattle.ov_base.specs.declared.call.CallOf.TheVariants as call
 use Rattle.ov_base.specs.declared.reply.Reply.TheVariants as reply
 use Rattle.mount_calls.proofs.Named.{open-paths, stay-files, stays-named}
 use Rattle.mount_calls.proofs.Stating.{the_lowers, the_upper}

@@ -1,5 +1,5 @@
 use Rattle.std.proofs.Common.{ap, rules}
-use Rattle.ov_base.specs.declared.call.Call.TheVariants as call
+use Rattle.ov_base.specs.declared.call.CallOf.TheVariants as call
 use Rattle.mount_calls.proofs.Planning.{plans-found, plans-refusal}
 use Rattle.mount_calls.proofs.mount.Mount.plan_mkdir.Goals as goal
 

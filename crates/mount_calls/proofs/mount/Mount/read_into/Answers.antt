@@ -1,5 +1,5 @@
 use Rattle.std.proofs.Common.{ℕ, List, [], refl, sym, ap, ◌∙◌, drop, length, option_copied, take, unwrap_or}
-use Rattle.ov_base.specs.declared.call.Call.TheVariants as call
+use Rattle.ov_base.specs.declared.call.CallOf.TheVariants as call
 use Rattle.ov_base.specs.declared.reply.Reply.TheVariants as reply
 use Rattle.mount_calls.proofs.FileReads.{read-done, read-refused}
 use Rattle.mount_calls.proofs.MakingCalls.{attached-same, makes-read}

@@ -1,6 +1,6 @@
 use Rattle.std.proofs.Common.{Err, IfSome, Ok, refl, subst}
 use Rattle.std.specs.Result.{result_and}
-use Rattle.ov_base.specs.declared.call.Call.TheVariants as call
+use Rattle.ov_base.specs.declared.call.CallOf.TheVariants as call
 use Rattle.ov_base.specs.declared.reply.Reply.TheVariants.{Done}
 use Rattle.merged_lookup.specs.Merged.{layers_of}
 use Rattle.mount_calls.specs.Removing.{HasAttributes}

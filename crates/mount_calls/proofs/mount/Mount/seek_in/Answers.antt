@@ -1,7 +1,7 @@
 use Rattle.std.proofs.Common.{◌≡◌, ℕ, ℤ, List, [], Ok, Err, length, option_copied, refl, sym, ap, unwrap_or, ◌∙◌}
 use Rattle.std.proofs.lemmas.Int.{to_z-of_z}
 use mir.Syntax.{w64}
-use Rattle.ov_base.specs.declared.call.Call.TheVariants as call
+use Rattle.ov_base.specs.declared.call.CallOf.TheVariants as call
 use Rattle.ov_base.specs.declared.reply.Reply.TheVariants as reply
 use Rattle.mount_calls.specs.Opening.{seek_place}
 use Rattle.mount_calls.proofs.MakingCalls.{attached-same, makes-read}

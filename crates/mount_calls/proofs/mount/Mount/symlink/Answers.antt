@@ -1,5 +1,5 @@
 use Rattle.std.proofs.Common.{◌∙◌, None}
-use Rattle.ov_base.specs.declared.call.Call.TheVariants as call
+use Rattle.ov_base.specs.declared.call.CallOf.TheVariants as call
 use Rattle.merged_lookup.specs.Merged.{layers_of}
 use Rattle.copy_up.proofs.Texts.{texts-gained}
 use Rattle.make_remove.specs.Making.{vacancy_fault}

@@ -1,4 +1,4 @@
-use Rattle.ov_base.specs.declared.call.Call.TheVariants as call
+use Rattle.ov_base.specs.declared.call.CallOf.TheVariants as call
 use Rattle.merged_lookup.specs.Merged.{lowers_of}
 use Rattle.mount_calls.specs.Status.{done_result}
 use Rattle.mount_calls.proofs.Changing.{unlink-done}

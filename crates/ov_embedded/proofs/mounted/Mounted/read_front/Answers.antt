@@ -1,6 +1,6 @@
 use Rattle.std.proofs.Common.{length}
 use Rattle.mount_calls.specs.Reading.{read_reply}
-use Rattle.ov_base.specs.declared.call.Call.TheVariants.{Read}
+use Rattle.ov_base.specs.declared.call.CallOf.TheVariants.{Read}
 use Rattle.ov_embedded.proofs.Calls.{direct_call}
 use Rattle.ov_embedded.proofs.mounted.Mounted.read_front.Goals as goal
 

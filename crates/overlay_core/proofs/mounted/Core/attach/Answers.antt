@@ -3,7 +3,7 @@ use Rattle.plain_model.specs.Runs.{Attached}
 use Rattle.merged_lookup.specs.declared.layers.Layers.{Layers}
 use Rattle.overlay_core.specs.Mounting.{machine_options}
 use Rattle.overlay_core.proofs.Agreeing.{begins-on, given-next, given-same, goes-on, has-begun, some-more, stays-on, temps-on}
-use Rattle.overlay_core.proofs.ReadOnly.{blank-on, goes-free, stays-as}
+use Rattle.overlay_core.proofs.ReadOnly.{blank-on, goes-as, stays-as}
 use Rattle.overlay_core.proofs.ReadSteps.{same-held}
 use Rattle.overlay_core.proofs.Performing.{on-err}
 use Rattle.overlay_core.proofs.Waited.{none-waits}
@@ -45,7 +45,9 @@ pub returns-clause-attached : goal.returns-clause-attached
 returns-clause-attached g c =
     let old = c.args.self.now.watched in
     let new = c.attach.new.self in
-    goes-free old.mount new.mount old.notifier new.notifier g.R.Rule.shows c.in_ok-client.client (Attached (map (λ h. h.tag) c.args.hooks.items)) c.args.self.now.read_only (λ s. tt) c.in_ok-client.ensures.attached
+    goes-as old.mount new.mount old.notifier new.notifier g.R.Rule.shows c.in_ok-client.client
+    (Attached (map (λ h. h.tag) c.args.hooks.items)) c.args.self.now.read_only (λ only s a. tt)
+    c.in_ok-client.ensures.attached
 
 pub returns-in_err-client-clause-stays : goal.returns-in_err-client-clause-stays
 returns-in_err-client-clause-stays g c =

@@ -5,7 +5,7 @@ use Rattle.overlay_core.proofs.Agreeing.{given-more, goes-on, has-begun, some-mo
 use Rattle.merged_lookup.specs.Merged.{lowers_of}
 use Rattle.overlay_core.proofs.TempFits.{forgotten-fit}
 use Rattle.work_dir.specs.OpenJobs.{unless_of}
-use Rattle.overlay_core.proofs.ReadOnly.{blank-on, goes-free}
+use Rattle.overlay_core.proofs.ReadOnly.{blank-on, goes-as}
 use Rattle.overlay_core.proofs.Waited.{none-waits}
 use Rattle.overlay_core.proofs.mounted.Core.detach.Goals as goal
 
@@ -29,4 +29,5 @@ pub returns-clause-detached : goal.returns-clause-detached
 returns-clause-detached g c =
     let old = c.args.self.now.watched in
     let new = c.detach.new.self in
-    goes-free old.mount new.mount old.notifier new.notifier g.R.Rule.shows c.args.client Detached c.args.self.now.read_only (λ s. tt) c.detach.ensures.detached
+    goes-as old.mount new.mount old.notifier new.notifier g.R.Rule.shows c.args.client Detached
+    c.args.self.now.read_only (λ only s a. tt) c.detach.ensures.detached

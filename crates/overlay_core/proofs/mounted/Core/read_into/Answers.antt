@@ -1,10 +1,11 @@
 use Rattle.std.proofs.Common.{false, ◌+◌, length, refl}
-use Rattle.ov_base.specs.declared.call.Call.TheVariants.{Read}
+use Rattle.ov_base.specs.declared.call.CallOf.TheVariants.{Read}
 use Rattle.plain_model.specs.Runs.{Called}
 use Rattle.mount_calls.specs.Reading.{read_reply}
 use Rattle.overlay_core.specs.Mounting.{machine_options}
 use Rattle.overlay_core.proofs.Agreeing.{given-more, goes-on, has-begun, some-more, temps-on}
-use Rattle.overlay_core.proofs.Plain.{blank-plain, goes-plain}
+use Rattle.overlay_core.proofs.ReadOnly.{blank-on, goes-as}
+use Rattle.overlay_core.proofs.ReadSteps.{same-held}
 use Rattle.overlay_core.proofs.Waited.{none-waits}
 use Rattle.overlay_core.proofs.mounted.Core.read_into.Goals as goal
 
@@ -23,7 +24,8 @@ invariant_of-self g c =
       short = core.short;
       waits = none-waits new.mount c.clear.new.self.items c.clear.ensures.items;
       temps = temps-on core.work old.mount.layers new.mount.layers made.kept.lowers core.temps;
-      blank = blank-plain core.read_only k (λ only. refl) old.mount.layers new.mount.layers made.kept.lowers made.kept.layers core.blank;
+      blank = blank-on core.read_only old.mount.layers new.mount.layers made.kept.lowers
+          (same-held old.mount.layers new.mount.layers made.kept.layers.paths) core.blank;
       idle = core.idle;
     }
 
@@ -34,8 +36,8 @@ returns-clause-goes g c =
     let new = c.read_into-read.new.self in
     let k = Read c.args.descriptor (length c.args.room.now) in
     let r = read_reply c.read_into-read.result c.read_into-read.new.room in
-    goes-plain core.read_only k (λ only. refl) old.mount new.mount old.notifier new.notifier g.R.Rule.shows c.args.client r
-    c.read_into-read.ensures.performs.goes
+    goes-as old.mount new.mount old.notifier new.notifier g.R.Rule.shows c.args.client (Called k r)
+    core.read_only (λ only s a. refl) c.read_into-read.ensures.performs.goes
 
 pub returns-clause-clients : goal.returns-clause-clients
 returns-clause-clients g c = c.read_into-read.ensures.performs.kept.clients

@@ -1,6 +1,6 @@
 use Rattle.std.proofs.Common.{◌≡◌, reverse, sym, ap, ap₂, ◌∙◌}
 use Rattle.std.proofs.lemmas.List.{reverse-reverse}
-use Rattle.ov_base.specs.declared.call.Call.TheVariants.{Open}
+use Rattle.ov_base.specs.declared.call.CallOf.TheVariants.{Open}
 use Rattle.plain_model.specs.Layers.{same_path}
 use Rattle.plain_model.proofs.Paths.{paths_tell}
 use Rattle.overlay_core.specs.Waits.{waiting_call}

@@ -1,6 +1,6 @@
 use Rattle.std.proofs.Common.{None, subst, sym, w32}
 use Rattle.std.proofs.lemmas.Int.{to_z_pos}
-use Rattle.ov_base.specs.declared.call.Call.TheVariants.{Arm}
+use Rattle.ov_base.specs.declared.call.CallOf.TheVariants.{Arm}
 use Rattle.ov_base.specs.declared.reply.Reply.TheVariants.{Watch}
 use Rattle.plain_model.specs.Runs.{Called}
 use Rattle.merged_lookup.specs.Merged.{upper_of, lowers_of}

@@ -3,8 +3,8 @@ use Rattle.std.proofs.lemmas.Int.{to_z-of_z}
 use Rattle.std.proofs.lemmas.Result.{on_err_weaker}
 use mir.Syntax.{w32, w64}
 use mir.Val.{SFits}
-use Rattle.ov_base.specs.declared.call.Call.TheVariants.{Fstat, GetAttribute}
-use Rattle.ov_base.specs.declared.call.Call.TheVariants.{ListAttributes, ListNames, Readlink}
+use Rattle.ov_base.specs.declared.call.CallOf.TheVariants.{Fstat, GetAttribute}
+use Rattle.ov_base.specs.declared.call.CallOf.TheVariants.{ListAttributes, ListNames, Readlink}
 use Rattle.overlay_core.proofs.Making.{performs-as, performs-asked, performs-each, performs-silent, performs-watch}
 use Rattle.overlay_core.proofs.NeverRefused.{allowed-as, allowed-by, allowed-each}
 use Rattle.overlay_core.proofs.watched.Watched.perform_plain.Goals as goal

@@ -1,5 +1,5 @@
 use Rattle.std.proofs.Common.{refl, sym, ◌∙◌}
-use Rattle.ov_base.specs.declared.call.Call.TheVariants.{Read}
+use Rattle.ov_base.specs.declared.call.CallOf.TheVariants.{Read}
 use Rattle.overlay_core.proofs.Making.{performs-out, performs-told}
 use Rattle.overlay_core.proofs.Uses.{goes-read, goes-unread, none-bytes, open-tracked, read-open, same-bytes, some-bytes}
 use Rattle.overlay_core.proofs.Performing.{on-err, performed-by}

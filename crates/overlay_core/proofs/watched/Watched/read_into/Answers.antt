@@ -1,5 +1,5 @@
 use Rattle.std.proofs.Common.{length, refl, sym, take, ◌∙◌, arith}
-use Rattle.ov_base.specs.declared.call.Call.TheVariants.{Read}
+use Rattle.ov_base.specs.declared.call.CallOf.TheVariants.{Read}
 use Rattle.ov_base.specs.declared.reply.Reply.TheVariants as reply
 use Rattle.overlay_core.proofs.Making.{performs-told}
 use Rattle.overlay_core.proofs.Performing.{performed-by}

@@ -1,5 +1,5 @@
 use Rattle.std.proofs.Common.{Err, refl}
-use Rattle.ov_base.specs.declared.call.Call.TheVariants.{Rename}
+use Rattle.ov_base.specs.declared.call.CallOf.TheVariants.{Rename}
 use Rattle.mount_calls.proofs.Renaming.{to-path}
 use Rattle.mount_calls.proofs.Stating.{the_lowers, the_upper}
 use Rattle.notifier.proofs.GivenUp.{given-up}

@@ -1,7 +1,7 @@
 use Rattle.std.proofs.Common.{refl}
 use Rattle.merged_lookup.specs.Merged.{lowers_of}
 use Rattle.notice_laws.proofs.Unlinked.{law_of_removed}
-use Rattle.ov_base.specs.declared.call.Call.TheVariants.{Rmdir}
+use Rattle.ov_base.specs.declared.call.CallOf.TheVariants.{Rmdir}
 use Rattle.ov_base.specs.declared.reply.Reply.TheVariants.{Done}
 use Rattle.overlay_core.proofs.Bare.{done-bare, removed-bare}
 use Rattle.overlay_core.proofs.Making.{performs-done, performs-out}

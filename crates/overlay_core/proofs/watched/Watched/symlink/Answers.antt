@@ -1,6 +1,6 @@
 use Rattle.std.proofs.Common.{refl}
 use Rattle.merged_lookup.specs.Merged.{lowers_of}
-use Rattle.ov_base.specs.declared.call.Call.TheVariants.{Symlink}
+use Rattle.ov_base.specs.declared.call.CallOf.TheVariants.{Symlink}
 use Rattle.ov_base.specs.declared.reply.Reply.TheVariants.{Done}
 use Rattle.notice_laws.proofs.Making.{law_of_made}
 use Rattle.overlay_core.proofs.Making.{performs-done, performs-out}

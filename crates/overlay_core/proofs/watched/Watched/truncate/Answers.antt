@@ -1,5 +1,5 @@
 use Rattle.std.proofs.Common.{refl, sym, ◌∙◌}
-use Rattle.ov_base.specs.declared.call.Call.TheVariants.{Truncate}
+use Rattle.ov_base.specs.declared.call.CallOf.TheVariants.{Truncate}
 use Rattle.overlay_core.proofs.Making.{performs-out, performs-told}
 use Rattle.overlay_core.proofs.Uses.{goes-refused, goes-truncated, open-tracked, truncate-open}
 use Rattle.overlay_core.proofs.Performing.{on-err, performed-by}

@@ -1,5 +1,5 @@
 use Rattle.std.proofs.Common.{refl}
-use Rattle.ov_base.specs.declared.call.Call.TheVariants.{Unlink}
+use Rattle.ov_base.specs.declared.call.CallOf.TheVariants.{Unlink}
 use Rattle.ov_base.specs.declared.reply.Reply.TheVariants.{Done}
 use Rattle.merged_lookup.specs.Merged.{lowers_of}
 use Rattle.notice_laws.proofs.Unlinked.{law_of_unlinked}

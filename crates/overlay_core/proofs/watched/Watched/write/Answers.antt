@@ -1,5 +1,5 @@
 use Rattle.std.proofs.Common.{ap, refl, sym, ◌∙◌}
-use Rattle.ov_base.specs.declared.call.Call.TheVariants.{Write}
+use Rattle.ov_base.specs.declared.call.CallOf.TheVariants.{Write}
 use Rattle.overlay_core.proofs.Making.{performs-out, performs-told}
 use Rattle.overlay_core.proofs.Uses.{goes-refused, goes-unwritten, goes-written, none-bytes, open-tracked, some-bytes, write-open}
 use Rattle.overlay_core.proofs.Performing.{on-err, performed-by}

@@ -1,6 +1,4 @@
 // Streams that fail, in the middle too, or are interrupted.
-use crate::checks::{holds, keys_of};
-use crate::fixtures::EMPTY;
 use ov_devices::{CountedReader, CountedWriter};
 use ov_server::{Fault, Output, hooks_by_slot, play_run, show_run};
 use ov_wire::table_of;
@@ -9,10 +7,24 @@ use std::hash::RandomState;
 use std::io;
 use std::io::{Read, Write};
 use std::process::Abort;
+use std::random::RandomSource;
+
+// An empty upper over an empty lower layer.
+const EMPTY: &str = "layer = [{}, {}]";
 
 const SCRIPT: &str = "attach\n0 stat /\n0 detach";
 
 const ANSWERS: &str = "client 0\n0 ok d 0755 0 0 0 1\n0 detached\n";
+
+// Ends the test, and tells this, unless a check came out so.
+fn holds(rt: &impl Abort, check: bool, told: &str) {
+    assert!(rt; check, "{told}");
+}
+
+// Keys for the tables of a test.
+fn keys_of<H: RandomSource + Abort>(rt: &H) -> RandomState {
+    RandomState::new(rt).expect(rt, "keys")
+}
 
 /// How a run ended: with which status, and whether by a device that failed.
 #[derive(Clone, Copy)]
