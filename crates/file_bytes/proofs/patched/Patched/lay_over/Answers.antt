@@ -8,9 +8,10 @@ returns-clause-ok c =
     let u : List ℕ = c.self.inside.under in
     let own : List ℕ = c.self.inside.own.items in
     let at : ℕ = c.self.inside.at in
+    let n : ℕ = c.args.start in
     let new : List ℕ = c.args.bytes.now in
     let within : at ≤ length u = c.self.invariant.0 in
     let view : over u at own ≡ c.args.self.now = c.self.view_is in
     ap (over u at) c.in_ok-lay_in.ensures
-    ∙ sym (laid_again u own new at c.args.start (c.args.start - at) within (omega arith) (omega (arith, c.len.ensures)))
-    ∙ ap (λ x. over x c.args.start new) view
+    ∙ sym (laid_again u own new at n (n - at) within (omega arith) (omega (arith, c.len.ensures)))
+    ∙ ap (λ x. over x n new) view
