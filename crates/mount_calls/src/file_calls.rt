@@ -16,7 +16,7 @@ ghost use Rattle.mount_calls.specs.Status.{stat_with};
 use crate::files::{bytes_in, read_at, read_into, size_of, status_in};
 use crate::mount::Mount;
 use crate::status::{status_at, status_with};
-use open_handles::{Handle, OpenFile, sought};
+use open_handles::{On, OpenFile, sought};
 use ov_base::{Attributes, Errno, ObjectKind, Reply, Stat};
 use std::alloc::AllocError;
 
@@ -74,10 +74,10 @@ impl Mount {
         if count > TRANSFER_MAX {
             return Err(Errno::EINVAL);
         }
-        match handle {
-            Handle::Directory(_) => Err(Errno::EISDIR),
-            Handle::File(file) if !file.reads => Err(Errno::EBADF),
-            Handle::File(file) => Ok(*file),
+        match &handle.on {
+            On::Directory(_) => Err(Errno::EISDIR),
+            On::File(file) if !file.reads => Err(Errno::EBADF),
+            On::File(file) => Ok(*file),
         }
     }
 
@@ -101,10 +101,12 @@ impl Mount {
     fn seek_refusal(&self, client: u64, descriptor: u32, offset: i64, whence: u8) -> Option<Errno>
         ensures { result ≡ seek_fault (opened_by self.now.clients client descriptor) offset whence }
     {
-        match self.clients.opened(client, descriptor) {
-            None => Some(Errno::EBADF),
-            Some(Handle::File(_)) => None,
-            Some(Handle::Directory(_)) => {
+        let Some(handle) = self.clients.opened(client, descriptor) else {
+            return Some(Errno::EBADF);
+        };
+        match handle.on {
+            On::File(_) => None,
+            On::Directory(_) => {
                 if offset != 0 || whence != 0 {
                     return Some(Errno::EINVAL);
                 }
@@ -141,10 +143,12 @@ impl Mount {
         ensures allowed { OnErr result ((s : State) → IsStateOf self.now s →
             refusal s client (Call.Fstat descriptor) ≡ None) }
     {
-        match self.clients.opened(client, descriptor) {
-            None => Ok(Reply::Refused(Errno::EBADF)),
-            Some(Handle::File(file)) => Ok(self.file_status(client, descriptor, *file)),
-            Some(Handle::Directory(_)) => self.directory_status(client, descriptor),
+        let Some(handle) = self.clients.opened(client, descriptor) else {
+            return Ok(Reply::Refused(Errno::EBADF));
+        };
+        match &handle.on {
+            On::File(file) => Ok(self.file_status(client, descriptor, *file)),
+            On::Directory(_) => self.directory_status(client, descriptor),
         }
     }
 

@@ -8,12 +8,11 @@ ghost use Rattle.mount_calls.specs.Status.{target_reply, content_target};
 ghost use Rattle.std.specs.Option.{option_and_then};
 ghost use Rattle.ov_base.specs.declared.call.CallOf.TheVariants as Call;
 
-use crate::clients::Clients;
 use crate::removals::free_closed;
 use crate::status::status_at;
 use dir_listing::{Cursor, names};
 use merged_lookup::{Found, Layers, Topmost};
-use open_handles::{FileSource, Handle, OpenFile};
+use open_handles::{Clients, FileSource, Handle, On, OpenFile};
 use ov_base::{Content, Errno, NameList, Path, Reply};
 use std::alloc::{AllocError, Global};
 use std::hash::RandomState;
@@ -26,7 +25,7 @@ const LIST_MAX: u32 = 256;
 #[derive(Drop)]
 pub struct Mount {
     pub(crate) layers: Layers,
-    pub(crate) clients: Clients,
+    pub clients: Clients,
     pub(crate) redirects: bool,
     pub(crate) metacopy: bool,
     pub(crate) file_limit: u64,
@@ -205,10 +204,12 @@ impl Mount {
     fn list_refusal(&self, client: u64, descriptor: u32, count: u32) -> Option<Errno>
         ensures { result ≡ list_fault (opened_by self.now.clients client descriptor) count }
     {
-        match self.clients.opened(client, descriptor) {
-            None => Some(Errno::EBADF),
-            Some(Handle::File(_)) => Some(Errno::ENOTDIR),
-            Some(Handle::Directory(_)) => {
+        let Some(handle) = self.clients.opened(client, descriptor) else {
+            return Some(Errno::EBADF);
+        };
+        match handle.on {
+            On::File(_) => Some(Errno::ENOTDIR),
+            On::Directory(_) => {
                 if count == 0 || count > LIST_MAX {
                     return Some(Errno::EINVAL);
                 }
@@ -225,8 +226,8 @@ impl Mount {
         ensures clients { KeepsAttached self.old.clients self.new.clients }
         ensures layers { self.new.layers ≡ self.old.layers }
     {
-        let directory = self.clients.directory(client, descriptor).unwrap();
-        if directory.listing.is_listed() {
+        let listing = self.clients.listing(client, descriptor).unwrap();
+        if listing.is_listed() {
             return self
                 .clients
                 .next_names(self.alloc, client, descriptor, count);
@@ -246,7 +247,6 @@ impl Mount {
     {
         match self.clients.close(client, descriptor) {
             Ok(handle) => {
-                self.clients.lawful();
                 let closed = upper_key(handle.file());
                 free_closed(&mut self.layers, &self.clients, closed);
                 Reply::Done

@@ -32,10 +32,12 @@ use crate::files::{file_at, is_marked, kept_low, marked_place};
 use crate::look::Look;
 use crate::mount::Mount;
 use copy_up::{all_at_once, fill};
+use dir_listing::Cursor;
 use layer_tree::{Inode, Node};
 use make_remove::create;
 use merged_lookup::{Layers, Stack, Topmost};
-use open_handles::FileSource;
+use notice_laws::Object;
+use open_handles::{FileSource, Handle, Hold, On};
 use ov_base::{Content, Errno, Mode, OpenFlags, Path, Place, Reply};
 use std::alloc::AllocError;
 
@@ -87,7 +89,38 @@ impl Mount {
         })
     }
 
-    /// Makes an open that was judged, by what was seen at its path: of what the path shows, or of a
+    /// Takes the memory that the handle of an open needs that was judged, and holds what it will be
+    /// on, which stands at the path, or is to be made where nothing does, and the directory of its
+    /// way. An allocation failure leaves what is held.
+    pub fn prepare_open(
+        &mut self,
+        client: u64,
+        descriptor: u32,
+        path: &Path,
+        object: Object,
+    ) -> Result<Hold, AllocError> {
+        self.clients.reserve(client, descriptor)?;
+        match object {
+            Object::Directory => self.clients.hold_here(path),
+            Object::Upper { key, last: _ } => self.clients.hold_file(path, key),
+            Object::Lower => {
+                self.clients.reserve_rise()?;
+                self.clients.hold_here(path)
+            }
+            Object::Other => {
+                self.clients.reserve_rise()?;
+                self.clients.hold_new(path)
+            }
+        }
+    }
+
+    /// Takes back an open that was prepared. It takes no memory.
+    pub fn cancel_open(&mut self, hold: &Hold) {
+        self.clients.let_go(hold);
+    }
+
+    /// Makes an open that was judged, by what was seen at its path, and for which it was prepared: of
+    /// what the path shows, or of a
     /// file that is made where it shows nothing; a symbolic link isn't followed. A file of a lower
     /// layer that is opened for writing is copied up first (overlayfs.rst, "Non-directories"), and a
     /// marked one of the upper gets bytes of its own ("Metadata only copy up").
@@ -98,6 +131,7 @@ impl Mount {
         look: &Look,
         flags: OpenFlags,
         judged: Judged,
+        hold: &Hold,
     ) -> Result<(), AllocError>
         requires attached { IsSome (get nat_cmp self.old.clients.attached client) }
         requires state { ∥ HasStateOf self.old ∥₁ }
@@ -120,14 +154,16 @@ impl Mount {
             unreachable!()
         };
         match top {
-            None => self.open_made(client, descriptor, path, flags, mode, directory),
+            None => self.open_made(client, descriptor, path, flags, mode, directory, hold),
             Some(Topmost::Inode(place)) if flags.writes && place.layer > 0 => {
-                self.open_copied(client, descriptor, path, flags, mode, directory, place)
+                self.open_copied(
+                    client, descriptor, path, flags, mode, directory, place, hold,
+                )
             }
             Some(Topmost::Inode(place)) if flags.writes && is_marked(&self.layers, place.key) => {
-                self.open_filled(client, descriptor, path, flags, mode, place)
+                self.open_filled(client, descriptor, path, flags, mode, place, hold)
             }
-            Some(top) => self.open_shown(client, descriptor, path, flags, mode, top),
+            Some(top) => self.open_shown(client, descriptor, path, flags, mode, top, hold),
         }
     }
 
@@ -141,6 +177,7 @@ impl Mount {
         flags: OpenFlags,
         mode: Mode,
         top: Topmost,
+        hold: &Hold,
     ) -> Result<(), AllocError>
         requires attached { IsSome (get nat_cmp self.old.clients.attached client) }
         requires free { IsLowestFree self.old.clients client descriptor }
@@ -159,15 +196,17 @@ impl Mount {
         ensures thin { StaysThin self.old.layers self.new.layers }
     {
         let Topmost::Inode(place) = top else {
-            self.clients.open(client, descriptor, path)?;
+            let on = On::Directory(Cursor::new());
+            self.clients.open(client, descriptor, Handle::new(hold, on));
             return Ok(());
         };
         let low = kept_low(&self.layers, place, flags)?;
         let file = file_at(place, flags, low);
-        self.clients.open_file(client, descriptor, file)?;
         if flags.truncate {
             resize_file(&mut self.layers, file.source, 0)?;
         }
+        self.clients
+            .open(client, descriptor, Handle::new(hold, On::File(file)));
         Ok(())
     }
 
@@ -181,6 +220,7 @@ impl Mount {
         mode: Mode,
         directory: &Stack,
         place: Place,
+        hold: &Hold,
     ) -> Result<(), AllocError>
         requires attached { IsSome (get nat_cmp self.old.clients.attached client) }
         requires free { IsLowestFree self.old.clients client descriptor }
@@ -199,14 +239,13 @@ impl Mount {
         ensures lowers { self.new.layers.lowers ≡ self.old.layers.lowers }
         ensures thin { StaysThin self.old.layers self.new.layers }
     {
-        self.clients.reserve_file(client, descriptor)?;
-        self.clients.lawful();
         let key = bring_up(&mut self.layers, path, directory, place)?;
         let file = file_at(Place { layer: 0, key }, flags, None);
         if flags.truncate {
             resize_file(&mut self.layers, file.source, 0)?;
         }
-        self.clients.open_reserved(client, descriptor, file);
+        self.clients
+            .open(client, descriptor, Handle::new(hold, On::File(file)));
         Ok(())
     }
 
@@ -219,6 +258,7 @@ impl Mount {
         flags: OpenFlags,
         mode: Mode,
         place: Place,
+        hold: &Hold,
     ) -> Result<(), AllocError>
         requires attached { IsSome (get nat_cmp self.old.clients.attached client) }
         requires free { IsLowestFree self.old.clients client descriptor }
@@ -238,13 +278,10 @@ impl Mount {
         ensures thin { StaysThin self.old.layers self.new.layers }
     {
         let key = place.key;
-        self.clients.reserve_file(client, descriptor)?;
-        if !self.clients.is_countable(key) {
-            return Err(AllocError);
-        }
         give_bytes(&mut self.layers, key, flags)?;
         let file = file_at(Place { layer: 0, key }, flags, None);
-        self.clients.open_reserved(client, descriptor, file);
+        self.clients
+            .open(client, descriptor, Handle::new(hold, On::File(file)));
         Ok(())
     }
 
@@ -257,6 +294,7 @@ impl Mount {
         flags: OpenFlags,
         mode: Mode,
         directory: &Stack,
+        hold: &Hold,
     ) -> Result<(), AllocError>
         requires attached { IsSome (get nat_cmp self.old.clients.attached client) }
         requires free { IsLowestFree self.old.clients client descriptor }
@@ -273,11 +311,10 @@ impl Mount {
         ensures lowers { self.new.layers.lowers ≡ self.old.layers.lowers }
         ensures thin { StaysThin self.old.layers self.new.layers }
     {
-        self.clients.reserve_file(client, descriptor)?;
-        self.clients.lawful();
         let key = create(self.alloc, &mut self.layers, directory, path, mode)?;
         let file = file_at(Place { layer: 0, key }, flags, None);
-        self.clients.open_reserved(client, descriptor, file);
+        self.clients
+            .open(client, descriptor, Handle::new(hold, On::File(file)));
         Ok(())
     }
 }

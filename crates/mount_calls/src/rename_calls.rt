@@ -33,6 +33,7 @@ use crate::look::Look;
 use crate::mount::Mount;
 use crate::removals::rename_and_free;
 use merged_lookup::Topmost;
+use notice_laws::{Course, Object};
 use ov_base::{Attributes, Errno, Path, Reply};
 use rename_redirect::{JudgedRename, movable};
 use std::alloc::AllocError;
@@ -70,8 +71,8 @@ impl Mount {
         )
     }
 
-    /// Moves what was judged to move to its new path, which was looked at, with what is open there.
-    /// Returns the key under which the upper has the file that moved, 0 for a directory. An
+    /// Moves what was judged to move to its new path, which was looked at, and the directories with
+    /// all that is held below, for which it was prepared. Returns the key under which the upper has the file that moved, 0 for a directory. An
     /// allocation failure leaves all that is shown as it was.
     pub fn rename_moving(
         &mut self,
@@ -79,6 +80,7 @@ impl Mount {
         new: &Path,
         onto: &Look,
         moving: JudgedRename<'_>,
+        course: &Course,
     ) -> Result<usize, AllocError>
         requires state { ∥ HasStateOf self.old ∥₁ }
         requires onto { IsLook self.old.layers new.now onto.now }
@@ -91,10 +93,8 @@ impl Mount {
         ensures settled { IsSettled self.old.clients.directories →
             IsSettled self.new.clients.directories }
     {
-        let replaced = self.attributes_seen(new, onto)?;
-        self.clients.prepare_rename(old, new)?;
-        self.clients.lawful();
-        match rename_and_free(
+        let replaced = self.attributes_seen(onto, course.replaced)?;
+        let key = rename_and_free(
             self.alloc,
             &mut self.layers,
             &self.clients,
@@ -102,30 +102,26 @@ impl Mount {
             new,
             self.metacopy,
             moving,
-        ) {
-            Ok(key) => {
-                self.clients.rename(old, new, replaced);
-                Ok(key)
-            }
-            Err(fault) => {
-                self.clients.cancel_rename();
-                Err(fault)
-            }
+            course.replaced,
+        )?;
+        if let Object::Directory = course.object {
+            self.clients.rename(old, new, replaced);
         }
+        Ok(key)
     }
 
-    // A copy of the attributes of the directory that was seen at a path, where it is open, for the
-    // handles that hold it once it is replaced or removed.
+    // A copy of the attributes of the directory that was seen at a path, where it is held under a
+    // number, for the handles on it once it is replaced or removed.
     pub(crate) fn attributes_seen(
         &self,
-        path: &Path,
         look: &Look,
+        number: Option<usize>,
     ) -> Result<Option<Attributes>, AllocError>
         requires { IsLook self.now.layers path.now look.now }
         ensures left { IfOk result (λ left. IfSome left (HasAttributes (layers_of self.now.layers) path.now)) }
         ensures none { IfOk result (λ left. IfNone left (rmdir_fault (layers_of self.now.layers) path.now false ≡ None → IsOpenNowhere self.now.clients path.now)) }
     {
-        if !self.clients.is_open_at(path) {
+        if number.is_none() {
             return Ok(None);
         }
         let place = match look.topmost() {

@@ -12,20 +12,20 @@ ghost use Rattle.notice_laws.specs.Opens.{AreFewer};
 ghost use Rattle.notifier.specs.Notifying.{IsAsBefore};
 
 use crate::kept::Notifier;
-use object_table::ObjectTable;
+use open_handles::Clients;
 use ov_base::{Errno, Notices};
 use std::alloc::{AllocError, Global};
 use watch_table::{Callback, HOOKS_MAX, Hook, NotAttached, Rule, Watch};
 
 // Lets go what watches held that ended: each one its object.
-fn release_each(objects: &mut ObjectTable, ended: &[Watch])
+fn release_each(clients: &mut Clients, ended: &[Watch])
     requires apart { IsDistinct same_id (map (λ w. w.node) ended.now) }
     requires held { (n : ℕ) → is_on n ended.now ≡ true → 0 < holders_of objects.old n }
     ensures held { (n : ℕ) → holders_of objects.new n + cond (is_on n ended.now) 1 0 ≡ holders_of objects.old n }
     ensures fewer { AreFewer objects.old objects.new }
 {
     for watch in ended {
-        objects.release(watch.object(), 1);
+        clients.release(watch.object() as usize, 1);
     }
 }
 
@@ -54,38 +54,18 @@ impl<F: Callback, R: Rule> Notifier<F, R> {
                 hooks,
             });
         }
-        if self.handles.attach(alloc, client).is_err() {
-            return Err(NotAttached {
-                errno: Errno::ENOMEM,
-                hooks,
-            });
-        }
-        match self.watches.attach(alloc, client, hooks) {
-            Ok(()) => Ok(()),
-            Err(fault) => {
-                self.handles.detach(client);
-                Err(fault)
-            }
-        }
+        self.watches.attach(alloc, client, hooks)
     }
 
     /// Ends the watches of a client unheard, and lets go what they held. Its hooks are handed back. It takes no memory.
-    pub fn muted(&mut self, client: u64) -> Vec<Hook<F, R>>
+    pub fn muted(&mut self, clients: &mut Clients, client: u64) -> Vec<Hook<F, R>>
         requires { IsSome (instance_of self.old.instances client) }
         ensures mutes { Mutes self.old self.new client }
         ensures hooks { IfSome (instance_of self.old.instances client) (λ e. map (λ h. h.tag) result.items ≡ e.tags) }
     {
         self.watches.lawful();
-        release_each(&mut self.objects, self.watches.watches(client));
+        release_each(clients, self.watches.watches(client));
         self.watches.detach(client)
-    }
-
-    /// Detaches a client with nothing open, whose watches were let go. It takes no memory.
-    pub fn depart(&mut self, client: u64)
-        requires { (d : ℕ) → tracked_by self.old.handles client d ≡ None }
-        ensures { Departs self.old self.new client }
-    {
-        self.handles.detach(client);
     }
 
     /// Takes out the first unread notices of a client, at most so many. An allocation failure

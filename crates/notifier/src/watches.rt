@@ -8,11 +8,22 @@ ghost use Rattle.notifier.specs.Arming.{ArmsAt, IsArmJudged, IsLeft};
 ghost use Rattle.watch_table.specs.Listening.{slot_refusal};
 
 use crate::kept::Notifier;
-use crate::opens::hold_object;
 use notice_laws::Object;
+use open_handles::Clients;
 use ov_base::{Errno, Path};
 use std::alloc::{AllocError, Global};
 use watch_table::{Aim, Callback, IGNORED, Rule, Subject};
+
+// Holds what stands at a path for one watch more, and gives its number. It fails only when out of
+// memory, or where as many hold it as can be counted, and changes nothing then.
+fn hold_object(clients: &mut Clients, path: &Path, object: Object) -> Result<usize, AllocError> {
+    match object {
+        Object::Upper { key, last: _ } => clients.hold_key(key),
+        Object::Directory => clients.hold_path(path),
+        Object::Lower => clients.hold_path(path),
+        Object::Other => unreachable!(),
+    }
+}
 
 impl<F: Callback, R: Rule> Notifier<F, R> {
     /// Whether a slot of a client has a hook, and the mask an event and no bit that no arm takes; else it is EINVAL.
@@ -34,11 +45,11 @@ impl<F: Callback, R: Rule> Notifier<F, R> {
     /// Why what stands at a path isn't armed for a client through a slot. A slot that is armed on
     /// another object, or an object that is armed through another slot, is EBUSY; a new watch where
     /// all numbers were given is ENOSPC.
-    pub fn arm_refusal(&self, client: u64, slot: u32, path: &Path, object: Object) -> Option<Errno>
+    pub fn arm_refusal(&self, client: u64, slot: u32, number: Option<usize>) -> Option<Errno>
         requires { IsSome (instance_of self.now.instances client) }
         ensures { IsArmJudged self.now client slot path.now object result }
     {
-        let number = self.number_of(path, object);
+        let number = number.map(|number| number as u64);
         self.watches.arm_refusal(client, slot, number)
     }
 
@@ -48,6 +59,7 @@ impl<F: Callback, R: Rule> Notifier<F, R> {
     /// watched.
     pub fn armed(
         &mut self,
+        clients: &mut Clients,
         alloc: Global,
         client: u64,
         slot: u32,
@@ -63,20 +75,19 @@ impl<F: Callback, R: Rule> Notifier<F, R> {
         ensures fits { IfOk result (λ n. n < 2 ^ 31) }
         ensures err { OnErr result (IsLeft self.old self.new) }
     {
-        self.lawful();
-        self.objects.lawful();
         self.watches.lawful();
-        let number = hold_object(&mut self.objects, path, object)?;
-        let before = self.watches.watchers(number);
-        let outcome = self.watches.arm(alloc, client, slot, number, mask);
-        let more = self.watches.watchers(number) - before;
-        self.objects.release(number, 1 - more);
+        let number = hold_object(clients, path, object)?;
+        let watched = number as u64;
+        let before = self.watches.watchers(watched);
+        let outcome = self.watches.arm(alloc, client, slot, watched, mask);
+        let more = self.watches.watchers(watched) - before;
+        clients.release(number, 1 - more);
         outcome
     }
 
     /// Takes a watch of a client away, which is notified of it, and lets go what it held. It takes
     /// no memory.
-    pub fn disarmed(&mut self, client: u64, watch: i32)
+    pub fn disarmed(&mut self, clients: &mut Clients, client: u64, watch: i32)
         requires { list_any (is_numbered watch) (watches_of (instance_of self.old.instances client)) ≡ true }
         ensures { Disarmed R.shows self.old self.new client watch }
     {
@@ -91,7 +102,7 @@ impl<F: Callback, R: Rule> Notifier<F, R> {
             };
             self.watches.fire(&[subject]);
             let ended = before - self.watches.watchers(object);
-            self.objects.release(object, ended);
+            clients.release(object as usize, ended);
         }
     }
 }

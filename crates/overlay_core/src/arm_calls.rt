@@ -103,12 +103,16 @@ impl<F: Callback, R: Rule> Watched<F, R> {
             Ok(object) => object,
             Err(errno) => return Ok(Reply::Refused(errno)),
         };
-        if let Some(errno) = self.notifier.arm_refusal(client, slot, path, object) {
+        let number = self.mount.number_of(path, object);
+        if let Some(errno) = self.notifier.arm_refusal(client, slot, number) {
             return Ok(Reply::Refused(errno));
         }
         let alloc = self.mount.alloc();
-        let armed = self.notifier.armed(alloc, client, slot, path, object, mask);
-        self.notifier.lawful();
+        let clients = &mut self.mount.clients;
+        let armed = self
+            .notifier
+            .armed(clients, alloc, client, slot, path, object, mask);
+        self.mount.clients.lawful();
         let number = armed?;
         Ok(Reply::Watch(number as i32))
     }

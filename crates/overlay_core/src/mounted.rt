@@ -31,7 +31,7 @@ use crate::waiting::Waiting;
 use crate::watched::Watched;
 use layer_tree::Layer;
 use merged_lookup::Layers;
-use mount_calls::CLIENTS_MAX;
+use open_handles::CLIENTS_MAX;
 use ov_base::{Call, Errno, Options};
 use std::alloc::Global;
 use std::hash::RandomState;

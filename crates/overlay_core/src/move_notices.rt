@@ -34,21 +34,20 @@ impl<F: Callback, R: Rule> Watched<F, R> {
             moving }
         ensures { Performs R.shows client (Call.Rename old.now new.now) self.old self.new result }
     {
+        self.notifier.may_move()?;
         let object = self.mount.object_seen(from);
-        let replaced = self.mount.object_seen(onto);
-        self.notifier.lawful();
-        let prepared = self.notifier.prepare_move(old, new, object);
-        self.notifier.lawful();
-        prepared?;
-        match self.mount.rename_moving(old, new, onto, moving) {
+        let over = self.mount.object_seen(onto);
+        let course = self.mount.prepare_move(old, new, object, over)?;
+        match self.mount.rename_moving(old, new, onto, moving, &course) {
             Ok(key) => {
-                self.notifier.moved(old, new, object, replaced, key);
-                self.notifier.lawful();
+                self.mount.moved(&course, key);
+                self.notifier.moved(&mut self.mount.clients, &course);
+                self.mount.clients.lawful();
                 Ok(Reply::Done)
             }
             Err(fault) => {
-                self.notifier.cancel_move();
-                self.notifier.lawful();
+                self.mount.cancel_move(&course);
+                self.mount.clients.lawful();
                 Err(fault)
             }
         }

@@ -13,11 +13,28 @@ ghost use Rattle.overlay_core.specs.Watching.{Goes, HasState, Keeps, Stays};
 use crate::watched::Watched;
 use mount_calls::{Judged, Look};
 use notice_laws::Object;
+use open_handles::Hold;
 use ov_base::{OpenFlags, Path, Reply};
 use std::alloc::AllocError;
 use watch_table::{Callback, Rule};
 
 impl<F: Callback, R: Rule> Watched<F, R> {
+    // Notes what became of a file of a lower layer that was opened: for writing it is in the upper
+    // now, under the key that the handle has.
+    fn lift_for(
+        &mut self,
+        writes: bool,
+        client: u64,
+        descriptor: u32,
+        hold: &Hold,
+        object: Object,
+    ) {
+        if writes {
+            let key = self.mount.key_opened(client, descriptor);
+            self.mount.lift(Some(hold.object), object, key);
+        }
+    }
+
     // Opens what stands at a path, as it was judged, and notifies its directory and the object.
     fn open_there(
         &mut self,
@@ -39,20 +56,21 @@ impl<F: Callback, R: Rule> Watched<F, R> {
         ensures kept { Keeps (Call.Open path.now flags judged.mode) self.old.mount self.new.mount }
     {
         let descriptor = judged.descriptor;
-        self.notifier.lawful();
-        let prepared = self.notifier.prepare_open(client, descriptor, path, object);
-        self.notifier.lawful();
-        prepared?;
-        match self.mount.open_judged(client, path, look, flags, judged) {
+        let hold = self.mount.prepare_open(client, descriptor, path, object)?;
+        match self
+            .mount
+            .open_judged(client, path, look, flags, judged, &hold)
+        {
             Ok(()) => {
-                let key = self.mount.key_opened(client, descriptor);
-                self.notifier.opened(client, descriptor, object, key, flags);
-                self.notifier.lawful();
+                self.lift_for(flags.writes, client, descriptor, &hold, object);
+                self.notifier
+                    .opened(&mut self.mount.clients, &hold, object, flags.truncate);
+                self.mount.clients.lawful();
                 Ok(())
             }
             Err(fault) => {
-                self.notifier.cancel_open(client, descriptor);
-                self.notifier.lawful();
+                self.mount.cancel_open(&hold);
+                self.mount.clients.lawful();
                 Err(fault)
             }
         }
@@ -78,20 +96,23 @@ impl<F: Callback, R: Rule> Watched<F, R> {
         ensures kept { Keeps (Call.Open path.now flags judged.mode) self.old.mount self.new.mount }
     {
         let descriptor = judged.descriptor;
-        self.notifier.lawful();
-        let prepared = self.notifier.prepare_new(client, descriptor, path);
-        self.notifier.lawful();
-        prepared?;
-        match self.mount.open_judged(client, path, look, flags, judged) {
+        let hold = self
+            .mount
+            .prepare_open(client, descriptor, path, Object::Other)?;
+        match self
+            .mount
+            .open_judged(client, path, look, flags, judged, &hold)
+        {
             Ok(()) => {
                 let key = self.mount.key_opened(client, descriptor);
-                self.notifier.opened_new(client, descriptor, key);
-                self.notifier.lawful();
+                self.mount.lift_new(hold.object, key);
+                self.notifier.opened_new(&mut self.mount.clients, &hold);
+                self.mount.clients.lawful();
                 Ok(())
             }
             Err(fault) => {
-                self.notifier.cancel_open(client, descriptor);
-                self.notifier.lawful();
+                self.mount.cancel_open(&hold);
+                self.mount.clients.lawful();
                 Err(fault)
             }
         }

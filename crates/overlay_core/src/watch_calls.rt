@@ -27,8 +27,9 @@ impl<F: Callback, R: Rule> Watched<F, R> {
         if !self.notifier.has_watch(client, watch) {
             return Reply::Refused(Errno::EINVAL);
         }
-        self.notifier.disarmed(client, watch);
-        self.notifier.lawful();
+        self.notifier
+            .disarmed(&mut self.mount.clients, client, watch);
+        self.mount.clients.lawful();
         Reply::Done
     }
 
