@@ -5,7 +5,7 @@ ghost use Rattle.std.specs.Arc.{arc_value};
 ghost use Rattle.file_bytes.specs.Bytes.{over, sized, written};
 
 use crate::grid::CHUNK;
-use crate::held::copy_in;
+use crate::laying::copy_in;
 use crate::stored;
 use crate::stored::{SMALL, Stored};
 use crate::stretch::Stretch;

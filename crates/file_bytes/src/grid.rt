@@ -27,7 +27,7 @@ pub fn len_of(pieces: &[Piece]) -> usize
     last * CHUNK + pieces[last].len()
 }
 
-/// The bytes of pieces from a place on, as far as its piece has them.
+/// The bytes of pieces from a place on, as far as they lie one after another.
 pub fn slice_at(pieces: &[Piece], at: usize) -> &[u8]
     requires grid { IsGrid 65536 pieces.now }
     requires within { at < length (concat pieces.now) }
@@ -36,8 +36,7 @@ pub fn slice_at(pieces: &[Piece], at: usize) -> &[u8]
 {
     let place = at / CHUNK;
     let from = at % CHUNK;
-    let (_, rest) = pieces[place].as_slice().split_at(from);
-    rest
+    pieces[place].slice_at(from)
 }
 
 /// The same bytes for another owner.

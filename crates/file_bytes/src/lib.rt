@@ -4,6 +4,8 @@
 mod file;
 mod grid;
 mod held;
+mod laying;
+mod patched;
 mod piece;
 mod stored;
 mod stretch;

@@ -1,9 +1,9 @@
 // A piece of a file's bytes.
 ghost use Rattle.std.specs.Prelude.{◌≡◌, ◌+◌, ◌^◌, ◌<◌, ◌≤◌, ◌++◌, IfOk, is_ok, if◌then◌else◌};
-ghost use Rattle.std.specs.Prelude.{length, replicate, take};
+ghost use Rattle.std.specs.Prelude.{drop, length, replicate, take};
 ghost use Rattle.file_bytes.specs.Bytes.{over};
 
-use crate::held::{Held, cut, fill, laid, lay_over, settle, share_of, slice_of};
+use crate::held::{Held, cut, fill, laid_of, lay_over, len_of, settle, share_of, slice_at};
 use crate::stretch::Stretch;
 use std::alloc::{AllocError, Global};
 use std::marker::Model;
@@ -46,14 +46,16 @@ impl Piece {
     pub fn len(&self) -> usize
         ensures { result ≡ length self.now }
     {
-        slice_of(&self.held).len()
+        len_of(&self.held)
     }
 
-    /// Its bytes.
-    pub fn as_slice(&self) -> &[u8]
-        ensures { result.now ≡ self.now }
+    /// Its bytes from a place on, as far as they lie one after another.
+    pub fn slice_at(&self, at: usize) -> &[u8]
+        requires { at < length self.now }
+        ensures some { 0 < length result.now }
+        ensures bytes { result.now ≡ take (length result.now) (drop at self.now) }
     {
-        slice_of(&self.held)
+        slice_at(&self.held, at)
     }
 
     /// The same bytes for another owner: those that are its own are copied.
@@ -78,12 +80,12 @@ impl Piece {
         requires end { start + length bytes.now < 2 ^ 64 }
         ensures { IfOk result (λ p. p ≡ over self.now start bytes.now) }
     {
-        let copy = laid(alloc, self.as_slice(), start, bytes)?;
-        Ok(Piece::own(copy))
+        let held = laid_of(alloc, &self.held, start, bytes)?;
+        Ok(Piece { held })
     }
 
-    /// Lays bytes over these from a place on; bytes that others share are copied before. It fails
-    /// only when out of memory, and changes nothing then.
+    /// Lays bytes over these from a place on; what others share stays as it is. It fails only when
+    /// out of memory, and changes nothing then.
     pub fn lay_over(&mut self, alloc: Global, start: usize, bytes: &[u8]) -> Result<(), AllocError>
         requires start { start ≤ length self.old }
         requires end { start + length bytes.now < 2 ^ 64 }

@@ -8,7 +8,8 @@ ghost use Rattle.file_bytes.specs.Stored.{stored_bytes, IsStored, IsInPieces};
 
 use crate::grid;
 use crate::grid::CHUNK;
-use crate::held::{lay_in, lent_of};
+use crate::held::lent_of;
+use crate::laying::lay_in;
 use crate::piece::Piece;
 use crate::stretch::Stretch;
 use std::alloc::{AllocError, Global};

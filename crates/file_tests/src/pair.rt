@@ -13,6 +13,8 @@ pub const MOST: usize = 250_000;
 pub struct Pair {
     pub file: FileBytes,
     pub plain: Vec<u8>,
+    /// Where the last write ended.
+    pub end: usize,
 }
 
 impl Pair {
@@ -20,7 +22,11 @@ impl Pair {
     pub fn of(rt: &impl Abort, alloc: Global, plain: Vec<u8>) -> Pair {
         let bytes = plain.clone().expect(rt, "memory");
         let file = FileBytes::from_vec(alloc, bytes).expect(rt, "memory");
-        Pair { file, plain }
+        Pair {
+            file,
+            plain,
+            end: 0,
+        }
     }
 
     /// A copy of both.
@@ -28,16 +34,18 @@ impl Pair {
         Pair {
             file: self.file.clone().expect(rt, "memory"),
             plain: self.plain.clone().expect(rt, "memory"),
+            end: self.end,
         }
     }
 
     /// One change of both.
     pub fn change(&mut self, rt: &impl Abort, alloc: Global, dice: &mut Pcg32) {
         let len = self.plain.len();
-        match below(dice, 4) {
+        match below(dice, 5) {
             0 => self.write(rt, alloc, dice, MOST, 65_537),
             1 => self.write(rt, alloc, dice, len, 5_000),
-            2 => {
+            2 => self.write_on(rt, alloc, dice),
+            3 => {
                 let size = below(dice, MOST);
                 self.resize(rt, size);
             }
@@ -63,6 +71,15 @@ impl Pair {
         self.lay(rt, start, &bytes);
     }
 
+    // A write of a few bytes about where the last one ended.
+    fn write_on(&mut self, rt: &impl Abort, alloc: Global, dice: &mut Pcg32) {
+        let back = below(dice, 100);
+        let count = below(dice, 5_000);
+        let bytes = some_bytes(rt, alloc, dice, count);
+        let start = self.end.min(self.plain.len()).saturating_sub(back);
+        self.lay(rt, start.min(MOST), &bytes);
+    }
+
     fn resize(&mut self, rt: &impl Abort, size: usize) {
         self.file.resize(size).expect(rt, "memory");
         self.plain.resize(size, 0).expect(rt, "memory");
@@ -80,6 +97,7 @@ impl Pair {
         assert!(rt; bytes.len() <= MOST);
         self.file.lay_over(start, bytes).expect(rt, "memory");
         lay_plainly(rt, &mut self.plain, start, bytes);
+        self.end = start + bytes.len();
     }
 
     /// Whether both have the same bytes, where the file is read so many at a time.

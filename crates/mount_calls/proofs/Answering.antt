@@ -16,9 +16,9 @@ use Rattle.mount_laws.proofs.Removed.{law_of_list_removed}
 use Rattle.object_table.specs.declared.dentry.Unlisted.TheVariants as unlisted
 use Rattle.object_table.specs.Opened.{path_in}
 use Rattle.open_handles.specs.declared.handle.Handle as handles
-use Rattle.mount_calls.specs.declared.clients.Clients.{Clients}
+use Rattle.open_handles.specs.declared.clients.Clients.{Clients}
 use Rattle.mount_calls.specs.declared.mount.Mount.{Mount}
-use Rattle.mount_calls.specs.Attaching.{opened_by, path_of, ChangesClient}
+use Rattle.open_handles.specs.Attaching.{opened_by, path_of, ChangesClient}
 use Rattle.mount_calls.specs.Opening.{list_fault}
 use Rattle.mount_calls.specs.Status.{stat_at, stat_shown, unless_refused}
 use Rattle.mount_calls.specs.States.{IsLeft, Stands, IsHandle, IsStateOf, StaysState, Serves, AreNamesIn, AreLeft, Pages}

@@ -8,9 +8,9 @@ use Rattle.plain_model.proofs.OwnBytes.{OwnsAlso, law_of_own}
 use Rattle.mount_laws.proofs.Handles.{held-by}
 use Rattle.copy_up.proofs.Keeping.{lowers-same}
 use Rattle.open_handles.specs.declared.handle.Handle as handles
-use Rattle.mount_calls.specs.declared.clients.Clients.{Clients}
+use Rattle.open_handles.specs.declared.clients.Clients.{Clients}
 use Rattle.mount_calls.specs.declared.mount.Mount.{Mount}
-use Rattle.mount_calls.specs.Attaching.{opened_by}
+use Rattle.open_handles.specs.Attaching.{opened_by}
 use Rattle.mount_calls.specs.Files.{is_leaf, IsFile, HasFile}
 use Rattle.mount_calls.specs.Living.{StaysLive, KeepsLive, KeepsHeldFrom}
 use Rattle.mount_calls.specs.States.{IsHandle, IsOpenAs, IsSlot, AreTables, IsStateOf}

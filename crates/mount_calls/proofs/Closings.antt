@@ -18,9 +18,9 @@ use Rattle.mount_laws.proofs.Descriptors.{law_of_handle_close}
 use Rattle.mount_laws.proofs.Removed.{law_of_close_removed}
 use Rattle.open_handles.specs.declared.handle.Handle as handles
 use Rattle.open_handles.specs.Listings.{Closes, file_in}
-use Rattle.mount_calls.specs.declared.clients.Clients.{Clients}
+use Rattle.open_handles.specs.declared.clients.Clients.{Clients}
 use Rattle.mount_calls.specs.declared.mount.Mount.{Mount}
-use Rattle.mount_calls.specs.Attaching.{opened_by, file_by, ChangesClient}
+use Rattle.open_handles.specs.Attaching.{opened_by, file_by, ChangesClient}
 use Rattle.mount_calls.specs.Files.{is_leaf, AreOne, HasFile, key_in_upper}
 use Rattle.mount_calls.specs.Living.{StaysHeld, KeepsPaths, FreesClosed}
 use Rattle.mount_calls.specs.States.{IsOpenAs, AreTables, IsStateOf, Serves}

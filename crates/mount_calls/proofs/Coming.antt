@@ -11,10 +11,10 @@ use Rattle.plain_model.specs.Machine.{free_table, opening}
 use Rattle.plain_model.specs.Merging.{IsMerge}
 use Rattle.plain_model.specs.Runs.{joined, is_attached}
 use Rattle.mount_laws.proofs.Looks.{law_of_beginning}
-use Rattle.mount_calls.specs.declared.clients.Clients.{Clients}
+use Rattle.open_handles.specs.declared.clients.Clients.{Clients}
 use Rattle.open_handles.specs.declared.handle.Handle as handles
 use Rattle.mount_calls.specs.declared.mount.Mount.{Mount}
-use Rattle.mount_calls.specs.Attaching.{Attaches, IsSame, KeepsAttached, KeepsPlaces, TakesBack, opened_by}
+use Rattle.open_handles.specs.Attaching.{Attaches, IsSame, KeepsAttached, KeepsPlaces, TakesBack, opened_by}
 use Rattle.open_handles.specs.Descriptors.{opened}
 use Rattle.mount_calls.specs.Files.{AreOne}
 use Rattle.mount_calls.specs.States.{IsOpenAs, AreTables, IsStateOf}

@@ -34,9 +34,9 @@ use Rattle.copy_up.specs.Showing.{ChangesNoSight, GainsParents}
 use Rattle.copy_up.proofs.Copying.{free-inode}
 use Rattle.copy_up.proofs.Keeping.{lowers-same}
 use Rattle.copy_up.proofs.Raising.{inode-raised}
-use Rattle.mount_calls.specs.declared.clients.Clients.{Clients}
+use Rattle.open_handles.specs.declared.clients.Clients.{Clients}
 use Rattle.mount_calls.specs.declared.mount.Mount.{Mount}
-use Rattle.mount_calls.specs.Attaching.{ChangesClient}
+use Rattle.open_handles.specs.Attaching.{ChangesClient}
 use Rattle.mount_calls.specs.Files.{file_at}
 use Rattle.mount_calls.specs.Keeping.{BringsNone}
 use Rattle.mount_calls.specs.Living.{KeepsFiles, SetsFile}

@@ -15,9 +15,9 @@ use Rattle.mount_laws.proofs.Descriptors.{law_of_read, law_of_directory_handle, 
 use Rattle.open_handles.specs.declared.handle.Handle as handles
 use Rattle.object_table.specs.declared.dentry.Unlisted.TheVariants as unlisted
 use Rattle.object_table.specs.Opened.{path_in, attributes_in}
-use Rattle.mount_calls.specs.declared.clients.Clients.{Clients}
+use Rattle.open_handles.specs.declared.clients.Clients.{Clients}
 use Rattle.mount_calls.specs.declared.mount.Mount.{Mount}
-use Rattle.mount_calls.specs.Attaching.{opened_by, directory_by, file_by, located, path_of, ChangesClient}
+use Rattle.open_handles.specs.Attaching.{opened_by, directory_by, file_by, located, path_of, ChangesClient}
 use Rattle.mount_calls.specs.Files.{seen_inode}
 use Rattle.mount_calls.specs.Opening.{read_fault}
 use Rattle.mount_calls.specs.Status.{stat_with, stat_of_inode, stat_at, stat_shown, unless_refused}

@@ -22,9 +22,9 @@ use Rattle.mount_laws.proofs.Filling.{law_of_changed_file}
 use Rattle.mount_laws.proofs.OpenFiles.{law_of_live_one, law_of_live_shown}
 use Rattle.mount_laws.proofs.Opening.{law_of_opened_for_writing}
 use Rattle.copy_up.proofs.Keeping.{lowers-same}
-use Rattle.mount_calls.specs.declared.clients.Clients.{Clients}
+use Rattle.open_handles.specs.declared.clients.Clients.{Clients}
 use Rattle.mount_calls.specs.declared.mount.Mount.{Mount}
-use Rattle.mount_calls.specs.Attaching.{ChangesClient}
+use Rattle.open_handles.specs.Attaching.{ChangesClient}
 use Rattle.mount_calls.specs.Files.{is_leaf, file_at}
 use Rattle.mount_calls.specs.Living.{KeepsFiles, NamesFile}
 use Rattle.mount_calls.specs.Opening.{OpensFile}

@@ -6,16 +6,16 @@ use Rattle.std.specs.Result.{IsErr}
 use Rattle.open_handles.specs.declared.handle.Handle as handles
 use Rattle.open_handles.specs.Descriptors.{opened}
 use Rattle.open_handles.specs.Listings.{after_names}
-use Rattle.mount_calls.specs.Attaching.{opened_by, KeepsPlaces, ChangesClient}
+use Rattle.open_handles.specs.Attaching.{opened_by, KeepsPlaces, ChangesClient}
 use Rattle.open_handles.specs.Holding.{holds, handles_on, is_upper, holds_file, files_on}
 use Rattle.open_handles.specs.FileHolders.{HeldFiles, SameCounts}
 use Rattle.object_table.specs.Opened as places
 use Rattle.object_table.specs.Opened.{holders, SameHandles}
 use Rattle.open_handles.proofs.Holding.{handles_on-alike, handles_on-sets, handles_on-closes, files_on-alike, files_on-sets, files_on-closes}
-use Rattle.mount_calls.specs.declared.clients.Clients.{Clients}
+use Rattle.open_handles.specs.declared.clients.Clients.{Clients}
 use Rattle.mount_calls.specs.Held.{handles_by, handles_below, files_by, files_below, ClosesAll, ReleasesAll}
 use Rattle.mount_calls.specs.Opening.{OpensAt, OpensFile}
-use Rattle.mount_calls.specs.FreeDescriptors.{IsLowestFree}
+use Rattle.open_handles.specs.FreeDescriptors.{IsLowestFree}
 use Rattle.mount_calls.proofs.Serving.{lowest-slot}
 use Rattle.mount_calls.proofs.Counting.{below-same, below-changes, below-one, below-some, has-client}
 

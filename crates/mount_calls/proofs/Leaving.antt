@@ -3,9 +3,9 @@ use Rattle.std.proofs.Common.{arith, ◌≡◌, ◌≢◌, ℕ, false, not, List
 use Rattle.merged_lookup.specs.Merged.{upper_of}
 use Rattle.mount_calls.proofs.Words.{handles_of, Layer, list_any, lowers_of, State, Table, Tree}
 use Rattle.plain_model.specs.Runs.{without_table}
-use Rattle.mount_calls.specs.declared.clients.Clients.{Clients}
+use Rattle.open_handles.specs.declared.clients.Clients.{Clients}
 use Rattle.mount_calls.specs.declared.mount.Mount.{Mount}
-use Rattle.mount_calls.specs.Attaching.{Detaches, KeepsPlaces}
+use Rattle.open_handles.specs.Attaching.{Detaches, KeepsPlaces}
 use Rattle.mount_calls.specs.States.{IsOpenAs, AreTables, IsStateOf}
 use Rattle.mount_calls.proofs.Coming.{of, open_in, fewer-but, tables-but}
 use Rattle.mount_calls.proofs.Serving.{one-fewer}

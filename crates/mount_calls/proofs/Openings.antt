@@ -25,13 +25,13 @@ use Rattle.mount_laws.proofs.Opening.{law_of_open_refusal, law_of_opened_for_rea
 use Rattle.mount_laws.proofs.OpenFiles.{law_of_live_one, law_of_live_shown}
 use Rattle.open_handles.specs.declared.handle.Handle as handles
 use Rattle.open_handles.specs.Listings.{Opens}
-use Rattle.mount_calls.specs.declared.clients.Clients.{Clients}
+use Rattle.open_handles.specs.declared.clients.Clients.{Clients}
 use Rattle.mount_calls.specs.declared.mount.Mount.{Mount}
 use Rattle.std.specs.BTreeMap.{get}
 use Rattle.std.specs.Ordering.{nat_cmp}
 use Rattle.notice_laws.proofs.Numbers.{some-is}
-use Rattle.mount_calls.specs.Attaching.{ChangesClient}
-use Rattle.mount_calls.specs.FreeDescriptors.{IsFull, IsLowestFree}
+use Rattle.open_handles.specs.Attaching.{ChangesClient}
+use Rattle.open_handles.specs.FreeDescriptors.{IsFull, IsLowestFree}
 use Rattle.mount_calls.specs.Files.{is_leaf, read_mark, IsFrozen, IsKept, KeepsBytes, IsOf, IsOpenOn, AreOne, SeesFile, source_at, file_at}
 use Rattle.mount_calls.specs.Opening.{inode_refusal, OpensAt, OpensFile}
 use Rattle.mount_calls.specs.States.{IsLeft, AreTables, IsStateOf, Serves}

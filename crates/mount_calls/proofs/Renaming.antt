@@ -19,7 +19,7 @@ use Rattle.mount_laws.specs.Renaming.{is_one, move_fault, rename_fault, Renames,
 use Rattle.mount_laws.proofs.Renaming.{law_of_rename, law_of_same_rename, told}
 use Rattle.object_table.specs.Opened as places
 use Rattle.object_table.specs.Opened.{NoneBelow}
-use Rattle.mount_calls.specs.declared.clients.Clients.{Clients}
+use Rattle.open_handles.specs.declared.clients.Clients.{Clients}
 use Rattle.mount_calls.specs.declared.mount.Mount.{Mount}
 use Rattle.mount_calls.specs.Living.{KeepsNamed, StaysLive}
 use Rattle.mount_calls.specs.Removing.{HasAttributes, IsOpenNowhere}

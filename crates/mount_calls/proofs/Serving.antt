@@ -5,13 +5,13 @@ use Rattle.std.proofs.lemmas.Bool.{lt-ltb, le-ltb}
 use Rattle.std.proofs.lemmas.Option.{slice_get_within}
 use Rattle.std.specs.List.{position, position_or_len}
 use Rattle.std.specs.BTreeMap.{get}
-use Rattle.mount_calls.specs.declared.clients.Clients.{Clients}
+use Rattle.open_handles.specs.declared.clients.Clients.{Clients}
 use Rattle.object_table.specs.Opened as places
 use Rattle.open_handles.specs.declared.handle.Handle as handles
-use Rattle.mount_calls.specs.Attaching.{KeepsAttached, KeepsPlaces, opened_by, ChangesClient}
+use Rattle.open_handles.specs.Attaching.{KeepsAttached, KeepsPlaces, opened_by, ChangesClient}
 use Rattle.open_handles.specs.Descriptors.{opened, IsFull, IsLowestFree}
 use Rattle.mount_calls.specs.Files.{IsOpenOn, AreOne}
-use Rattle.mount_calls.specs.FreeDescriptors as client
+use Rattle.open_handles.specs.FreeDescriptors as client
 use Rattle.mount_calls.specs.States.{Stands, IsHandle, IsOpenAs, IsSlot, AreTables}
 
 -- one element of a list after it is set, and the others

@@ -3,9 +3,9 @@ use Rattle.std.proofs.Common.{◌≡◌, ℕ, ◌<◌, true, List, Option, None,
 use Rattle.mount_calls.proofs.Words.{ChangesSlot, DESCRIPTORS_MAX, Directory, File, file_in, FileSource, Handle, handle_of, handles_of, IsLive, Layer, Lower, NodeId, OpenDirectory, OpenFile, SetsSlot, State, Tree, Upper, with_handle, with_place}
 use Rattle.ov_base.specs.declared.place.Place.{Place}
 use Rattle.open_handles.specs.declared.handle.Handle as handles
-use Rattle.mount_calls.specs.declared.clients.Clients.{Clients}
+use Rattle.open_handles.specs.declared.clients.Clients.{Clients}
 use Rattle.mount_calls.specs.declared.mount.Mount.{Mount}
-use Rattle.mount_calls.specs.Attaching.{opened_by, ChangesClient}
+use Rattle.open_handles.specs.Attaching.{opened_by, ChangesClient}
 use Rattle.mount_calls.specs.Files.{is_leaf, IsOf, IsFile, IsOpenOn, SeesFile}
 use Rattle.mount_calls.specs.States.{IsHandle, IsSlot, IsStateOf}
 use Rattle.mount_calls.proofs.Serving.{opened-is, slot-closed, open-at, room-of, in-room, tables-set, placed, one-fewer, set-fewer}

@@ -1,17 +1,21 @@
 // Calls that make and remove names, by the plain machine: each is judged before it is made
 // (POSIX.1-2017, mkdir(), symlink(), unlink() and rmdir()).
-ghost use Rattle.std.specs.Prelude.{◌≡◌, ℕ, None, Some, IfErr, IfOk, OnOk};
+ghost use Rattle.std.specs.Prelude.{◌≡◌, ℕ, None, Some, IfErr, IfOk, OnErr, OnOk};
 ghost use Rattle.std.specs.Result.{result_err};
 ghost use Rattle.ov_base.specs.declared.call.CallOf.TheVariants as Call;
 ghost use Rattle.ov_base.specs.Targets.{target_of};
 ghost use Rattle.plain_model.specs.Machine.{State};
 ghost use Rattle.plain_model.specs.Refusals.{refusal};
-ghost use Rattle.merged_lookup.specs.Merged.{upper_of, lowers_of};
-ghost use Rattle.notice_laws.specs.Objects.{IsObject};
+ghost use Rattle.notice_laws.specs.declared.object.Object.TheVariants as objects;
+ghost use Rattle.notice_laws.specs.Objects.{IsNumberOf};
+ghost use Rattle.notice_laws.specs.Steps.{Loses};
+ghost use Rattle.open_handles.specs.Attaching.{KeepsClients, SameBeside};
 ghost use Rattle.mount_calls.specs.JudgedNames.{IsMakeable, IsRemovable, IsUnlinkable};
 ghost use Rattle.mount_calls.specs.LeftMarks.{MarksIfDone};
 ghost use Rattle.mount_calls.specs.Looking.{IsLook};
 ghost use Rattle.mount_calls.specs.Making.{MakesEach};
+ghost use Rattle.mount_calls.specs.Numbers.{Becomes, IsBareAt};
+ghost use Rattle.mount_calls.specs.Removing.{IsShut};
 ghost use Rattle.mount_calls.specs.States.{HasStateOf, IsStateOf};
 ghost use Rattle.mount_calls.specs.Status.{done_result};
 
@@ -188,12 +192,19 @@ impl Mount {
         requires state { ∥ HasStateOf self.old ∥₁ }
         requires look { IsLook self.old.layers path.now look.now }
         requires found { IsRemovable self.old.layers path.now directory.now }
+        requires number { IsNumberOf self.old.clients.objects path.now objects.Directory number }
+        requires bare { IsBareAt self.old.clients.objects path.now }
         ensures makes { MakesEach (Call.Rmdir path.now) self.old self.new (done_result result) }
         ensures marks { MarksIfDone (Call.Rmdir path.now) self.old.layers self.new.layers
             (done_result result) }
+        ensures clients { KeepsClients self.old.clients self.new.clients }
+        ensures lost { OnOk result (Becomes (Loses path.now objects.Directory)
+            self.old.clients.objects self.new.clients.objects) }
+        ensures beside { SameBeside self.old.clients self.new.clients }
+        ensures err { OnErr result (self.new.clients ≡ self.old.clients) }
     {
         let attributes = self.attributes_seen(look, number)?;
-        rmdir_and_free(&mut self.layers, path, directory)?;
+        rmdir_and_free(&mut self.layers, &self.clients, path, directory)?;
         if let (Some(number), Some(attributes)) = (number, attributes) {
             self.clients.remove(number, attributes);
         }

@@ -1,5 +1,5 @@
 // `open`, by the plain machine (POSIX.1-2017, open(), as Linux's namei.c asks for its errors).
-ghost use Rattle.std.specs.Prelude.{◌≡◌, ◌<◌, ℕ, true, false, cond, is_some, List, [], None, Some, IfOk, IfErr, OnOk, OnErr, IsSome};
+ghost use Rattle.std.specs.Prelude.{◌≡◌, ◌+◌, ◌<◌, ◌≤◌, ℕ, true, false, cond, is_some, List, [], None, Some, IfOk, IfErr, OnOk, OnErr, IsSome};
 ghost use Rattle.std.specs.BTreeMap.{get};
 ghost use Rattle.std.specs.Ordering.{nat_cmp};
 ghost use Rattle.ov_base.specs.declared.call.CallOf.TheVariants as Call;
@@ -19,13 +19,16 @@ ghost use Rattle.mount_laws.specs.Opening.{opening_fault, shown_fault};
 ghost use Rattle.copy_up.specs.Leaves.{CopiesLeaf};
 ghost use Rattle.copy_up.specs.Showing.{ChangesNoSight, GainsParents, StaysSound, StaysThin};
 ghost use Rattle.copy_up.specs.Texts.{KeepsTexts};
-ghost use Rattle.mount_calls.specs.Attaching.{KeepsAttached};
+ghost use Rattle.object_table.specs.Objects.{SameSpots};
+ghost use Rattle.open_handles.specs.Attaching.{beside, tables_of, KeepsAttached, LetsGo, SameBeside};
 ghost use Rattle.mount_calls.specs.Keeping.{BringsNone, KeepsLayers};
-ghost use Rattle.mount_calls.specs.FreeDescriptors.{IsLowestFree};
+ghost use Rattle.open_handles.specs.FreeDescriptors.{HasSlot, IsLowestFree};
+ghost use Rattle.open_handles.specs.TrackedHandles.{handle_uses, SameTracked};
+ghost use Rattle.mount_calls.specs.Numbers.{HasRoomFor, HoldsFor, IsHeldAt, KeepsOpen, OpensHold};
 ghost use Rattle.mount_calls.specs.Looking.{IsJudged, IsLook};
 ghost use Rattle.mount_calls.specs.Making.{AnswersCall, RunsOut};
 ghost use Rattle.mount_calls.specs.Opening as opening;
-ghost use Rattle.mount_calls.specs.States.{HasStateOf, IsStateOf};
+ghost use Rattle.mount_calls.specs.States.{HasStateOf, IsStateOf, StaysState};
 
 use crate::file_changes::resize_file;
 use crate::files::{file_at, is_marked, kept_low, marked_place};
@@ -98,7 +101,24 @@ impl Mount {
         descriptor: u32,
         path: &Path,
         object: Object,
-    ) -> Result<Hold, AllocError> {
+    ) -> Result<Hold, AllocError>
+        requires attached { IsSome (get nat_cmp self.old.clients.attached client) }
+        requires free { IsLowestFree self.old.clients client descriptor }
+        ensures opened { KeepsOpen self.old.clients self.new.clients }
+        ensures attached { KeepsAttached self.old.clients self.new.clients }
+        ensures tracked { SameTracked (tables_of self.old.clients) (tables_of self.new.clients) }
+        ensures slot { OnOk result (HasSlot self.new.clients client descriptor) }
+        ensures holds { IfOk result (HoldsFor self.old.clients.objects self.new.clients.objects
+            path.now object) }
+        ensures beside { IfOk result (λ hold. (n : ℕ) → beside self.new.clients n ≡
+            beside self.old.clients n + handle_uses n hold) }
+        ensures room { OnOk result (HasRoomFor self.new.clients.objects object) }
+        ensures err { OnErr result
+            (SameSpots self.old.clients.objects self.new.clients.objects) }
+        ensures none { OnErr result (SameBeside self.old.clients self.new.clients) }
+        ensures only { self.new ≡ record self.old { clients = self.new.clients } }
+        ensures stays { StaysState self.old self.new }
+    {
         self.clients.reserve(client, descriptor)?;
         match object {
             Object::Directory => self.clients.hold_here(path),
@@ -115,7 +135,14 @@ impl Mount {
     }
 
     /// Takes back an open that was prepared. It takes no memory.
-    pub fn cancel_open(&mut self, hold: &Hold) {
+    pub fn cancel_open(&mut self, hold: &Hold)
+        requires { (n : ℕ) → handle_uses n hold.now ≤ beside self.old.clients n }
+        ensures lets { LetsGo self.old.clients self.new.clients }
+        ensures beside { (n : ℕ) → beside self.new.clients n + handle_uses n hold.now ≡
+            beside self.old.clients n }
+        ensures only { self.new ≡ record self.old { clients = self.new.clients } }
+        ensures stays { StaysState self.old self.new }
+    {
         self.clients.let_go(hold);
     }
 
@@ -137,6 +164,12 @@ impl Mount {
         requires state { ∥ HasStateOf self.old ∥₁ }
         requires look { IsLook self.old.layers path.now look.now }
         requires judged { IsJudged self.old client path.now flags judged }
+        requires slot { HasSlot self.old.clients client judged.descriptor }
+        requires held { (n : ℕ) → handle_uses n hold.now ≤ beside self.old.clients n }
+        requires there { IsHeldAt self.old.clients.objects path.now judged.top hold.now }
+        ensures opens { OnOk result (OpensHold self.old.clients self.new.clients client
+            judged.descriptor hold.now) }
+        ensures err { OnErr result (self.new.clients ≡ self.old.clients) }
         ensures answers { OnOk result (AnswersCall client (Call.Open path.now flags judged.mode)
             self.old self.new (Reply.Descriptor judged.descriptor)) }
         ensures no_memory { OnErr result (RunsOut self.old self.new) }
@@ -181,10 +214,16 @@ impl Mount {
     ) -> Result<(), AllocError>
         requires attached { IsSome (get nat_cmp self.old.clients.attached client) }
         requires free { IsLowestFree self.old.clients client descriptor }
+        requires slot { HasSlot self.old.clients client descriptor }
+        requires held { (n : ℕ) → handle_uses n hold.now ≤ beside self.old.clients n }
         requires allowed { opening_fault (layers_of self.old.layers) path.now flags mode (Some 0) ≡ None }
         requires shown { IsTopmost self.old.layers path.now (Some top) }
+        requires there { IsHeldAt self.old.clients.objects path.now (Some top) hold.now }
         requires own { flags.writes ≡ true → (d : ShownPlace) → top ≡ topmost.Inode d →
             (d.layer ≡ 0) × (is_some (mark_at self.old.layers.upper d.key) ≡ false) }
+        ensures opens { OnOk result (OpensHold self.old.clients self.new.clients client descriptor
+            hold.now) }
+        ensures err { OnErr result (self.new.clients ≡ self.old.clients) }
         ensures answers { OnOk result (AnswersCall client (Call.Open path.now flags mode)
             self.old self.new (Reply.Descriptor descriptor)) }
         ensures no_memory { OnErr result (RunsOut self.old self.new) }
@@ -224,12 +263,17 @@ impl Mount {
     ) -> Result<(), AllocError>
         requires attached { IsSome (get nat_cmp self.old.clients.attached client) }
         requires free { IsLowestFree self.old.clients client descriptor }
+        requires slot { HasSlot self.old.clients client descriptor }
+        requires held { (n : ℕ) → handle_uses n hold.now ≤ beside self.old.clients n }
         requires state { ∥ HasStateOf self.old ∥₁ }
         requires allowed { opening_fault (layers_of self.old.layers) path.now flags mode (Some 0) ≡ None }
         requires directory { IsStackOf self.old.layers (parent path.now) directory.now }
         requires shown { IsTopmost self.old.layers path.now (Some (topmost.Inode place)) }
         requires writes { flags.writes ≡ true }
         requires lower { 0 < place.layer }
+        ensures opens { OnOk result (OpensHold self.old.clients self.new.clients client descriptor
+            hold.now) }
+        ensures err { OnErr result (self.new.clients ≡ self.old.clients) }
         ensures answers { OnOk result (AnswersCall client (Call.Open path.now flags mode)
             self.old self.new (Reply.Descriptor descriptor)) }
         ensures no_memory { OnErr result (RunsOut self.old self.new) }
@@ -262,12 +306,17 @@ impl Mount {
     ) -> Result<(), AllocError>
         requires attached { IsSome (get nat_cmp self.old.clients.attached client) }
         requires free { IsLowestFree self.old.clients client descriptor }
+        requires slot { HasSlot self.old.clients client descriptor }
+        requires held { (n : ℕ) → handle_uses n hold.now ≤ beside self.old.clients n }
         requires allowed { opening_fault (layers_of self.old.layers) path.now flags mode (Some 0) ≡ None }
         requires shown { IsTopmost self.old.layers path.now (Some (topmost.Inode place)) }
         requires writes { flags.writes ≡ true }
         requires own { place.layer ≡ 0 }
         requires marked { IsSome (mark_at self.old.layers.upper place.key) }
         requires state { ∥ HasStateOf self.old ∥₁ }
+        ensures opens { OnOk result (OpensHold self.old.clients self.new.clients client descriptor
+            hold.now) }
+        ensures err { OnErr result (self.new.clients ≡ self.old.clients) }
         ensures answers { OnOk result (AnswersCall client (Call.Open path.now flags mode)
             self.old self.new (Reply.Descriptor descriptor)) }
         ensures no_memory { OnErr result (RunsOut self.old self.new) }
@@ -298,10 +347,15 @@ impl Mount {
     ) -> Result<(), AllocError>
         requires attached { IsSome (get nat_cmp self.old.clients.attached client) }
         requires free { IsLowestFree self.old.clients client descriptor }
+        requires slot { HasSlot self.old.clients client descriptor }
+        requires held { (n : ℕ) → handle_uses n hold.now ≤ beside self.old.clients n }
         requires state { ∥ HasStateOf self.old ∥₁ }
         requires allowed { opening_fault (layers_of self.old.layers) path.now flags mode (Some 0) ≡ None }
         requires directory { IsStackOf self.old.layers (parent path.now) directory.now }
         requires absent { shows 0 (layers_of self.old.layers) path.now ≡ None }
+        ensures opens { OnOk result (OpensHold self.old.clients self.new.clients client descriptor
+            hold.now) }
+        ensures err { OnErr result (self.new.clients ≡ self.old.clients) }
         ensures answers { OnOk result (AnswersCall client (Call.Open path.now flags mode)
             self.old self.new (Reply.Descriptor descriptor)) }
         ensures no_memory { OnErr result (RunsOut self.old self.new) }

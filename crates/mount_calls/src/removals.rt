@@ -11,11 +11,12 @@ ghost use Rattle.copy_up.specs.Showing.{ShowsSame, ChangesNoSight, StaysLayers, 
 ghost use Rattle.copy_up.specs.Texts.{KeepsTexts};
 ghost use Rattle.make_remove.specs.Removing.{TakesName};
 ghost use Rattle.plain_model.specs.Layers.{AreLayers, Inode as HeldInode};
-ghost use Rattle.notice_laws.specs.Objects.{IsObject};
+ghost use Rattle.open_handles.specs.Attaching.{HasFile};
 ghost use Rattle.mount_calls.specs.Keeping.{BringsNone, KeepsRenamed};
 ghost use Rattle.mount_calls.specs.JudgedNames.{IsRemovable, IsUnlinkable};
 ghost use Rattle.mount_calls.specs.Looking.{IsKeyAt, IsLook};
 ghost use Rattle.mount_calls.specs.Living.{FreesClosed, KeepsHeld, StaysHeld, StaysLive};
+ghost use Rattle.mount_calls.specs.Removing.{IsShut};
 ghost use Rattle.mount_calls.specs.Renaming.{RenamesHeld};
 ghost use Rattle.rename_redirect.specs.Judging.{MayMove};
 
@@ -54,13 +55,14 @@ pub(crate) fn unlink_and_free(
     ensures sound { StaysSound layers.old layers.new }
 {
     let key = unlink(layers, directory, path)?;
-    free_released(layers, clients, key, number);
+    free_released(layers, clients, key, number.is_some());
     Ok(())
 }
 
 /// `rmdir` of what was judged, which frees the upper's directory.
 pub(crate) fn rmdir_and_free(
     layers: &mut Layers,
+    clients: &Clients,
     path: &Path,
     directory: &Stack,
 ) -> Result<(), AllocError>
@@ -78,9 +80,8 @@ pub(crate) fn rmdir_and_free(
         (ChangesNoSight layers.old layers.new (StaysLive layers.old layers.new)) }
     ensures sound { StaysSound layers.old layers.new }
 {
-    if let Some(key) = rmdir(layers, directory, path)? {
-        free(layers, key);
-    }
+    let key = rmdir(layers, directory, path)?;
+    free_released(layers, clients, key, true);
     Ok(())
 }
 
@@ -113,26 +114,22 @@ pub(crate) fn rename_and_free(
     let renamed = rename(alloc, layers, old, new, metacopy, moving)?;
     match renamed {
         Renamed::Directory(released) => {
-            free_released(layers, clients, released, replaced);
+            free_released(layers, clients, released, true);
             Ok(0)
         }
         Renamed::Inode { key, released } => {
-            free_released(layers, clients, released, replaced);
+            free_released(layers, clients, released, replaced.is_some());
             Ok(key)
         }
     }
 }
 
-// Frees what lost its last name, if anything did, unless a handle holds it: none does where it has
-// no number.
-fn free_released(
-    layers: &mut Layers,
-    clients: &Clients,
-    released: Option<usize>,
-    number: Option<usize>,
-)
+// Frees what lost its last name, if anything did, unless a handle holds it, which is looked for where
+// one may.
+fn free_released(layers: &mut Layers, clients: &Clients, released: Option<usize>, may_be_held: bool)
     requires nameless { (key : ℕ) → released ≡ Some key → IsNameless layers.old.upper key }
-    requires held { (key : ℕ) → released ≡ Some key → number ≡ None → HasFile clients.now key → ⊥ }
+    requires held { (key : ℕ) → released ≡ Some key → may_be_held ≡ false →
+        HasFile clients.now key → ⊥ }
     ensures held { SameObjects (layer_of layers.old.upper) (layer_of layers.new.upper) }
     ensures same { ShowsSame layers.old layers.new }
     ensures mounts { StaysMount layers.old layers.new }
@@ -141,7 +138,7 @@ fn free_released(
     ensures live { StaysHeld clients.now layers.old layers.new }
 {
     if let Some(key) = released {
-        if number.is_none() || !clients.has_file(key) {
+        if !may_be_held || !clients.has_file(key) {
             free(layers, key);
         }
     }

@@ -3,7 +3,7 @@ ghost use Rattle.std.specs.Prelude.{◌≡◌, None, Some, IfOk, IfErr, OnErr, i
 ghost use Rattle.ov_base.specs.declared.call.CallOf.TheVariants as Call;
 ghost use Rattle.plain_model.specs.Machine.{State};
 ghost use Rattle.plain_model.specs.Refusals.{refusal};
-ghost use Rattle.mount_calls.specs.Attaching.{file_by, opened_by};
+ghost use Rattle.open_handles.specs.Attaching.{file_by, opened_by, KeepsHolds};
 ghost use Rattle.mount_calls.specs.Making.{MakesCall};
 ghost use Rattle.mount_calls.specs.Opening.{write_fault, truncate_fault, written_key};
 ghost use Rattle.mount_calls.specs.States.{IsStateOf};
@@ -26,6 +26,7 @@ impl Mount {
     ) -> Result<Reply, AllocError>
         ensures makes { MakesCall client (Call.Write descriptor bytes.now)
             self.old self.new result }
+        ensures holds { KeepsHolds self.old.clients self.new.clients }
         ensures allowed { OnErr result ((s : State) → IsStateOf self.old s →
             refusal s client (Call.Write descriptor bytes.now) ≡ None) }
     {

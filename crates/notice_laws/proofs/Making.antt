@@ -19,8 +19,8 @@ use Rattle.plain_model.proofs.Looking.{or-first, or-second, when-not}
 use Rattle.mount_laws.specs.Nodes.{touched_by}
 use Rattle.mount_laws.specs.Paths.{LeadsAlso}
 use Rattle.mount_laws.proofs.Leading.{symlink-walk}
-use Rattle.open_handles.specs.declared.tracked_client.TrackedHandle.{TrackedHandle}
-use Rattle.open_handles.specs.declared.tracked_client.Way.{Way}
+use Rattle.open_handles.specs.TrackedHandles.{TrackedHandle}
+use Rattle.open_handles.specs.declared.way.Way.{Way}
 use Rattle.object_table.specs.Objects.{Objects}
 use Rattle.notice_laws.specs.Notified.{Notified, AreKnown, Bearers, IsAt, stands_for, IsWay, IsSlotOn, Tracks, Passes, Resumes}
 use Rattle.notice_laws.specs.Objects.{IsShownIn, MeansWay}

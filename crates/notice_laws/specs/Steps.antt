@@ -10,10 +10,10 @@ use Rattle.plain_model.specs.Changes.{read_bytes, tree_after}
 use Rattle.plain_model.specs.Subjects.{subjects, closes}
 use Rattle.mount_laws.specs.OpenFiles.{IsLive}
 use Rattle.ov_base.specs.declared.node_id.NodeId.{NodeId}
-use Rattle.open_handles.specs.declared.tracked_client.TrackedHandle.{TrackedHandle}
-use Rattle.open_handles.specs.declared.tracked_client.Way.{Way}
+use Rattle.open_handles.specs.TrackedHandles.{TrackedHandle}
+use Rattle.open_handles.specs.declared.way.Way.{Way}
 use Rattle.object_table.specs.Objects.{Objects, Spot, At, Upper, Nowhere, spot_of}
-use Rattle.open_handles.specs.TrackedHandles.{TrackedTables, SetsTracked, tracked_by}
+use Rattle.open_handles.specs.TrackedHandles.{TrackedTables, SameTracked, SetsTracked, tracked_by}
 use Rattle.notice_laws.specs.declared.object.Object.{Object}
 use Rattle.notice_laws.specs.declared.object.Object.TheVariants as object
 use Rattle.notice_laws.specs.Notified.{Notified, AreKnown, Tracks, Passes, Resumes}
@@ -186,7 +186,7 @@ pub record Used (shows : Rule) (old new : Notified) (c fd bits : ℕ) : Type 0 w
   pub handle : TrackedHandle
   pub is_open : tracked_by old.handles c fd ≡ Some handle
   pub tells : Tells shows old new (of_both handle.way (Some handle.object) bits) Stays
-  pub handles : new.handles ≡ old.handles
+  pub handles : SameTracked old.handles new.handles
   pub renames : new.renames ≡ old.renames
 
 -- a read of some bytes

@@ -6,7 +6,7 @@ use Rattle.ov_base.specs.Cookies.{cookie_of}
 use Rattle.plain_model.specs.Watching.{ATTRIB, MOVED_FROM, MOVED_TO, MOVE_SELF, Rule, Subject, AllHear}
 use Rattle.plain_model.proofs.Watching.{AllHear-none}
 use Rattle.object_table.specs.Objects.{Spot, Nowhere, spot_of}
-use Rattle.open_handles.specs.declared.tracked_client.Way.{Way}
+use Rattle.open_handles.specs.declared.way.Way.{Way}
 use Rattle.notice_laws.specs.Moves.{of_move, of_replaced}
 use Rattle.notice_laws.specs.Notified.{Notified}
 use Rattle.notice_laws.specs.Opens.{AreFewer}

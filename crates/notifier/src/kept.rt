@@ -1,4 +1,10 @@
 // What a mount keeps for watches.
+ghost use Rattle.std.specs.Prelude.{◌≡◌, [], ◌∷◌, option_copied};
+ghost use Rattle.ov_base.specs.declared.node_id.NodeId.TheVariants.{New};
+ghost use Rattle.plain_model.specs.Watching.{IsSubject};
+ghost use Rattle.plain_model.specs.Watching as plain;
+ghost use Rattle.notifier.specs.Notifying.{AreCounted, IsTold};
+
 use open_handles::Clients;
 use ov_base::EventName;
 use std::alloc::Global;
@@ -14,9 +20,24 @@ pub struct Notifier<F: Callback, R: Rule> {
     pub(crate) renames: u64,
 }
 
+impl<F: Callback, R: Rule> Model for Notifier<F, R> {
+    ghost use Rattle.notifier.specs.Watches.{Watches};
+
+    ghost Value = { Watches };
+
+    ghost use Rattle.std.specs.Coded.{codes};
+
+    ghost coded = { Prim.hlevel codes };
+
+    ghost view = { λ k. record { instances = k.watches; renames = k.renames } };
+}
+
 impl<F: Callback, R: Rule> Notifier<F, R> {
     /// No client is attached.
-    pub fn new(alloc: Global) -> Notifier<F, R> {
+    pub fn new(alloc: Global) -> Notifier<F, R>
+        ensures instances { result.instances ≡ [] }
+        ensures renames { result.renames ≡ 0 }
+    {
         Notifier {
             watches: WatchTable::new(alloc),
             renames: 0,
@@ -32,7 +53,12 @@ impl<F: Callback, R: Rule> Notifier<F, R> {
         bits: u32,
         cookie: u32,
         name: Option<&EventName>,
-    ) {
+    )
+        requires subject { IsSubject (record { aim = plain.On (New object); bits = bits; cookie = cookie; name = option_copied name }) }
+        requires counted { AreCounted clients.old self.old }
+        ensures told { IsTold R.shows clients.old clients.new self.old self.new (record { aim = plain.On (New object); bits = bits; cookie = cookie; name = option_copied name.entry } ∷ []) }
+        ensures renames { self.new.renames ≡ self.old.renames }
+    {
         let subject = Subject {
             aim: Aim::On(object as u64),
             bits,

@@ -1,10 +1,13 @@
 // The objects that handles and watches hold, wherever they are.
 ghost use Rattle.std.specs.Prelude.{◌≡◌, ◌≢◌, ℕ, ◌+◌, ◌-◌, ◌<◌, ◌≤◌, ◌↔◌, [], ◌∷◌, Some, None, IsSome, IsOk, IfOk, IfSome, IfNone, OnOk, OnErr, reverse, true};
+ghost use Rattle.std.specs.Option.{option_and_then, option_copied};
 ghost use Rattle.plain_model.specs.Layers as layers;
 ghost use Rattle.plain_model.specs.Laws.{IsOutside};
 ghost use Rattle.object_table.specs.Dentries.{HOLDERS_MAX};
+ghost use Rattle.object_table.specs.declared.dentry.Unlisted.TheVariants as unlisted;
 ghost use Rattle.object_table.specs.Opened as directory;
-ghost use Rattle.object_table.specs.Objects.{Spot, At, Upper, Nowhere, spot_at, spot_of, holders_of, room, spot_left, IsVacant, NoneBelow, IsBare, IsHeldWithin, SameSpots, SetsSpot, Holds, MovesSpots, IsPrepared, IsSettled};
+ghost use Rattle.object_table.specs.Renames as renames;
+ghost use Rattle.object_table.specs.Objects.{Spot, At, Upper, Nowhere, spot_at, spot_of, holders_of, room, spot_left, left_of, IsVacant, NoneBelow, IsBare, IsHeldWithin, SameSpots, SetsSpot, Holds, MovesSpots, IsPrepared, IsSettled};
 
 use crate::dentry::Unlisted;
 use crate::tree::ObjectTree;
@@ -173,6 +176,7 @@ impl ObjectTable {
     pub fn hold(&mut self, number: usize, count: usize) -> Result<(), AllocError>
         requires { IsSome (spot_of self.old number) }
         ensures ok { OnOk result (SetsSpot self.old self.new number (spot_of self.old number) (holders_of self.old number + count)) }
+        ensures place { directory.opened self.new.tree number ≡ directory.opened self.old.tree number }
         ensures countable { OnOk result (holders_of self.old number + count ≤ HOLDERS_MAX) }
         ensures err { OnErr result (SameSpots self.old self.new) }
         ensures succeeds { holders_of self.old number + count ≤ HOLDERS_MAX → IsOk result }
@@ -282,6 +286,7 @@ impl ObjectTable {
     pub fn release(&mut self, number: usize, count: usize)
         requires { count ≤ holders_of self.old number }
         ensures releases { let left = holders_of self.old number - count in SetsSpot self.old self.new number (spot_left left (spot_of self.old number)) left }
+        ensures place { holders_of self.old number - count ≢ 0 → directory.opened self.new.tree number ≡ directory.opened self.old.tree number }
         ensures room { room self.old ≤ room self.new }
     {
         self.lawful();
@@ -323,14 +328,11 @@ impl ObjectTable {
         requires apart { IsOutside old.now new.now }
         requires below { NoneBelow self.old new.now }
         ensures moves { MovesSpots self.old self.new old.now new.now }
+        ensures places { renames.Moves self.old.tree self.new.tree old.now new.now (Some (left_of replaced)) }
         ensures settled { IsSettled self.new }
         ensures room { room self.new ≡ room self.old }
     {
-        let left = match replaced {
-            Some(attributes) => Unlisted::Removed(attributes),
-            None => Unlisted::Nowhere,
-        };
-        self.tree.rename(old, new, Some(left));
+        self.tree.rename(old, new, Some(left_by(replaced)));
     }
 
     /// Gives up a rename that was prepared, and lets go the memory that it took.
@@ -340,6 +342,16 @@ impl ObjectTable {
         ensures room { room self.new ≡ room self.old }
     {
         self.tree.cancel_rename();
+    }
+}
+
+// What is kept of what was replaced: of a directory the attributes, if they are at hand.
+fn left_by(replaced: Option<Attributes>) -> Unlisted
+    ensures { result ≡ left_of replaced }
+{
+    match replaced {
+        Some(attributes) => Unlisted::Removed(attributes),
+        None => Unlisted::Nowhere,
     }
 }
 

@@ -8,7 +8,7 @@ use Rattle.std.proofs.lemmas.List.Sums.{sum_by-cons, sum_by-set, sum_by_push, su
 use Rattle.std.proofs.lemmas.Option.{slice_get_past, slice_get-get_or}
 use Rattle.open_handles.specs.Descriptors.{opened, in_slot, SetsSlot}
 use Rattle.open_handles.specs.TrackedHandles.{TrackedTable, TrackedTables, AreRising, AreTracked, IsPlace, SetsTracked, free_table, handle_uses, is_tracked, slot_uses, slots_of, tracked_by, uses}
-use Rattle.open_handles.specs.declared.tracked_client.TrackedHandle.{TrackedHandle}
+use Rattle.open_handles.specs.TrackedHandles.{TrackedHandle}
 use Rattle.open_handles.proofs.Slots.{sets-slot}
 use Rattle.open_handles.proofs.TrackedClients.{absent-slots, attached-absent, place-below, place-client, place-slots, set-clients, set-slots, push-slots, push-rising, remove-slots, remove-rising, above-all-absent}
 

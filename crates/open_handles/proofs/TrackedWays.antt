@@ -8,8 +8,8 @@ use Rattle.std.proofs.lemmas.List.Folds.{fold-map, Any-from_list_any}
 use Rattle.std.proofs.lemmas.List.Sums.{sum_by-cons, sum_by-le, count_by-le-length}
 use Rattle.open_handles.specs.Descriptors.{opened}
 use Rattle.open_handles.specs.TrackedHandles.{TrackedTable, TrackedTables, AreRising, AreTracked, IsOn, came_by, clients_of, handles_by, is_way, re_way_of, slot_came_by, slot_is_on, slot_uses, slots_of, tracked_by, uses, way_uses}
-use Rattle.open_handles.specs.declared.tracked_client.Way.{Way}
-use Rattle.open_handles.specs.declared.tracked_client.TrackedHandle.{TrackedHandle}
+use Rattle.open_handles.specs.declared.way.Way.{Way}
+use Rattle.open_handles.specs.TrackedHandles.{TrackedHandle}
 use Rattle.open_handles.proofs.Slots.{opened-read}
 use Rattle.open_handles.proofs.TrackedClients.{place-slots, place-from}
 

@@ -1,15 +1,15 @@
 // What the attached clients have open.
-ghost use Rattle.std.specs.Prelude.{◌≡◌, ◌+◌, ◌≤◌, ◌↔◌, ℕ, true, Some, None, IfOk, OnErr, OnOk, IsSome, cond, nat_eq, option_copied, option_map};
+ghost use Rattle.std.specs.Prelude.{◌≡◌, ◌+◌, ◌≤◌, ◌↔◌, ℕ, true, Some, None, IfOk, OnOk, IsSome, cond, nat_eq, option_copied, option_map};
 ghost use Rattle.std.specs.Option.{option_and_then};
 ghost use Rattle.std.specs.BTreeMap.{get};
 ghost use Rattle.std.specs.Ordering.{nat_cmp};
-ghost use Rattle.object_table.specs.Objects.{holders_of};
+ghost use Rattle.object_table.specs.Objects.{AreFewer};
 ghost use Rattle.object_table.specs.Opened.{attributes_in};
-ghost use Rattle.open_handles.specs.Attaching.{ChangesClient, ClosesHandle, HasFile, KeepsHolds, OpensHandle, directory_by, file_by, located, path_of};
+ghost use Rattle.open_handles.specs.Attaching.{beside, tables_of, directory_by, file_by, is_attached, located, opened_by, path_of, ChangesClient, ClosesHandle, HasFile, KeepsHolds, KeepsPlaces, OpensHandle};
 ghost use Rattle.open_handles.specs.FreeDescriptors.{HasSlot, IsLowestFree};
-ghost use Rattle.open_handles.specs.Holding.{beside, handles_by, tables_of, tracked_of, uses_of};
+ghost use Rattle.open_handles.specs.Holding.{handle_re_way, tracked_of};
 ghost use Rattle.open_handles.specs.Listings.{ChangesSlot, GivesNames, listing_of, with_listing, with_place};
-ghost use Rattle.open_handles.specs.TrackedHandles.{IsOn, clients_of, handle_uses, re_way_of, tracked_by};
+ghost use Rattle.open_handles.specs.TrackedHandles.{IsOn, clients_of, handle_uses, handles_by, re_way_of, tracked_by};
 
 use crate::clients::Clients;
 use crate::handle::Handle;
@@ -179,6 +179,11 @@ impl Clients {
         requires held { count ≤ beside self.old to.now.directory }
         ensures handles { (c d : ℕ) → tracked_by (tables_of self.new) c d ≡ option_map (re_way_of object from.now to.now) (tracked_by (tables_of self.old) c d) }
         ensures clients { clients_of (tables_of self.new) ≡ clients_of (tables_of self.old) }
+        ensures next { self.new.next ≡ self.old.next }
+        ensures fewer { AreFewer self.old.objects self.new.objects }
+        ensures opened { (c d : ℕ) → opened_by self.new c d ≡ option_map (handle_re_way object from.now to.now) (opened_by self.old c d) }
+        ensures attached { (c : ℕ) → is_attached self.new c ≡ is_attached self.old c }
+        ensures places { KeepsPlaces self.old self.new }
         ensures beside { (n : ℕ) → beside self.new n + cond (nat_eq to.now.directory n) count 0 ≡ beside self.old n }
     {
         for own in self.attached.values_mut() {

@@ -1,11 +1,11 @@
 // The attached clients.
-ghost use Rattle.std.specs.Prelude.{◌≡◌, ◌+◌, ◌<◌, ◌≤◌, ◌^◌, ℕ, true, Some, None, IfOk, IfErr, IfNone, IfSome, OnOk, OnErr, IsSome, is_some, option_copied, ◌↔◌, ◌≢◌};
+ghost use Rattle.std.specs.Prelude.{◌≡◌, [], ◌+◌, ◌<◌, ◌≤◌, ◌^◌, ℕ, true, Some, None, IfOk, IfErr, IfNone, IfSome, OnOk, OnErr, IsSome, is_some, option_copied, ◌↔◌, ◌≢◌};
 ghost use Rattle.std.specs.BTreeMap.{get, btree_map_len};
 ghost use Rattle.std.specs.Ordering.{nat_cmp};
 ghost use Rattle.object_table.specs.Objects.{Spot, Nowhere, spot_of, holders_of};
-ghost use Rattle.open_handles.specs.Attaching.{HasNoRoom, Attaches, Detaches, TakesBack, IsSame, KeepsPlaces, opened_by, file_by};
+ghost use Rattle.open_handles.specs.Attaching.{AreKnown, HasNoRoom, Attaches, Detaches, Leaves, TakesBack, IsSame, KeepsPlaces, beside, opened_by, file_by};
 ghost use Rattle.open_handles.specs.FreeDescriptors.{IsFull, IsLowestFree};
-ghost use Rattle.open_handles.specs.Holding.{AreKnown, uses_below};
+ghost use Rattle.open_handles.specs.Holding.{uses_in};
 
 use crate::descriptors::Descriptors;
 use crate::handle::Handle;
@@ -29,7 +29,7 @@ pub struct Clients {
     pub(crate) objects: ObjectTable,
     ghost rising: { (n : ℕ) → is_some (get nat_cmp attached n) ≡ true → n < next },
     ghost few: { btree_map_len attached ≤ 64 },
-    ghost held: { (n : ℕ) → uses_below (get nat_cmp attached) next n ≤ holders_of objects n },
+    ghost held: { (n : ℕ) → uses_in attached n ≤ holders_of objects n },
 }
 
 impl Clients {
@@ -38,6 +38,8 @@ impl Clients {
         ensures none { IfOk result (λ clients. (n : ℕ) → get nat_cmp clients.attached n ≡ None) }
         ensures first { IfOk result (λ clients. clients.next ≡ 0) }
         ensures nothing { IfOk result (λ clients. (n : ℕ) → spot_of clients.objects n ≡ None) }
+        ensures beside { IfOk result (λ clients. (n : ℕ) → beside clients n ≡ 0) }
+        ensures empty { IfOk result (λ clients. clients.attached.entries ≡ []) }
     {
         let objects = ObjectTable::new(alloc, keys)?;
         objects.lawful();
@@ -92,6 +94,7 @@ impl Clients {
     pub fn detach(&mut self, client: u64)
         requires { (d : ℕ) → opened_by self.old client d ≡ None }
         ensures detaches { Detaches self.old self.new client }
+        ensures leaves { Leaves self.old self.new client }
         ensures places { KeepsPlaces self.old self.new }
     {
         let _ = self.attached.remove(&client);

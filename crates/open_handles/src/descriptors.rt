@@ -2,7 +2,7 @@
 ghost use Rattle.std.specs.Prelude.{◌≡◌, ◌≤◌, ◌<◌, [], Some, None, true, IfSome, IfNone, OnOk, ℕ, option_copied, option_map, is_some, length, IsSome, vec_len, count_by, map};
 ghost use Rattle.std.specs.List.{list_any};
 ghost use Rattle.open_handles.specs.Descriptors.{opened, SetsSlot, IsFull, IsLowestFree};
-ghost use Rattle.open_handles.specs.Holding.{handle_re_way, slot_came_by, slot_has_file, slot_is_on};
+ghost use Rattle.open_handles.specs.Holding.{handle_came_by, handle_is_on, handle_re_way, slot_has_file};
 
 use crate::handle::{Handle, On};
 use crate::way::Way;
@@ -155,7 +155,7 @@ impl Descriptors {
 
     /// Whether a handle is on an object.
     pub fn is_on(&self, object: usize) -> bool
-        ensures { result ≡ list_any (slot_is_on object) self.now.slots.items }
+        ensures { result ≡ list_any (handle_is_on object) self.now.slots.items }
     {
         self.slots.iter().any(|slot| is_on(slot, object))
     }
@@ -169,7 +169,7 @@ impl Descriptors {
 
     /// How many handles are on an object by exactly this way.
     pub fn count_by(&self, object: usize, way: &Way) -> usize
-        ensures count { result ≡ count_by (slot_came_by object way.now) self.now.slots.items }
+        ensures count { result ≡ count_by (handle_came_by object way.now) self.now.slots.items }
         ensures few { result ≤ 64 }
     {
         let mut count = 0;
@@ -207,7 +207,7 @@ fn first_free(slots: &[Option<Handle>]) -> usize
 
 // Whether a slot's handle is on an object.
 fn is_on(slot: &Option<Handle>, object: usize) -> bool
-    ensures { result ≡ slot_is_on object slot.now }
+    ensures { result ≡ handle_is_on object slot.now }
 {
     match slot {
         Some(handle) => object == handle.object,
@@ -227,7 +227,7 @@ fn has_file(slot: &Option<Handle>, key: usize) -> bool
 
 // Whether a slot's handle is on an object by exactly this way.
 fn came_by(slot: &Option<Handle>, object: usize, way: &Way) -> bool
-    ensures { result ≡ slot_came_by object way.now slot.now }
+    ensures { result ≡ handle_came_by object way.now slot.now }
 {
     match slot {
         Some(handle) => handle.came_by(object, way),

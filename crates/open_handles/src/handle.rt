@@ -1,9 +1,8 @@
 // What a descriptor leads to.
 ghost use Rattle.std.specs.Prelude.{◌≡◌, IfOk, OnOk, OnErr, None, Some, drop, take};
-ghost use Rattle.open_handles.specs.Holding.{has_file};
 ghost use Rattle.open_handles.specs.Listings.{after_names, directory_in, file_in, names_left, with_listing, with_place};
 ghost use Rattle.open_handles.specs.TrackedHandles.{came_by};
-ghost use Rattle.open_handles.specs.Holding.{tracked_of};
+ghost use Rattle.open_handles.specs.Holding.{is_on_file, tracked_of};
 
 use crate::open_file::{FileSource, OpenFile};
 use crate::way::Way;
@@ -70,7 +69,7 @@ impl Handle {
 
     // Whether it has the file of the upper of a key open.
     pub(crate) fn has_file(&self, key: usize) -> bool
-        ensures { result ≡ has_file key self.now }
+        ensures { result ≡ is_on_file key self.now.on }
     {
         match &self.on {
             On::File(file) => match file.source {

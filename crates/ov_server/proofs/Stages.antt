@@ -4,7 +4,7 @@ use Rattle.std.proofs.lemmas.Bool.{cases_eq, false≢true}
 use Rattle.std.proofs.lemmas.Option.{cond_some}
 use Rattle.plain_model.specs.Machine.{writable}
 use Rattle.plain_model.specs.Runs.{Deed}
-use Rattle.mount_calls.specs.Attaching.{Attaches, Detaches, KeepsAttached, is_attached}
+use Rattle.open_handles.specs.Attaching.{Attaches, Detaches, KeepsAttached, is_attached}
 use Rattle.mount_calls.specs.declared.mount.Mount.{Mount}
 use Rattle.overlay_core.specs.Histories.{HasPlaces}
 use Rattle.overlay_core.specs.Views.{CoreGoes, CoreSame, CoreStays, core_clients, core_mount, core_watches, has_client}

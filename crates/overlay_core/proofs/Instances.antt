@@ -10,7 +10,7 @@ use Rattle.plain_model.specs.Machine.{instance_of}
 use Rattle.plain_model.proofs.Clients.{attached-is, hearers_of}
 use Rattle.notice_laws.specs.Notified.{Notified}
 use Rattle.mount_calls.specs.declared.mount.Mount.{Mount}
-use Rattle.mount_calls.specs.Attaching.{is_attached}
+use Rattle.open_handles.specs.Attaching.{is_attached}
 use Rattle.overlay_core.specs.Watching.{HasState}
 
 -- a client has an instance where it has one in the state

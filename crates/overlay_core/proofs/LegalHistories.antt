@@ -15,8 +15,8 @@ use Rattle.plain_model.proofs.Opened.{law_of_merge}
 use Rattle.merged_lookup.specs.declared.layers.Layers.{Layers}
 use Rattle.merged_lookup.specs.Merged.{upper_of, lowers_of}
 use Rattle.copy_up.specs.Showing.{StaysThin}
-use Rattle.mount_calls.specs.declared.clients.Clients.{Clients}
-use Rattle.mount_calls.specs.Attaching.{KeepsAttached, is_attached}
+use Rattle.open_handles.specs.declared.clients.Clients.{Clients}
+use Rattle.open_handles.specs.Attaching.{KeepsAttached, is_attached}
 use Rattle.mount_calls.specs.declared.mount.Mount.{Mount}
 use Rattle.notice_laws.specs.Notified.{Notified}
 use Rattle.overlay_core.specs.LegalHistories.{IsNumber, Legally, Numbers, Opening, opening_of}

@@ -14,7 +14,7 @@ use Rattle.mount_laws.specs.OpenFiles.{IsLive}
 use Rattle.mount_laws.proofs.Handling.{law_of_new_handle}
 use Rattle.mount_laws.proofs.OpenFiles.{law_of_live_one, law_of_live_shown}
 use Rattle.open_handles.specs.declared.handle.Handle as handles
-use Rattle.open_handles.specs.declared.handle.Handle.TheVariants.{Directory, File}
+use Rattle.open_handles.specs.declared.handle.On.TheVariants.{Directory, File}
 use Rattle.open_handles.specs.declared.open_file.FileSource.{FileSource}
 use Rattle.open_handles.specs.declared.open_file.FileSource.TheVariants.{Upper, Lower}
 use Rattle.open_handles.specs.declared.open_file.OpenFile.{OpenFile}
@@ -22,7 +22,7 @@ use Rattle.open_handles.specs.Listings.{file_in}
 use Rattle.notice_laws.specs.declared.object.Object.TheVariants as object
 use Rattle.notice_laws.specs.Objects.{IsObject}
 use Rattle.mount_calls.specs.declared.mount.Mount.{Mount}
-use Rattle.mount_calls.specs.Attaching.{file_by, opened_by}
+use Rattle.open_handles.specs.Attaching.{file_by, opened_by}
 use Rattle.mount_calls.specs.Files.{IsOf, key_in_upper}
 use Rattle.mount_calls.specs.States.{IsOpenAs, IsSlot, IsStateOf}
 

@@ -10,7 +10,7 @@ ghost use Rattle.layer_tree.specs.Tree.{inode_of};
 ghost use Rattle.merged_lookup.specs.Merged.{fill_at, layers_of, lowers_of, upper_of, IsTopmost};
 ghost use Rattle.mount_laws.specs.Looks.{walk_fault};
 ghost use Rattle.notice_laws.specs.Objects.{IsObject};
-ghost use Rattle.mount_calls.specs.Attaching.{is_attached};
+ghost use Rattle.open_handles.specs.Attaching.{is_attached};
 ghost use Rattle.overlay_core.specs.PathFaults.{arm_fault};
 ghost use Rattle.overlay_core.specs.Watching.{Agrees, Goes, HasState, Stays};
 

@@ -4,7 +4,7 @@ ghost use Rattle.std.specs.Prelude.{◌≡◌, true};
 ghost use Rattle.ov_base.specs.declared.call.CallOf.TheVariants as Call;
 ghost use Rattle.mount_calls.specs.Altering.{IsTarget};
 ghost use Rattle.mount_calls.specs.AttributeCalls.{call_at};
-ghost use Rattle.mount_calls.specs.Attaching.{is_attached};
+ghost use Rattle.open_handles.specs.Attaching.{is_attached};
 ghost use Rattle.mount_calls.specs.Looking.{IsLook};
 ghost use Rattle.overlay_core.specs.Performing.{Performs};
 ghost use Rattle.overlay_core.specs.Watching.{HasState};

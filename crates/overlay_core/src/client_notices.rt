@@ -7,7 +7,7 @@ ghost use Rattle.plain_model.specs.Layers.{AreLayers};
 ghost use Rattle.plain_model.specs.Machine.{State, instance_of};
 ghost use Rattle.merged_lookup.specs.Merged.{layers_of};
 ghost use Rattle.plain_model.specs.Runs.{Attached, Detached};
-ghost use Rattle.mount_calls.specs.Attaching.{Attaches, Detaches, KeepsAttached, KeepsOthers, attach_refusal, is_attached};
+ghost use Rattle.open_handles.specs.Attaching.{Attaches, Detaches, KeepsAttached, KeepsOthers, attach_refusal, is_attached};
 ghost use Rattle.mount_calls.specs.Living.{KeepsPaths};
 ghost use Rattle.overlay_core.specs.Leaving.{ClosesEach, Follows, IsFollowed, Shuts, closing};
 ghost use Rattle.overlay_core.specs.Mounting.{machine_options};

@@ -7,7 +7,7 @@ ghost use Rattle.plain_model.specs.Machine.{State, instance_of};
 ghost use Rattle.plain_model.specs.Refusals.{refusal};
 ghost use Rattle.layer_tree.specs.Tree.{layer_of, layers_given};
 ghost use Rattle.overlay_core.specs.Watching.{BeginsUntil, HasState};
-ghost use Rattle.mount_calls.specs.Attaching.{attach_refusal, Attaches, Detaches, KeepsAttached};
+ghost use Rattle.open_handles.specs.Attaching.{attach_refusal, Attaches, Detaches, KeepsAttached};
 ghost use Rattle.mount_calls.specs.ComingUp.{BringsUp};
 ghost use Rattle.mount_calls.specs.Keeping.{KeepsLayers, takes_no_memory};
 ghost use Rattle.mount_calls.specs.LeftMarks.{LeavesMarks};

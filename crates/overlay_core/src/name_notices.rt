@@ -3,7 +3,7 @@ ghost use Rattle.std.specs.Prelude.{◌≡◌, None, true};
 ghost use Rattle.std.specs.Result.{result_err};
 ghost use Rattle.ov_base.specs.declared.call.CallOf.TheVariants as Call;
 ghost use Rattle.ov_base.specs.Targets.{target_of};
-ghost use Rattle.mount_calls.specs.Attaching.{is_attached};
+ghost use Rattle.open_handles.specs.Attaching.{is_attached};
 ghost use Rattle.mount_calls.specs.JudgedNames.{IsMakeable, IsRemovable, IsUnlinkable};
 ghost use Rattle.mount_calls.specs.Looking.{IsLook};
 ghost use Rattle.overlay_core.specs.Performing.{Performs};

@@ -5,7 +5,7 @@ ghost use Rattle.plain_model.specs.Runs.{Called};
 ghost use Rattle.merged_lookup.specs.Merged.{upper_of, lowers_of};
 ghost use Rattle.notice_laws.specs.declared.object.Object.TheVariants as stands;
 ghost use Rattle.notice_laws.specs.Objects.{IsObject};
-ghost use Rattle.mount_calls.specs.Attaching.{is_attached};
+ghost use Rattle.open_handles.specs.Attaching.{is_attached};
 ghost use Rattle.mount_calls.specs.Looking.{IsJudged, IsLook};
 ghost use Rattle.overlay_core.specs.Performing.{Performs};
 ghost use Rattle.overlay_core.specs.Watching.{Goes, HasState, Keeps, Stays};
@@ -13,28 +13,11 @@ ghost use Rattle.overlay_core.specs.Watching.{Goes, HasState, Keeps, Stays};
 use crate::watched::Watched;
 use mount_calls::{Judged, Look};
 use notice_laws::Object;
-use open_handles::Hold;
 use ov_base::{OpenFlags, Path, Reply};
 use std::alloc::AllocError;
 use watch_table::{Callback, Rule};
 
 impl<F: Callback, R: Rule> Watched<F, R> {
-    // Notes what became of a file of a lower layer that was opened: for writing it is in the upper
-    // now, under the key that the handle has.
-    fn lift_for(
-        &mut self,
-        writes: bool,
-        client: u64,
-        descriptor: u32,
-        hold: &Hold,
-        object: Object,
-    ) {
-        if writes {
-            let key = self.mount.key_opened(client, descriptor);
-            self.mount.lift(Some(hold.object), object, key);
-        }
-    }
-
     // Opens what stands at a path, as it was judged, and notifies its directory and the object.
     fn open_there(
         &mut self,
@@ -62,7 +45,10 @@ impl<F: Callback, R: Rule> Watched<F, R> {
             .open_judged(client, path, look, flags, judged, &hold)
         {
             Ok(()) => {
-                self.lift_for(flags.writes, client, descriptor, &hold, object);
+                if flags.writes {
+                    let key = self.mount.key_opened(client, descriptor);
+                    self.mount.lift(Some(hold.object), object, key);
+                }
                 self.notifier
                     .opened(&mut self.mount.clients, &hold, object, flags.truncate);
                 self.mount.clients.lawful();
