@@ -101,7 +101,7 @@ directory-some (Some x) h = refl
 -- What leads to a directory is a handle on it.
 pub directory-is : (x : Option Handle) (o : OpenDirectory) → directory_in x ≡ Some o → (h : Handle) × (x ≡ Some h) × (h.object ≡ o.directory) × (h.on ≡ Directory o.listing)
 directory-is None o e = absurd (cc)
-directory-is (Some h) o e = (h, refl, by h.on e)
+directory-is (Some h) o e = let on = by h.on e in (h, refl, on.0, on.1)
   where
     by : (on : On) → directory_on h.object on ≡ Some o → (h.object ≡ o.directory) × (on ≡ Directory o.listing)
     by (Directory listing) e = (ap (λ (z : Option OpenDirectory). option_map_or (λ (y : OpenDirectory). y.directory) z h.object) e, ap (λ (z : Option OpenDirectory). Directory (option_map_or (λ (y : OpenDirectory). y.listing) z None)) e)

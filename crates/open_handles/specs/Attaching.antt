@@ -15,7 +15,8 @@ use Rattle.open_handles.specs.declared.open_file.FileSource.TheVariants.{Upper}
 use Rattle.open_handles.specs.declared.open_file.OpenFile.{OpenFile}
 use Rattle.open_handles.specs.Descriptors as slots
 use Rattle.open_handles.specs.Descriptors.{SetsSlot}
-use Rattle.open_handles.specs.Holding.{tables_in, tracked_of, uses_in}
+use Rattle.open_handles.specs.Handles.{tracked_of}
+use Rattle.open_handles.specs.Holding.{tables_in, uses_in}
 use Rattle.open_handles.specs.Listings.{Closes, OpenDirectory, directory_in, file_in}
 use Rattle.open_handles.specs.TrackedHandles.{SameTracked, SetsTracked, TrackedTables, clients_of, handle_uses, tracked_by}
 

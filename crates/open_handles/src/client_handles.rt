@@ -7,7 +7,7 @@ ghost use Rattle.object_table.specs.Objects.{AreFewer};
 ghost use Rattle.object_table.specs.Opened.{attributes_in};
 ghost use Rattle.open_handles.specs.Attaching.{beside, tables_of, directory_by, file_by, is_attached, located, opened_by, path_of, ChangesClient, ClosesHandle, HasFile, KeepsHolds, KeepsPlaces, OpensHandle};
 ghost use Rattle.open_handles.specs.FreeDescriptors.{HasSlot, IsLowestFree};
-ghost use Rattle.open_handles.specs.Holding.{handle_re_way, tracked_of};
+ghost use Rattle.open_handles.specs.Handles.{handle_re_way, tracked_of};
 ghost use Rattle.open_handles.specs.Listings.{ChangesSlot, GivesNames, listing_of, with_listing, with_place};
 ghost use Rattle.open_handles.specs.TrackedHandles.{IsOn, clients_of, handle_uses, handles_by, re_way_of, tracked_by};
 

@@ -3,8 +3,6 @@ ghost use Rattle.std.specs.Prelude.{◌≡◌, [], ◌+◌, ◌<◌, ◌≤◌, 
 ghost use Rattle.std.specs.BTreeMap.{get, btree_map_len};
 ghost use Rattle.std.specs.Ordering.{nat_cmp};
 ghost use Rattle.object_table.specs.Objects.{Spot, Nowhere, spot_of, holders_of};
-ghost use Rattle.open_handles.specs.Attaching.{AreKnown, HasNoRoom, Attaches, Detaches, Leaves, TakesBack, IsSame, KeepsPlaces, beside, opened_by, file_by};
-ghost use Rattle.open_handles.specs.FreeDescriptors.{IsFull, IsLowestFree};
 ghost use Rattle.open_handles.specs.Holding.{uses_in};
 
 use crate::descriptors::Descriptors;
@@ -33,6 +31,8 @@ pub struct Clients {
 }
 
 impl Clients {
+    ghost use Rattle.open_handles.specs.FreeDescriptors.{IsFull, IsLowestFree};
+    ghost use Rattle.open_handles.specs.Attaching.{AreKnown, HasNoRoom, Attaches, Detaches, Leaves, TakesBack, IsSame, KeepsPlaces, beside, opened_by, file_by};
     /// No clients, and no objects. Names and keys of what is held are hashed with these keys.
     pub fn new(alloc: Global, keys: RandomState) -> Result<Clients, AllocError>
         ensures none { IfOk result (λ clients. (n : ℕ) → get nat_cmp clients.attached n ≡ None) }

@@ -2,7 +2,7 @@
 ghost use Rattle.std.specs.Prelude.{◌≡◌, ◌≤◌, ◌<◌, [], Some, None, true, IfSome, IfNone, OnOk, ℕ, option_copied, option_map, is_some, length, IsSome, vec_len, count_by, map};
 ghost use Rattle.std.specs.List.{list_any};
 ghost use Rattle.open_handles.specs.Descriptors.{opened, SetsSlot, IsFull, IsLowestFree};
-ghost use Rattle.open_handles.specs.Holding.{handle_came_by, handle_is_on, handle_re_way, slot_has_file};
+ghost use Rattle.open_handles.specs.Handles.{handle_came_by, handle_is_on, handle_re_way, slot_has_file};
 
 use crate::handle::{Handle, On};
 use crate::way::Way;
