@@ -61,7 +61,7 @@ impl Clients {
         ensures holds { IfOk result (HoldsMore self.old.objects self.new.objects (At (reverse names.now))) }
         ensures places { KeepsPlaces self.old self.new }
         ensures beside { IfOk result (λ n. (m : ℕ) → beside self.new m ≡ beside self.old m + cond (nat_eq n m) count 0) }
-        ensures room { room self.new.objects ≡ room self.old.objects }
+        ensures room { room self.old.objects ≤ room self.new.objects }
         ensures err { OnErr result (HoldsNoMore self.old self.new) }
     {
         let number = self.objects.hold_at_names(names)?;
@@ -91,7 +91,7 @@ impl Clients {
         ensures holds { IfOk result (HoldsBoth self.old.objects self.new.objects path.now (At path.now)) }
         ensures places { KeepsPlaces self.old self.new }
         ensures beside { IfOk result (λ h. (n : ℕ) → beside self.new n ≡ beside self.old n + handle_uses n h) }
-        ensures room { room self.new.objects ≡ room self.old.objects }
+        ensures room { room self.old.objects ≤ room self.new.objects }
         ensures err { OnErr result (HoldsNoMore self.old self.new) }
     {
         let way = self.hold_way(path)?;
@@ -130,7 +130,7 @@ impl Clients {
         ensures holds { IfOk result (HoldsNew self.old.objects self.new.objects path.now) }
         ensures places { KeepsPlaces self.old self.new }
         ensures beside { IfOk result (λ h. (n : ℕ) → beside self.new n ≡ beside self.old n + handle_uses n h) }
-        ensures room { room self.new.objects ≡ room self.old.objects }
+        ensures room { room self.old.objects ≤ room self.new.objects }
         ensures err { OnErr result (HoldsNoMore self.old self.new) }
     {
         let way = self.hold_way(path)?;
@@ -159,7 +159,7 @@ impl Clients {
         ensures holds { IfOk result (HoldsWay self.old.objects self.new.objects path.now) }
         ensures places { KeepsPlaces self.old self.new }
         ensures beside { IfOk result (λ way. (n : ℕ) → beside self.new n ≡ beside self.old n + way_uses n way) }
-        ensures room { room self.new.objects ≡ room self.old.objects }
+        ensures room { room self.old.objects ≤ room self.new.objects }
         ensures err { OnErr result (HoldsNoMore self.old self.new) }
     {
         let Some((name, parents)) = path.split_last() else {
@@ -177,7 +177,7 @@ impl Clients {
     fn hold_step(&mut self, path: &Path, way: &Option<Way>) -> Result<usize, AllocError>
         requires { IsHeldWay self.old.objects path.now way.now }
         ensures holds { IfOk result (HoldsOne self.old self.new (At path.now)) }
-        ensures room { room self.new.objects ≡ room self.old.objects }
+        ensures room { room self.old.objects ≤ room self.new.objects }
         ensures err { OnErr result (HoldsNoMore self.old self.new) }
     {
         let Some(way) = way else {
