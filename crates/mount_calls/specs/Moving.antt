@@ -1,5 +1,6 @@
 -- What a rename finds and holds before the layers change, and leads along after (rename(2)).
-use Rattle.std.specs.Prelude.{◌≡◌, ◌≢◌, ◌⊎◌, ◌<◌, ℕ, ◌+◌, true, cond, [], ◌∷◌, Option, None, Some, nat_eq}
+use Rattle.std.specs.Prelude.{◌≡◌, ◌≢◌, ◌⊎◌, ◌<◌, ℕ, ◌+◌, true, cond, [], ◌∷◌, Option, None, Some}
+use Rattle.std.specs.Prelude.{nat_eq}
 use Rattle.plain_model.specs.Layers.{Path}
 use Rattle.plain_model.specs.Laws.{IsOutside}
 use Rattle.object_table.specs.Objects.{Objects, At, Upper, spot_of, AreFewer, IsPrepared, IsVacant}
@@ -23,7 +24,8 @@ led_by ks (Some n) (Some w) = handles_by ks n w
 led_by ks (Some n) None = 0
 led_by ks None w = 0
 
--- how often a rename that is under way holds the object of a number: the new directory, once for each handle that gets a way in it
+-- how often a rename that is under way holds the object of a number: the new directory, once for
+-- each handle that gets a way in it
 abbrev pub way_times : ℕ → Option Way → ℕ → ℕ
 way_times count None n = 0
 way_times count (Some w) n = cond (nat_eq w.directory n) count 0
@@ -43,7 +45,8 @@ pub record IsCourse (clients : Clients) (p q : Path) (o e : Object) (course : Co
   pub led : course.led ≡ led_by (tables_of clients) course.number course.from
   pub entering : 0 < course.led → (w : Way) × (course.to ≡ Some w)
 
--- so it takes no memory: there is room where a file of a lower layer is copied up by it, and for a directory that goes along
+-- so it takes no memory: there is room where a file of a lower layer is copied up by it, and for a
+-- directory that goes along
 pub record IsReady (clients : Clients) (p q : Path) (o e : Object) (course : Course) : Type 0 where
   pub course : IsCourse clients p q o e course
   pub room : HasRoom clients.objects p o
@@ -54,13 +57,14 @@ abbrev pub MayHold : Objects → Objects → Path → Type 0
 MayHold old new [] = AreFewer old new
 MayHold old new (n ∷ p) = AreFewer old new ⊎ ((k : ℕ) × HoldsMore old new (At p) k)
 
--- A directory may take the place q from p, where e stands: it is none below itself, and a directory is replaced, or nothing.
+-- A directory may take the place q from p, where e stands: it is none below itself, and a directory
+-- is replaced, or nothing.
 pub record IsPlaceFor (objects : Objects) (p q : Path) (e : Object) : Type 0 where
   pub apart : IsOutside p q
   pub replaced : (e ≡ object.Directory) ⊎ ((e ≡ object.Other) × IsVacant objects (At q))
 
--- Nothing is held below a file of a lower layer that comes from p to q, nor under the key by which it comes there, but what is replaced
--- and has no other name.
+-- Nothing is held below a file of a lower layer that comes from p to q, nor under the key by which
+-- it comes there, but what is replaced and has no other name.
 abbrev pub IsFreeFor : Objects → Path → Path → Object → Object → ℕ → Type 0
 IsFreeFor objects p q object.Lower e key =
     (n : ℕ) → spot_of objects n ≡ Some (At p) →
@@ -69,7 +73,8 @@ IsFreeFor objects p q object.Directory e key = Unit {0}
 IsFreeFor objects p q (object.Upper k last) e key = Unit {0}
 IsFreeFor objects p q object.Other e key = Unit {0}
 
--- What stood at p, which is no directory, stands at q now: so its course may be led along, and the key is that under which the upper has it.
+-- What stood at p, which is no directory, stands at q now: so its course may be led along, and the
+-- key is that under which the upper has it.
 pub record MovesFile (m : Mount) (p q : Path) (course : Course) (key : ℕ) : Type 0 where
   pub file : course.object ≢ object.Directory
   pub found : IsNumberOf m.clients.objects p course.object course.number

@@ -1,7 +1,8 @@
 -- What calls make of the objects that are held, by their numbers, and what is held for an open.
 use Rattle.std.specs.Prelude.{◌≡◌, ◌≢◌, ◌+◌, ◌<◌, ℕ, false, [], Option, None, Some}
 use Rattle.plain_model.specs.Layers.{Path, is_directory, shows}
-use Rattle.object_table.specs.Objects.{Objects, Spot, At, Upper, spot_of, room, AreFewer, IsVacant, NoneBelow}
+use Rattle.object_table.specs.Objects.{Objects, Spot, At, Upper, spot_of, room, AreFewer, IsVacant}
+use Rattle.object_table.specs.Objects.{NoneBelow}
 use Rattle.merged_lookup.specs.declared.found.Topmost.{Topmost}
 use Rattle.merged_lookup.specs.declared.found.Topmost.TheVariants as topmost
 use Rattle.merged_lookup.specs.declared.layers.Layers.{Layers}
@@ -22,7 +23,8 @@ HasRoom objects p object.Directory = Unit {0}
 HasRoom objects p (object.Upper key last) = Unit {0}
 HasRoom objects p object.Other = Unit {0}
 
--- a path isn't the root's, and nothing is held below it, as below a file or a directory without names
+-- a path isn't the root's, and nothing is held below it, as below a file or a directory without
+-- names
 abbrev pub IsBareAt : Objects → Path → Type 0
 IsBareAt objects p = (p ≢ []) × NoneBelow objects p
 
@@ -45,7 +47,8 @@ Becomes becomes old new = (n : ℕ) (spot : Spot) → spot_of new n ≡ Some spo
 abbrev pub ShowsNoFolder : Layers → Path → Type 0
 ShowsNoFolder l p = is_directory (shows 0 (layers_of l) p) ≡ false
 
--- For a handle by the path p what stands there, o, is held, or what is to be made where nothing does, and its way in.
+-- For a handle by the path p what stands there, o, is held, or what is to be made where nothing
+-- does, and its way in.
 abbrev pub HoldsFor : Objects → Objects → Path → Object → Hold → Type 0
 HoldsFor old new p object.Directory h = HoldsBoth old new p (At p) h
 HoldsFor old new p object.Lower h = HoldsBoth old new p (At p) h
@@ -72,7 +75,8 @@ pub record OpensHold (old new : Clients) (c d : ℕ) (h : Hold) : Type 0 where
 
 -- a directory that is to be opened at a path is held there
 abbrev pub IsHeldAt : Objects → Path → Option Topmost → Hold → Type 0
-IsHeldAt objects p top h = (d : Place) → top ≡ Some (topmost.Directory d) → spot_of objects h.object ≡ Some (At p)
+IsHeldAt objects p top h = (d : Place) → top ≡ Some (topmost.Directory d) →
+    spot_of objects h.object ≡ Some (At p)
 
 -- a client's descriptor is closed, and what its handle held is let go
 pub record Shuts (old new : Clients) (c d : ℕ) : Type 0 where

@@ -15,7 +15,8 @@ use Rattle.mount_laws.specs.Looks.{or_else, shows_link}
 
 -- why a seek is refused that is told by what is open alone: nothing is open, or it isn't to the start of a directory
 abbrev pub seek_fault_on : On → ℤ → ℕ → Option Errno
-seek_fault_on (Directory listing) offset whence = when (not (nat_eq (nat_abs offset) 0 && nat_eq whence 0)) EINVAL
+seek_fault_on (Directory listing) offset whence = when (not (nat_eq (nat_abs offset) 0 && nat_eq
+    whence 0)) EINVAL
 seek_fault_on (File f) offset whence = None
 
 abbrev pub seek_fault : Option handles.Handle → ℤ → ℕ → Option Errno
@@ -32,8 +33,10 @@ TRANSFER_MAX = 65536
 
 -- why a read is refused: nothing is open, too many bytes, a directory, a file that isn't open for reading
 abbrev pub read_fault_on : On → ℕ → Option Errno
-read_fault_on (Directory listing) count = or_else (when (nat_lt TRANSFER_MAX count) EINVAL) (Some EISDIR)
-read_fault_on (File f) count = or_else (when (nat_lt TRANSFER_MAX count) EINVAL) (when (not f.reads) EBADF)
+read_fault_on (Directory listing) count =
+    or_else (when (nat_lt TRANSFER_MAX count) EINVAL) (Some EISDIR)
+read_fault_on (File f) count =
+    or_else (when (nat_lt TRANSFER_MAX count) EINVAL) (when (not f.reads) EBADF)
 
 abbrev pub read_fault : Option handles.Handle → ℕ → Option Errno
 read_fault None count = Some EBADF
@@ -45,8 +48,10 @@ written_key f = elim f.source [ Upper k ↦ cond f.writes (Some k) None | Lower 
 
 -- why a write of so many bytes is refused before its place is asked for: nothing is open, too many bytes, or no write access
 abbrev pub write_fault_on : On → ℕ → Option Errno
-write_fault_on (Directory listing) count = or_else (when (nat_lt TRANSFER_MAX count) EINVAL) (Some EBADF)
-write_fault_on (File f) count = or_else (when (nat_lt TRANSFER_MAX count) EINVAL) (when (is_none (written_key f)) EBADF)
+write_fault_on (Directory listing) count =
+    or_else (when (nat_lt TRANSFER_MAX count) EINVAL) (Some EBADF)
+write_fault_on (File f) count =
+    or_else (when (nat_lt TRANSFER_MAX count) EINVAL) (when (is_none (written_key f)) EBADF)
 
 abbrev pub write_fault : Option handles.Handle → ℕ → Option Errno
 write_fault None count = Some EBADF
@@ -55,7 +60,8 @@ write_fault (Some h) count = write_fault_on h.on count
 -- why a truncation is refused: nothing is open, no write access, or a size over the most bytes of a file
 abbrev pub truncate_fault_on : ℕ → On → ℕ → Option Errno
 truncate_fault_on limit (Directory listing) size = Some EINVAL
-truncate_fault_on limit (File f) size = or_else (when (is_none (written_key f)) EINVAL) (when (nat_lt limit size) EFBIG)
+truncate_fault_on limit (File f) size =
+    or_else (when (is_none (written_key f)) EINVAL) (when (nat_lt limit size) EFBIG)
 
 abbrev pub truncate_fault : ℕ → Option handles.Handle → ℕ → Option Errno
 truncate_fault limit None size = Some EBADF

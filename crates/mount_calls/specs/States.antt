@@ -61,7 +61,8 @@ pub record IsHandle (t : Tree) (objects : Dentries) (o : OpenDirectory) (h : Han
 
 -- what a descriptor leads to is what the machine's handle is on
 abbrev pub IsOpenOnAs : Layer → List Layer → Tree → Dentries → ℕ → On → Handle → Type 0
-IsOpenOnAs U lowers t objects n (Directory listing) h = IsHandle t objects (record { directory = n; listing = listing }) h
+IsOpenOnAs U lowers t objects n (Directory listing) h =
+    IsHandle t objects (record { directory = n; listing = listing }) h
 IsOpenOnAs U lowers t objects n (File f) h = IsFile U lowers t f h
 
 abbrev pub IsOpenAs : Layer → List Layer → Tree → Dentries → handles.Handle → Handle → Type 0

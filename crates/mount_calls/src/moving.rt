@@ -3,13 +3,15 @@ ghost use Rattle.std.specs.Prelude.{◌≡◌, ◌≢◌, ◌+◌, ◌<◌, ◌�
 ghost use Rattle.plain_model.specs.Layers.{Path as Names};
 ghost use Rattle.object_table.specs.Objects.{AreFewer, IsPrepared};
 ghost use Rattle.open_handles.specs.declared.way.Way.{Way};
-ghost use Rattle.open_handles.specs.Attaching.{beside, tables_of, HoldsNoMore, KeepsAttached, KeepsClients, SameBeside};
+ghost use Rattle.open_handles.specs.Attaching.{beside, tables_of, HoldsNoMore, KeepsAttached};
+ghost use Rattle.open_handles.specs.Attaching.{KeepsClients, SameBeside};
 ghost use Rattle.open_handles.specs.Holding.{IsWayTo};
 ghost use Rattle.open_handles.specs.TrackedHandles.{clients_of};
 ghost use Rattle.notice_laws.specs.declared.object.Object.TheVariants as objects;
 ghost use Rattle.notice_laws.specs.Moves.{Moves, ReWays};
 ghost use Rattle.notice_laws.specs.Objects.{IsNumberOf};
-ghost use Rattle.mount_calls.specs.Moving.{led_by, pinned_by, way_times, IsReady, MayHold, MovesFile};
+ghost use Rattle.mount_calls.specs.Moving.{led_by, pinned_by, way_times, IsReady, MayHold};
+ghost use Rattle.mount_calls.specs.Moving.{MovesFile};
 ghost use Rattle.mount_calls.specs.Numbers.{Becomes, HasRoom};
 ghost use Rattle.mount_calls.specs.States.{StaysState};
 
@@ -23,8 +25,8 @@ use std::alloc::AllocError;
 impl Mount {
     /// Takes the memory that a rename needs for what is held to go along, of what stands at the old
     /// path to the new one, over what stands there, and gives its course. The new directory is held
-    /// once for each handle that gets a way in it, which `cancel_move` lets go. An allocation failure
-    /// leaves what is held.
+    /// once for each handle that gets a way in it, which `cancel_move` lets go. An allocation
+    /// failure leaves what is held.
     pub fn prepare_move(
         &mut self,
         old: &Path,
@@ -153,8 +155,8 @@ impl Mount {
         self.clients.cancel_rename();
     }
 
-    /// Leads a file along after the layers were changed: one of a lower layer is in the upper, under
-    /// a key, and what is replaced loses a name. It takes no memory.
+    /// Leads a file along after the layers were changed: one of a lower layer is in the upper,
+    /// under a key, and what is replaced loses a name. It takes no memory.
     pub fn move_file(&mut self, course: &Course, key: usize)
         requires { (p q : Names) × MovesFile self.old p q course.now key }
         ensures clients { KeepsClients self.old.clients self.new.clients }

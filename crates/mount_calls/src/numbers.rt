@@ -1,7 +1,8 @@
 // The numbers of what a call changes, and what becomes of the objects by it.
 ghost use Rattle.std.specs.Prelude.{◌≡◌, ◌<◌, ◌≤◌, ℕ, None, Some, IsSome, OnOk, true};
 ghost use Rattle.plain_model.specs.Layers.{Path as Names};
-ghost use Rattle.object_table.specs.Objects.{Nowhere, Upper, holders_of, room, spot_of, IsBare, IsVacant, SetsSpot};
+ghost use Rattle.object_table.specs.Objects.{Nowhere, Upper, holders_of, room, spot_of, IsBare};
+ghost use Rattle.object_table.specs.Objects.{IsVacant, SetsSpot};
 ghost use Rattle.open_handles.specs.Attaching.{tables_of, HoldsNoMore, KeepsClients, SameBeside};
 ghost use Rattle.open_handles.specs.Holding.{IsWayTo};
 ghost use Rattle.notice_laws.specs.Objects.{IsNumberOf};

@@ -20,7 +20,8 @@ ghost use Rattle.copy_up.specs.Leaves.{CopiesLeaf};
 ghost use Rattle.copy_up.specs.Showing.{ChangesNoSight, GainsParents, StaysSound, StaysThin};
 ghost use Rattle.copy_up.specs.Texts.{KeepsTexts};
 ghost use Rattle.object_table.specs.Objects.{SameSpots};
-ghost use Rattle.open_handles.specs.Attaching.{beside, tables_of, KeepsAttached, LetsGo, SameBeside};
+ghost use Rattle.open_handles.specs.Attaching.{beside, tables_of, KeepsAttached, LetsGo};
+ghost use Rattle.open_handles.specs.Attaching.{SameBeside};
 ghost use Rattle.mount_calls.specs.Keeping.{BringsNone, KeepsLayers};
 ghost use Rattle.open_handles.specs.FreeDescriptors.{HasSlot, IsLowestFree};
 ghost use Rattle.open_handles.specs.TrackedHandles.{handle_uses, SameTracked};
@@ -146,11 +147,11 @@ impl Mount {
         self.clients.let_go(hold);
     }
 
-    /// Makes an open that was judged, by what was seen at its path, and for which it was prepared: of
-    /// what the path shows, or of a
-    /// file that is made where it shows nothing; a symbolic link isn't followed. A file of a lower
-    /// layer that is opened for writing is copied up first (overlayfs.rst, "Non-directories"), and a
-    /// marked one of the upper gets bytes of its own ("Metadata only copy up").
+    /// Makes an open that was judged, by what was seen at its path, and for which it was prepared:
+    /// of what the path shows, or of a file that is made where it shows nothing; a symbolic link
+    /// isn't followed. A file of a lower layer that is opened for writing is copied up first
+    /// (overlayfs.rst, "Non-directories"), and a marked one of the upper gets bytes of its own
+    /// ("Metadata only copy up").
     pub fn open_judged(
         &mut self,
         client: u64,

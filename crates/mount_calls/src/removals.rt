@@ -86,7 +86,8 @@ pub(crate) fn rmdir_and_free(
 }
 
 /// `rename` of what was judged, which frees what lost its last name by it, unless a handle holds it:
-/// none does where that has no number. Returns the key under which the upper has the file that moved, 0 for a directory.
+/// none does where that has no number. Returns the key under which the upper has the file that
+/// moved, 0 for a directory.
 pub(crate) fn rename_and_free(
     alloc: Global,
     layers: &mut Layers,
@@ -124,8 +125,8 @@ pub(crate) fn rename_and_free(
     }
 }
 
-// Frees what lost its last name, if anything did, unless a handle holds it, which is looked for where
-// one may.
+// Frees what lost its last name, if anything did, unless a handle holds it, which is looked for
+// where one may.
 fn free_released(layers: &mut Layers, clients: &Clients, released: Option<usize>, may_be_held: bool)
     requires nameless { (key : ℕ) → released ≡ Some key → IsNameless layers.old.upper key }
     requires held { (key : ℕ) → released ≡ Some key → may_be_held ≡ false →

@@ -79,8 +79,9 @@ impl Mount {
     }
 
     /// Moves what was judged to move to its new path, which was looked at, and the directories with
-    /// all that is held below, for which it was prepared. Returns the key under which the upper has the file that moved, 0 for a directory. An
-    /// allocation failure leaves all that is shown as it was.
+    /// all that is held below, for which it was prepared. Returns the key under which the upper has
+    /// the file that moved, 0 for a directory. An allocation failure leaves all that is shown as it
+    /// was.
     pub fn rename_moving(
         &mut self,
         old: &Path,

@@ -23,8 +23,8 @@ use Rattle.open_handles.specs.declared.way.Way.{Way}
 use Rattle.object_table.specs.Objects.{Objects, Spot, At, Upper, Nowhere, spot_of}
 use Rattle.open_handles.specs.TrackedHandles.{TrackedTables, clients_of, tracked_by}
 
--- What is kept for watches: the objects that are held, what each handle is on, the instances of the clients, whose watches are on the
--- objects of numbers, and how many renames moved something.
+-- What is kept for watches: the objects that are held, what each handle is on, the instances of the
+-- clients, whose watches are on the objects of numbers, and how many renames moved something.
 pub record Notified : Type 0 where
   pub objects : Objects
   pub handles : TrackedTables

@@ -10,9 +10,9 @@ pub struct Known {
     pub number: Option<usize>,
 }
 
-/// What a rename finds and holds before anything is moved: what moves, its number and the ways in to
-/// its old path and its new one; what is replaced, its number, and again where the object ends by it;
-/// and for how many handles, which came by the old way, the new directory is held.
+/// What a rename finds and holds before anything is moved: what moves, its number and the ways in
+/// to its old path and its new one; what is replaced, its number, and again where the object ends
+/// by it; and for how many handles, which came by the old way, the new directory is held.
 #[derive(Clone, Copy)]
 pub struct Course {
     pub object: Object,

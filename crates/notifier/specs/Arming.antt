@@ -1,5 +1,5 @@
--- What it means that a client's slot is armed on what stands at a path, by the number under which that is held, and when it is refused,
--- by the number that it has before.
+-- What it means that a client's slot is armed on what stands at a path, by the number under which
+-- that is held, and when it is refused, by the number that it has before.
 use Rattle.std.specs.Prelude.{◌≡◌, ℕ, Option, None, Some}
 use Rattle.ov_base.specs.declared.errno.Errno.{Errno}
 use Rattle.ov_base.specs.declared.node_id.NodeId.TheVariants.{New}
@@ -17,7 +17,8 @@ use Rattle.notice_laws.specs.Steps.{IsSpotOf}
 use Rattle.notifier.specs.Notifying.{AreCounted}
 use Rattle.notifier.specs.Watches.{Watches}
 
--- the refusal of an arm through a client's slot of the object of a number, or of one that isn't held
+-- the refusal of an arm through a client's slot of the object of a number, or of one that isn't
+-- held
 abbrev pub refusal_of : Watches → ℕ → ℕ → Option ℕ → Option Errno
 refusal_of k c slot number =
     number_refusal (watches_of (instance_of k.instances c)) (armed_of (instance_of k.instances c)) slot number
@@ -42,8 +43,10 @@ pub record ArmsAt (before after : Clients) (old new : Watches) (c slot mask : �
   pub renames : new.renames ≡ old.renames
   pub given : n ≡ watch_of old c number
 
--- AN ARM WAS JUDGED of what stands at p through a client's slot: this is its refusal, by the number under which that is held, if it is.
-pub record IsArmJudged (clients : Clients) (k : Watches) (c slot : ℕ) (p : Path) (o : Object) (refusal : Option Errno) : Type 0 where
+-- AN ARM WAS JUDGED of what stands at p through a client's slot: this is its refusal, by the number
+-- under which that is held, if it is.
+pub record IsArmJudged (clients : Clients) (k : Watches) (c slot : ℕ) (p : Path) (o : Object)
+    (refusal : Option Errno) : Type 0 where
   pub number : Option ℕ
   pub found : IsNumberOf clients.objects p o number
   pub judged : refusal ≡ refusal_of k c slot number

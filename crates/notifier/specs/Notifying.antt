@@ -8,9 +8,11 @@ use Rattle.watch_table.specs.Listening.{is_on}
 use Rattle.notice_laws.specs.Notified.{Notified}
 use Rattle.notifier.specs.Watches.{Watches}
 
--- WHAT THE LAWS OF NOTICES SEE: the objects that the mount holds, what each handle is on, and the watches
+-- WHAT THE LAWS OF NOTICES SEE: the objects that the mount holds, what each handle is on, and the
+-- watches
 abbrev pub notified : Clients → Watches → Notified
-notified clients k = record { objects = clients.objects; handles = tables_of clients; instances = k.instances; renames = k.renames }
+notified clients k = record { objects = clients.objects; handles = tables_of clients; instances =
+    k.instances; renames = k.renames }
 
 -- how many clients watch the object of a number
 abbrev pub watchers : List Instance → ℕ → ℕ

@@ -24,7 +24,8 @@ impl<F: Callback, R: Rule> Notifier<F, R> {
     /// Notifies that an object has a further name, by the way in to that. It takes no memory.
     pub fn linked(&mut self, clients: &mut Clients, way: &Option<Way>, number: Option<usize>)
         requires counted { AreCounted clients.old self.old }
-        ensures told { IsTold R.shows clients.old clients.new self.old self.new (in_way way.now events.CREATE 0 ++ of_number number events.ATTRIB) }
+        ensures told { IsTold R.shows clients.old clients.new self.old self.new (in_way way.now
+            events.CREATE 0 ++ of_number number events.ATTRIB) }
         ensures renames { self.new.renames ≡ self.old.renames }
     {
         self.tell_way(clients, way, CREATE);
@@ -45,7 +46,9 @@ impl<F: Callback, R: Rule> Notifier<F, R> {
     /// takes no memory.
     pub fn unlinked(&mut self, clients: &mut Clients, known: &Known, ended: Option<usize>)
         requires counted { AreCounted clients.old self.old }
-        ensures told { IsTold R.shows clients.old clients.new self.old self.new (in_way known.now.way events.DELETE 0 ++ of_number known.now.number events.ATTRIB ++ of_end ended) }
+        ensures told { IsTold R.shows clients.old clients.new self.old self.new (in_way
+            known.now.way events.DELETE 0 ++ of_number known.now.number events.ATTRIB ++ of_end
+            ended) }
         ensures renames { self.new.renames ≡ self.old.renames }
     {
         self.tell_way(clients, &known.way, DELETE);
@@ -53,10 +56,12 @@ impl<F: Callback, R: Rule> Notifier<F, R> {
         self.tell_end(clients, ended);
     }
 
-    /// Notifies that a directory is gone, and again where the object ends by it. It takes no memory.
+    /// Notifies that a directory is gone, and again where the object ends by it. It takes no
+    /// memory.
     pub fn removed(&mut self, clients: &mut Clients, way: &Option<Way>, ended: Option<usize>)
         requires counted { AreCounted clients.old self.old }
-        ensures told { IsTold R.shows clients.old clients.new self.old self.new (in_way way.now (events.DELETE + events.ISDIR) 0 ++ of_end ended) }
+        ensures told { IsTold R.shows clients.old clients.new self.old self.new (in_way way.now
+            (events.DELETE + events.ISDIR) 0 ++ of_end ended) }
         ensures renames { self.new.renames ≡ self.old.renames }
     {
         self.tell_way(clients, way, DELETE + ISDIR);

@@ -60,7 +60,8 @@ impl<F: Callback, R: Rule> Notifier<F, R> {
     pub fn muted(&mut self, clients: &mut Clients, client: u64) -> Vec<Hook<F, R>>
         requires there { IsSome (instance_of self.old.instances client) }
         requires counted { AreCounted clients.old self.old }
-        ensures mutes { self.new.instances ≡ filter (λ e. not (nat_eq e.client client)) self.old.instances }
+        ensures mutes { self.new.instances ≡
+            filter (λ e. not (nat_eq e.client client)) self.old.instances }
         ensures renames { self.new.renames ≡ self.old.renames }
         ensures ends { LetsEnd clients.old clients.new }
         ensures counted { AreCounted clients.new self.new }
@@ -76,7 +77,8 @@ impl<F: Callback, R: Rule> Notifier<F, R> {
     pub fn taken(&mut self, alloc: Global, client: u64, count: u32) -> Result<Notices, AllocError>
         requires { IsSome (instance_of self.old.instances client) }
         ensures taken { IfOk result (λ notices. notices ≡ take count (queue_of (instance_of self.old.instances client))) }
-        ensures takes { OnOk result (self.new.instances ≡ at_client client (λ e. record e { queue = drop count e.queue }) self.old.instances) }
+        ensures takes { OnOk result (self.new.instances ≡
+            at_client client (λ e. record e { queue = drop count e.queue }) self.old.instances) }
         ensures renames { self.new.renames ≡ self.old.renames }
         ensures err { OnErr result (self.new ≡ self.old) }
     {

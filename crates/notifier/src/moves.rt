@@ -42,7 +42,8 @@ impl<F: Callback, R: Rule> Notifier<F, R> {
         requires counted { AreCounted clients.old self.old }
         requires bits { is_one_of MOVES bits ≡ true }
         requires cookie { cookie ≢ 0 }
-        ensures told { IsTold R.shows clients.old clients.new self.old self.new (in_way way.now bits cookie) }
+        ensures told { IsTold R.shows clients.old clients.new self.old self.new (in_way way.now
+            bits cookie) }
         ensures renames { self.new.renames ≡ self.old.renames }
     {
         if let Some(way) = way {
@@ -53,7 +54,8 @@ impl<F: Callback, R: Rule> Notifier<F, R> {
     // Tells what was replaced that it has a name less, where it is no directory.
     fn tell_replaced(&mut self, clients: &mut Clients, over: Object, number: Option<usize>)
         requires counted { AreCounted clients.old self.old }
-        ensures told { IsTold R.shows clients.old clients.new self.old self.new (of_replaced over number) }
+        ensures told { IsTold R.shows clients.old clients.new self.old self.new (of_replaced over
+            number) }
         ensures renames { self.new.renames ≡ self.old.renames }
     {
         match over {
@@ -67,7 +69,9 @@ impl<F: Callback, R: Rule> Notifier<F, R> {
     pub fn moved(&mut self, clients: &mut Clients, course: &Course)
         requires counted { AreCounted clients.old self.old }
         requires few { self.old.renames + 1 < 2 ^ 64 }
-        ensures told { IsTold R.shows clients.old clients.new self.old self.new (of_move course.now.from course.now.to course.now.object course.now.over (cookies.cookie_of (suc self.old.renames)) course.now.number course.now.replaced course.now.ended) }
+        ensures told { IsTold R.shows clients.old clients.new self.old self.new (of_move
+            course.now.from course.now.to course.now.object course.now.over (cookies.cookie_of
+            (suc self.old.renames)) course.now.number course.now.replaced course.now.ended) }
         ensures renames { self.new.renames ≡ suc self.old.renames }
     {
         let cookie = self.count_rename();

@@ -25,7 +25,8 @@ impl<F: Callback, R: Rule> Notifier<F, R> {
     pub(crate) fn tell_way(&mut self, clients: &mut Clients, way: &Option<Way>, bits: u32)
         requires counted { AreCounted clients.old self.old }
         requires bits { IsOther bits }
-        ensures told { IsTold R.shows clients.old clients.new self.old self.new (in_way way.now bits 0) }
+        ensures told { IsTold R.shows clients.old clients.new self.old self.new (in_way way.now
+            bits 0) }
         ensures renames { self.new.renames ≡ self.old.renames }
     {
         if let Some(way) = way {
@@ -37,7 +38,8 @@ impl<F: Callback, R: Rule> Notifier<F, R> {
     pub(crate) fn tell_number(&mut self, clients: &mut Clients, number: Option<usize>, bits: u32)
         requires counted { AreCounted clients.old self.old }
         requires bits { IsOther bits }
-        ensures told { IsTold R.shows clients.old clients.new self.old self.new (of_number number bits) }
+        ensures told { IsTold R.shows clients.old clients.new self.old self.new (of_number number
+            bits) }
         ensures renames { self.new.renames ≡ self.old.renames }
     {
         if let Some(number) = number {
@@ -55,7 +57,8 @@ impl<F: Callback, R: Rule> Notifier<F, R> {
     )
         requires counted { AreCounted clients.old self.old }
         requires bits { IsOther bits }
-        ensures told { IsTold R.shows clients.old clients.new self.old self.new (of_both way.now number bits) }
+        ensures told { IsTold R.shows clients.old clients.new self.old self.new (of_both way.now
+            number bits) }
         ensures renames { self.new.renames ≡ self.old.renames }
     {
         self.tell_way(clients, way, bits);

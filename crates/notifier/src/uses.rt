@@ -18,7 +18,8 @@ impl<F: Callback, R: Rule> Notifier<F, R> {
         requires bits { IsOther bits }
         requires open { (h : Handle) × (opened_by clients.old client descriptor ≡ Some h) }
         ensures told { (h : Handle) → opened_by clients.old client descriptor ≡ Some h →
-            IsTold R.shows clients.old clients.new self.old self.new (of_both h.way (Some h.object) bits) }
+            IsTold R.shows clients.old clients.new self.old self.new (of_both h.way (Some
+                h.object) bits) }
         ensures renames { self.new.renames ≡ self.old.renames }
     {
         if let Some(handle) = clients.opened(client, descriptor) {
@@ -32,7 +33,8 @@ impl<F: Callback, R: Rule> Notifier<F, R> {
     pub fn closed(&mut self, clients: &mut Clients, hold: &Hold, ended: Option<usize>, bits: u32)
         requires counted { AreCounted clients.old self.old }
         requires bits { IsOther bits }
-        ensures told { IsTold R.shows clients.old clients.new self.old self.new (of_both hold.now.way (Some hold.now.object) bits ++ of_end ended) }
+        ensures told { IsTold R.shows clients.old clients.new self.old self.new (of_both
+            hold.now.way (Some hold.now.object) bits ++ of_end ended) }
         ensures renames { self.new.renames ≡ self.old.renames }
     {
         self.tell_both(clients, &hold.way, Some(hold.object), bits);

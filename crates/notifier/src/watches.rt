@@ -64,9 +64,8 @@ impl<F: Callback, R: Rule> Notifier<F, R> {
     }
 
     /// Arms what stands at a path, a directory or a file, for a client through a slot, where
-    /// nothing
-    /// refuses it, and gives the watch's number. An allocation failure leaves what is tracked and
-    /// watched.
+    /// nothing refuses it, and gives the watch's number. An allocation failure leaves what is
+    /// tracked and watched.
     pub fn armed(
         &mut self,
         clients: &mut Clients,
@@ -107,7 +106,8 @@ impl<F: Callback, R: Rule> Notifier<F, R> {
         requires there { list_any (is_numbered watch) (watches_of (instance_of self.old.instances client)) ≡ true }
         requires counted { AreCounted clients.old self.old }
         ensures told { IsTold R.shows clients.old clients.new self.old self.new
-            (record { aim = plain.Only client watch; bits = plain.IGNORED; cookie = 0; name = None } ∷ []) }
+            (record { aim = plain.Only client watch; bits = plain.IGNORED; cookie = 0; name = None
+                } ∷ []) }
         ensures renames { self.new.renames ≡ self.old.renames }
     {
         self.watches.lawful();

@@ -100,7 +100,8 @@ module _ (d e : Dentries) (f g : Files) where
 
   pub same-spots : SameHandles d e → SameSpots older newer
   unfolding holders_of
-  same-spots same = record { spots = λ n. kept n (same.located n); holders = same.counted; places = same.located }
+  same-spots same = record { spots = λ n. kept n (same.located n); holders = same.counted; places
+      = same.located }
 
   pub opens-holds : (p : Path) (k : ℕ) → Opens d e p k → Holds older newer (At p) k
   unfolding holders_of
@@ -158,8 +159,10 @@ module _ (d e : Dentries) (f g : Files) where
   }
 
   -- where that is nowhere
-  pub nowhere-sets : (k : ℕ) (a : Unlisted) → spot_at (tree.Apart a) ≡ Nowhere → SetsApart d e k a → SetsSpot older newer k (Some Nowhere) (holders_of older k)
-  nowhere-sets k a nowhere sets = subst (λ (x : Spot). SetsSpot older newer k (Some x) (holders_of older k)) nowhere (apart-sets k a sets)
+  pub nowhere-sets : (k : ℕ) (a : Unlisted) → spot_at (tree.Apart a) ≡ Nowhere →
+      SetsApart d e k a → SetsSpot older newer k (Some Nowhere) (holders_of older k)
+  nowhere-sets k a nowhere sets = subst (λ (x : Spot). SetsSpot older newer k (Some x) (holders_of
+      older k)) nowhere (apart-sets k a sets)
 
   pub holders-sets : (k count : ℕ) → SetsHolders d e k count → SetsSpot older newer k (spot_left count (spot_of older k)) count
   unfolding holders_of spot_of
@@ -519,11 +522,13 @@ pub OnOk-map : {X E P Q : Type 0} (r : Result X E) → (P → Q) → OnOk r P �
 OnOk-map (Ok x) then said = then said
 OnOk-map (Err e) then said = tt
 
-pub IfOk-map : {X E : Type 0} {P Q : X → Type 0} (r : Result X E) → ((x : X) → P x → Q x) → IfOk r P → IfOk r Q
+pub IfOk-map : {X E : Type 0} {P Q : X → Type 0} (r : Result X E) → ((x : X) → P x → Q x) →
+    IfOk r P → IfOk r Q
 IfOk-map (Ok x) then said = then x said
 IfOk-map (Err e) then said = tt
 
-pub IfSome-map : {X : Type 0} {P Q : X → Type 0} (o : Option X) → ((x : X) → P x → Q x) → IfSome o P → IfSome o Q
+pub IfSome-map : {X : Type 0} {P Q : X → Type 0} (o : Option X) → ((x : X) → P x → Q x) →
+    IfSome o P → IfSome o Q
 IfSome-map None then said = tt
 IfSome-map (Some x) then said = then x said
 
@@ -532,6 +537,7 @@ IfNone-map None then said = then said
 IfNone-map (Some x) then said = tt
 
 -- a call changes no key, whether it succeeds or leaves all where it was
-pub keys-result : {X E : Type 0} (old new : Objects) (P : X → Type 0) (r : Result X E) → ((x : X) → P x → KeepsKeys old new) → IfOk r P → OnErr r (SameSpots old new) → KeepsKeys old new
+pub keys-result : {X E : Type 0} (old new : Objects) (P : X → Type 0) (r : Result X E) →
+    ((x : X) → P x → KeepsKeys old new) → IfOk r P → OnErr r (SameSpots old new) → KeepsKeys old new
 keys-result old new P (Ok x) then said same = then x said
 keys-result old new P (Err e) then said same = keys-same old new same

@@ -103,7 +103,8 @@ impl ObjectTable {
     /// The path of an object; none where it stands at none.
     pub fn path(&self, alloc: Global, number: usize) -> Result<Option<Path>, AllocError>
         requires { IsSome (spot_of self.now number) }
-        ensures { IfOk result (λ path. path ≡ option_and_then directory.path_in (directory.opened self.now.tree number)) }
+        ensures { IfOk result (λ path. path ≡
+            option_and_then directory.path_in (directory.opened self.now.tree number)) }
     {
         self.tree.path(alloc, number)
     }
@@ -111,7 +112,8 @@ impl ObjectTable {
     /// The attributes that a directory had when it was removed; none where it wasn't.
     pub fn removed(&self, number: usize) -> Option<&Attributes>
         requires { IsSome (spot_of self.now number) }
-        ensures { option_copied result ≡ option_and_then directory.attributes_in (directory.opened self.now.tree number) }
+        ensures { option_copied result ≡
+            option_and_then directory.attributes_in (directory.opened self.now.tree number) }
     {
         self.tree.removed(number)
     }
@@ -176,7 +178,8 @@ impl ObjectTable {
     pub fn hold(&mut self, number: usize, count: usize) -> Result<(), AllocError>
         requires { IsSome (spot_of self.old number) }
         ensures ok { OnOk result (SetsSpot self.old self.new number (spot_of self.old number) (holders_of self.old number + count)) }
-        ensures place { directory.opened self.new.tree number ≡ directory.opened self.old.tree number }
+        ensures place { directory.opened self.new.tree number ≡
+            directory.opened self.old.tree number }
         ensures countable { OnOk result (holders_of self.old number + count ≤ HOLDERS_MAX) }
         ensures err { OnErr result (SameSpots self.old self.new) }
         ensures succeeds { holders_of self.old number + count ≤ HOLDERS_MAX → IsOk result }
@@ -232,19 +235,23 @@ impl ObjectTable {
     pub fn lose(&mut self, number: usize)
         requires there { IsSome (spot_of self.old number) }
         requires bare { IsBare self.old number }
-        ensures loses { SetsSpot self.old self.new number (Some Nowhere) (holders_of self.old number) }
+        ensures loses { SetsSpot self.old self.new number (Some Nowhere) (holders_of self.old
+            number) }
         ensures room { room self.old ≤ room self.new }
     {
         self.leave(number, Unlisted::Nowhere);
     }
 
-    /// Notes that a directory was removed, and keeps the attributes that it has for who has it open.
+    /// Notes that a directory was removed, and keeps the attributes that it has for who has it
+    /// open.
     /// It takes no memory.
     pub fn remove(&mut self, number: usize, attributes: Attributes)
         requires there { IsSome (spot_of self.old number) }
         requires bare { IsBare self.old number }
-        ensures loses { SetsSpot self.old self.new number (Some Nowhere) (holders_of self.old number) }
-        ensures place { directory.SetsApart self.old.tree self.new.tree number (unlisted.Removed attributes) }
+        ensures loses { SetsSpot self.old self.new number (Some Nowhere) (holders_of self.old
+            number) }
+        ensures place { directory.SetsApart self.old.tree self.new.tree number (unlisted.Removed
+            attributes) }
         ensures room { room self.old ≤ room self.new }
     {
         self.leave(number, Unlisted::Removed(attributes));
@@ -286,7 +293,8 @@ impl ObjectTable {
     pub fn release(&mut self, number: usize, count: usize)
         requires { count ≤ holders_of self.old number }
         ensures releases { let left = holders_of self.old number - count in SetsSpot self.old self.new number (spot_left left (spot_of self.old number)) left }
-        ensures place { holders_of self.old number - count ≢ 0 → directory.opened self.new.tree number ≡ directory.opened self.old.tree number }
+        ensures place { holders_of self.old number - count ≢ 0 →
+            directory.opened self.new.tree number ≡ directory.opened self.old.tree number }
         ensures room { room self.old ≤ room self.new }
     {
         self.lawful();
@@ -320,7 +328,8 @@ impl ObjectTable {
     }
 
     /// Leads what is at a path or below it to the same places under another path. What is at that
-    /// other path is replaced, and nowhere then; of a directory the attributes are kept that it has.
+    /// other path is replaced, and nowhere then; of a directory the attributes are kept that it
+    /// has.
     /// It takes no memory.
     pub fn rename(&mut self, old: &Path, new: &Path, replaced: Option<Attributes>)
         requires prepared { IsPrepared self.old old.now new.now }
@@ -328,7 +337,8 @@ impl ObjectTable {
         requires apart { IsOutside old.now new.now }
         requires below { NoneBelow self.old new.now }
         ensures moves { MovesSpots self.old self.new old.now new.now }
-        ensures places { renames.Moves self.old.tree self.new.tree old.now new.now (Some (left_of replaced)) }
+        ensures places { renames.Moves self.old.tree self.new.tree old.now new.now (Some (left_of
+            replaced)) }
         ensures settled { IsSettled self.new }
         ensures room { room self.new ≡ room self.old }
     {

@@ -16,8 +16,8 @@ use std::hash::RandomState;
 use std::marker::Model;
 
 /// The objects that handles and watches hold, each under one number, however many hold it. What
-/// stands at a path, a directory or a file, is kept as a tree with the directories above it, so that
-/// no handle knows a path. What stands in no directory is kept apart from it.
+/// stands at a path, a directory or a file, is kept as a tree with the directories above it, so
+/// that no handle knows a path. What stands in no directory is kept apart from it.
 #[derive(Drop)]
 pub struct ObjectTree {
     entries: Slab<Dentry>,
@@ -127,8 +127,8 @@ impl ObjectTree {
     }
 
     /// Leads what is held at a path or below it to the same places under another path, whatever is
-    /// held there. What is held at that other path, which is replaced, stands apart then, and this is
-    /// known of it. It takes no memory.
+    /// held there. What is held at that other path, which is replaced, stands apart then, and this
+    /// is known of it. It takes no memory.
     pub fn rename(&mut self, old: &Path, new: &Path, replaced: Option<Unlisted>)
         requires ready { IsReady self.old old.now new.now }
         requires not_root { new.now ≢ [] }

@@ -103,6 +103,9 @@ pub directory-is : (x : Option Handle) (o : OpenDirectory) → directory_in x �
 directory-is None o e = absurd (cc)
 directory-is (Some h) o e = let on = by h.on e in (h, refl, on.0, on.1)
   where
-    by : (on : On) → directory_on h.object on ≡ Some o → (h.object ≡ o.directory) × (on ≡ Directory o.listing)
-    by (Directory listing) e = (ap (λ (z : Option OpenDirectory). option_map_or (λ (y : OpenDirectory). y.directory) z h.object) e, ap (λ (z : Option OpenDirectory). Directory (option_map_or (λ (y : OpenDirectory). y.listing) z None)) e)
+    by : (on : On) → directory_on h.object on ≡ Some o →
+        (h.object ≡ o.directory) × (on ≡ Directory o.listing)
+    by (Directory listing) e = (ap (λ (z : Option OpenDirectory). option_map_or (λ (y :
+        OpenDirectory). y.directory) z h.object) e, ap (λ (z : Option OpenDirectory). Directory
+        (option_map_or (λ (y : OpenDirectory). y.listing) z None)) e)
     by (File f) e = absurd (cc)

@@ -1,5 +1,6 @@
 -- How clients come and go, what they have open, and what is held beside their handles.
-use Rattle.std.specs.Prelude.{◌≡◌, ◌≢◌, ◌≤◌, ℕ, ◌+◌, ◌-◌, not, Bool, List, [], ◌∷◌, ◌++◌, Option, Some, None, Result, IfOk, is_some, nat_eq, nat_lt, filter, cond, true}
+use Rattle.std.specs.Prelude.{◌≡◌, ◌≢◌, ◌≤◌, ℕ, ◌+◌, ◌-◌, not, Bool, List, [], ◌∷◌, ◌++◌, Option}
+use Rattle.std.specs.Prelude.{Some, None, Result, IfOk, is_some, nat_eq, nat_lt, filter, cond, true}
 use Rattle.std.specs.Option.{option_and_then}
 use Rattle.std.specs.BTreeMap.{get, btree_map_len}
 use Rattle.std.specs.Ordering.{nat_cmp}
@@ -18,7 +19,8 @@ use Rattle.open_handles.specs.Descriptors.{SetsSlot}
 use Rattle.open_handles.specs.Handles.{tracked_of}
 use Rattle.open_handles.specs.Holding.{tables_in, uses_in}
 use Rattle.open_handles.specs.Listings.{Closes, OpenDirectory, directory_in, file_in}
-use Rattle.open_handles.specs.TrackedHandles.{SameTracked, SetsTracked, TrackedTables, clients_of, handle_uses, tracked_by}
+use Rattle.open_handles.specs.TrackedHandles.{SameTracked, SetsTracked, TrackedTables, clients_of}
+use Rattle.open_handles.specs.TrackedHandles.{handle_uses, tracked_by}
 
 -- what a client has open under a descriptor
 abbrev pub opened_by : Clients → ℕ → ℕ → Option handles.Handle
@@ -54,12 +56,15 @@ SameBeside old new = (n : ℕ) → beside new n ≡ beside old n
 
 -- each directory that a client has open still stands where it stood
 abbrev pub KeepsPlaces : Clients → Clients → Type 0
-KeepsPlaces old new = (c d : ℕ) (o : OpenDirectory) (l : Location) → directory_by new c d ≡ Some o → located old o ≡ Some l → located new o ≡ Some l
+KeepsPlaces old new = (c d : ℕ) (o : OpenDirectory) (l : Location) →
+    directory_by new c d ≡ Some o → located old o ≡ Some l → located new o ≡ Some l
 
 -- every number that a handle has is that of an object that is held
 pub record AreKnown (clients : Clients) : Type 0 where
-  pub opened : (c d : ℕ) (h : handles.Handle) → opened_by clients c d ≡ Some h → (n : ℕ) → handle_uses n (tracked_of h) ≤ holders_of clients.objects n
-  pub beside : (n : ℕ) → beside clients n + uses_in clients.attached n ≡ holders_of clients.objects n
+  pub opened : (c d : ℕ) (h : handles.Handle) → opened_by clients c d ≡ Some h → (n : ℕ) →
+      handle_uses n (tracked_of h) ≤ holders_of clients.objects n
+  pub beside : (n : ℕ) → beside clients n + uses_in clients.attached n ≡
+      holders_of clients.objects n
 
 -- the next number is attached, with no descriptors, and every other client stays as it is
 pub record Attaches (old new : Clients) (n : ℕ) : Type 0 where
@@ -80,7 +85,8 @@ pub record Leaves (old new : Clients) (n : ℕ) : Type 0 where
   pub gone : get nat_cmp new.attached n ≡ None
   pub others : (m : ℕ) → m ≢ n → get nat_cmp new.attached m ≡ get nat_cmp old.attached m
   pub objects : new.objects ≡ old.objects
-  pub tables : clients_of (tables_of new) ≡ filter (λ c. not (nat_eq c n)) (clients_of (tables_of old))
+  pub tables : clients_of (tables_of new) ≡
+      filter (λ c. not (nat_eq c n)) (clients_of (tables_of old))
   pub slots : (c d : ℕ) → tracked_by (tables_of new) c d ≡ tracked_by (tables_of old) c d
   pub beside : SameBeside old new
 
@@ -154,7 +160,8 @@ pub record OpensHandle (old new : Clients) (c d : ℕ) (h : handles.Handle) : Ty
   pub beside : (n : ℕ) → beside new n + handle_uses n (tracked_of h) ≡ beside old n
 
 -- a client's descriptor is closed, and what its handle held is let go; the result is the handle
-pub record ClosesHandle (old new : Clients) (c d : ℕ) (result : Result handles.Handle Errno) : Type 0 where
+pub record ClosesHandle (old new : Clients) (c d : ℕ) (result : Result handles.Handle Errno) :
+    Type 0 where
   pub changes : ChangesClient old new c (λ before after. Closes before after d result)
   pub sets : SetsTracked (tables_of old) (tables_of new) c d None
   pub fewer : AreFewer old.objects new.objects

@@ -1,8 +1,10 @@
--- What handles hold among the objects of a mount, and what a handle that is to be opened holds first.
+-- What handles hold among the objects of a mount, and what a handle that is to be opened holds
+-- first.
 use Rattle.std.specs.Prelude.{◌≡◌, ℕ, [], ◌∷◌, Option, Some, None, map}
 use Rattle.std.specs.BTreeMap.{BTreeMap}
 use Rattle.plain_model.specs.Layers.{Path}
-use Rattle.object_table.specs.Objects.{Objects, Spot, At, Nowhere, spot_of, Holds, IsVacant, SameSpots, SetsSpot}
+use Rattle.object_table.specs.Objects.{Objects, Spot, At, Nowhere, spot_of, Holds, IsVacant}
+use Rattle.object_table.specs.Objects.{SameSpots, SetsSpot}
 use Rattle.open_handles.specs.declared.descriptors.Descriptors.{Descriptors}
 use Rattle.open_handles.specs.declared.handle.Hold.{Hold}
 use Rattle.open_handles.specs.declared.way.Way.{Way}
@@ -45,14 +47,16 @@ pub record HoldsBoth (old new : Objects) (p : Path) (spot : Spot) (h : Hold) : T
   pub way : HoldsWay old mid p h.way
   pub object : Holds mid new spot h.object
 
--- For a handle on a file that is to be made at p, its way in is held, and then a number that was nobody's, which is nowhere.
+-- For a handle on a file that is to be made at p, its way in is held, and then a number that was
+-- nobody's, which is nowhere.
 pub record HoldsNew (old new : Objects) (p : Path) (h : Hold) : Type 0 where
   pub mid : Objects
   pub way : HoldsWay old mid p h.way
   pub unknown : spot_of mid h.object ≡ None
   pub object : SetsSpot mid new h.object (Some Nowhere) 1
 
--- what is at this spot is held more often than before, under its number or one that was nobody's; all else is where it was
+-- what is at this spot is held more often than before, under its number or one that was nobody's;
+-- all else is where it was
 pub record HoldsMore (old new : Objects) (spot : Spot) (n : ℕ) : Type 0 where
   pub mid : Objects
   pub holds : Holds old mid spot n

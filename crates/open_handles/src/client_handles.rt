@@ -1,15 +1,21 @@
 // What the attached clients have open.
-ghost use Rattle.std.specs.Prelude.{◌≡◌, ◌+◌, ◌≤◌, ◌↔◌, ℕ, true, Some, None, IfOk, OnOk, IsSome, cond, nat_eq, option_copied, option_map};
+ghost use Rattle.std.specs.Prelude.{◌≡◌, ◌+◌, ◌≤◌, ◌↔◌, ℕ, true, Some, None, IfOk, OnOk, IsSome};
+ghost use Rattle.std.specs.Prelude.{cond, nat_eq, option_copied, option_map};
 ghost use Rattle.std.specs.Option.{option_and_then};
 ghost use Rattle.std.specs.BTreeMap.{get};
 ghost use Rattle.std.specs.Ordering.{nat_cmp};
 ghost use Rattle.object_table.specs.Objects.{AreFewer};
 ghost use Rattle.object_table.specs.Opened.{attributes_in};
-ghost use Rattle.open_handles.specs.Attaching.{beside, tables_of, directory_by, file_by, is_attached, located, opened_by, path_of, ChangesClient, ClosesHandle, HasFile, KeepsHolds, KeepsPlaces, OpensHandle};
+ghost use Rattle.open_handles.specs.Attaching.{beside, tables_of, directory_by, file_by};
+ghost use Rattle.open_handles.specs.Attaching.{is_attached, located, opened_by, path_of};
+ghost use Rattle.open_handles.specs.Attaching.{ChangesClient, ClosesHandle, HasFile, KeepsHolds};
+ghost use Rattle.open_handles.specs.Attaching.{KeepsPlaces, OpensHandle};
 ghost use Rattle.open_handles.specs.FreeDescriptors.{HasSlot, IsLowestFree};
 ghost use Rattle.open_handles.specs.Handles.{handle_re_way, tracked_of};
-ghost use Rattle.open_handles.specs.Listings.{ChangesSlot, GivesNames, listing_of, with_listing, with_place};
-ghost use Rattle.open_handles.specs.TrackedHandles.{IsOn, clients_of, handle_uses, handles_by, re_way_of, tracked_by};
+ghost use Rattle.open_handles.specs.Listings.{ChangesSlot, GivesNames, listing_of, with_listing};
+ghost use Rattle.open_handles.specs.Listings.{with_place};
+ghost use Rattle.open_handles.specs.TrackedHandles.{IsOn, clients_of, handle_uses, handles_by};
+ghost use Rattle.open_handles.specs.TrackedHandles.{re_way_of, tracked_by};
 
 use crate::clients::Clients;
 use crate::handle::Handle;
@@ -31,8 +37,8 @@ impl Clients {
         self.attached.get_mut(&client).unwrap().reserve(descriptor)
     }
 
-    /// Opens a handle under the lowest free descriptor of a client, for which there is room, and for
-    /// which what it holds is held. It takes no memory.
+    /// Opens a handle under the lowest free descriptor of a client, for which there is room, and
+    /// for which what it holds is held. It takes no memory.
     pub fn open(&mut self, client: u64, descriptor: u32, handle: Handle)
         requires room { HasSlot self.old client descriptor }
         requires held { (n : ℕ) → handle_uses n (tracked_of handle) ≤ beside self.old n }
@@ -44,8 +50,8 @@ impl Clients {
             .open(descriptor, handle);
     }
 
-    /// Closes a descriptor of a client, lets go what its handle held, and gives the handle. One that
-    /// isn't open is EBADF.
+    /// Closes a descriptor of a client, lets go what its handle held, and gives the handle. One
+    /// that isn't open is EBADF.
     pub fn close(&mut self, client: u64, descriptor: u32) -> Result<Handle, Errno>
         requires { IsSome (get nat_cmp self.old.attached client) }
         ensures { ClosesHandle self.old self.new client descriptor result }
@@ -63,7 +69,8 @@ impl Clients {
     /// Sets the place, in bytes from the start, of an open file of a client.
     pub fn move_to(&mut self, client: u64, descriptor: u32, place: u64)
         requires { IsSome (file_by self.old client descriptor) }
-        ensures changes { ChangesClient self.old self.new client (λ before after. ChangesSlot before after descriptor (with_place place)) }
+        ensures changes { ChangesClient self.old self.new client (λ before after. ChangesSlot
+            before after descriptor (with_place place)) }
         ensures holds { KeepsHolds self.old self.new }
     {
         self.attached
@@ -72,9 +79,11 @@ impl Clients {
             .move_to(descriptor, place);
     }
 
-    /// How far the directory was listed to which a descriptor of a client leads, if it leads to one.
+    /// How far the directory was listed to which a descriptor of a client leads, if it leads to
+    /// one.
     pub fn listing(&self, client: u64, descriptor: u32) -> Option<&Cursor>
-        ensures { option_copied result ≡ option_map listing_of (directory_by self.now client descriptor) }
+        ensures { option_copied result ≡
+            option_map listing_of (directory_by self.now client descriptor) }
     {
         self.attached.get(&client)?.listing(descriptor)
     }
@@ -82,7 +91,8 @@ impl Clients {
     /// Keeps a listing of an open directory of a client.
     pub fn keep_listing(&mut self, client: u64, descriptor: u32, listing: Cursor)
         requires { IsSome (directory_by self.old client descriptor) }
-        ensures changes { ChangesClient self.old self.new client (λ before after. ChangesSlot before after descriptor (with_listing listing)) }
+        ensures changes { ChangesClient self.old self.new client (λ before after. ChangesSlot
+            before after descriptor (with_listing listing)) }
         ensures holds { KeepsHolds self.old self.new }
     {
         self.attached
@@ -94,7 +104,8 @@ impl Clients {
     /// Lets the listing of an open directory of a client go.
     pub fn rewind(&mut self, client: u64, descriptor: u32)
         requires { IsSome (directory_by self.old client descriptor) }
-        ensures changes { ChangesClient self.old self.new client (λ before after. ChangesSlot before after descriptor (with_listing None)) }
+        ensures changes { ChangesClient self.old self.new client (λ before after. ChangesSlot
+            before after descriptor (with_listing None)) }
         ensures holds { KeepsHolds self.old self.new }
     {
         self.attached.get_mut(&client).unwrap().rewind(descriptor);
@@ -110,7 +121,8 @@ impl Clients {
         count: usize,
     ) -> Result<NameList, AllocError>
         requires { IsSome (directory_by self.old client descriptor) }
-        ensures changes { ChangesClient self.old self.new client (λ before after. GivesNames before after descriptor count result) }
+        ensures changes { ChangesClient self.old self.new client (λ before after. GivesNames
+            before after descriptor count result) }
         ensures holds { KeepsHolds self.old self.new }
     {
         self.attached
@@ -171,20 +183,23 @@ impl Clients {
         count
     }
 
-    /// Leads the handles on an object that were opened by exactly one way to another one, as after a
-    /// rename: as many as the other one's directory is held for already. The one's directory is let
-    /// go as often. It goes through all handles and takes no memory.
+    /// Leads the handles on an object that were opened by exactly one way to another one, as after
+    /// a rename: as many as the other one's directory is held for already. The one's directory is
+    /// let go as often. It goes through all handles and takes no memory.
     pub fn lead(&mut self, object: usize, from: &Way, to: &Way, count: usize)
         requires led { count ≡ handles_by (tables_of self.old) object from.now }
         requires held { count ≤ beside self.old to.now.directory }
-        ensures handles { (c d : ℕ) → tracked_by (tables_of self.new) c d ≡ option_map (re_way_of object from.now to.now) (tracked_by (tables_of self.old) c d) }
+        ensures handles { (c d : ℕ) → tracked_by (tables_of self.new) c d ≡
+            option_map (re_way_of object from.now to.now) (tracked_by (tables_of self.old) c d) }
         ensures clients { clients_of (tables_of self.new) ≡ clients_of (tables_of self.old) }
         ensures next { self.new.next ≡ self.old.next }
         ensures fewer { AreFewer self.old.objects self.new.objects }
-        ensures opened { (c d : ℕ) → opened_by self.new c d ≡ option_map (handle_re_way object from.now to.now) (opened_by self.old c d) }
+        ensures opened { (c d : ℕ) → opened_by self.new c d ≡
+            option_map (handle_re_way object from.now to.now) (opened_by self.old c d) }
         ensures attached { (c : ℕ) → is_attached self.new c ≡ is_attached self.old c }
         ensures places { KeepsPlaces self.old self.new }
-        ensures beside { (n : ℕ) → beside self.new n + cond (nat_eq to.now.directory n) count 0 ≡ beside self.old n }
+        ensures beside { (n : ℕ) → beside self.new n + cond (nat_eq to.now.directory n) count 0 ≡
+            beside self.old n }
     {
         for own in self.attached.values_mut() {
             own.re_way(object, from, to);

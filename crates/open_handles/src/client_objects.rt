@@ -1,12 +1,18 @@
 // The objects that clients hold by their handles, and others beside them.
-ghost use Rattle.std.specs.Prelude.{◌≡◌, ◌≢◌, ◌+◌, ◌<◌, ◌≤◌, ℕ, [], Some, None, IsSome, IfOk, OnErr, OnOk, cond, nat_eq, reverse};
+ghost use Rattle.std.specs.Prelude.{◌≡◌, ◌≢◌, ◌+◌, ◌<◌, ◌≤◌, ℕ, [], Some, None, IsSome, IfOk};
+ghost use Rattle.std.specs.Prelude.{OnErr, OnOk, cond, nat_eq, reverse};
 ghost use Rattle.plain_model.specs.Laws.{IsOutside};
-ghost use Rattle.object_table.specs.Objects.{At, Upper, Nowhere, left_of, spot_of, holders_of, room, AreFewer, IsBare, IsPrepared, IsVacant, NoneBelow, IsHeldWithin, SameSpots, SetsSpot, Holds, MovesSpots};
+ghost use Rattle.object_table.specs.Objects.{At, Upper, Nowhere, left_of, spot_of, holders_of};
+ghost use Rattle.object_table.specs.Objects.{room, AreFewer, IsBare, IsPrepared, IsVacant};
+ghost use Rattle.object_table.specs.Objects.{NoneBelow, IsHeldWithin, SameSpots, SetsSpot, Holds};
+ghost use Rattle.object_table.specs.Objects.{MovesSpots};
 ghost use Rattle.object_table.specs.Opened as entries;
 ghost use Rattle.object_table.specs.Renames as renames;
 ghost use Rattle.object_table.specs.declared.dentry.Unlisted.TheVariants as unlisted;
-ghost use Rattle.open_handles.specs.Attaching.{beside, HoldsNoMore, HoldsOne, KeepsClients, KeepsPlaces, LetsGo, SameBeside};
-ghost use Rattle.open_handles.specs.Holding.{HoldsBoth, HoldsMore, HoldsNew, HoldsWay, IsHeldWay, IsWayTo};
+ghost use Rattle.open_handles.specs.Attaching.{beside, HoldsNoMore, HoldsOne, KeepsClients};
+ghost use Rattle.open_handles.specs.Attaching.{KeepsPlaces, LetsGo, SameBeside};
+ghost use Rattle.open_handles.specs.Holding.{HoldsBoth, HoldsMore, HoldsNew, HoldsWay, IsHeldWay};
+ghost use Rattle.open_handles.specs.Holding.{IsWayTo};
 ghost use Rattle.open_handles.specs.TrackedHandles.{handle_uses, way_uses};
 
 use crate::clients::Clients;
@@ -36,8 +42,8 @@ impl Clients {
         self.objects.reserve()
     }
 
-    /// Holds what stands at a path for one holder more, and gives its number. It fails only when out
-    /// of memory, or where as many hold it as can be counted, and changes nothing then.
+    /// Holds what stands at a path for one holder more, and gives its number. It fails only when
+    /// out of memory, or where as many hold it as can be counted, and changes nothing then.
     pub fn hold_path(&mut self, path: &Path) -> Result<usize, AllocError>
         ensures holds { IfOk result (HoldsOne self.old self.new (At path.now)) }
         ensures err { OnErr result (HoldsNoMore self.old self.new) }
@@ -58,9 +64,11 @@ impl Clients {
     pub fn hold_often(&mut self, names: &[Name], count: usize) -> Result<usize, AllocError>
         requires { 0 < count }
         ensures clients { KeepsClients self.old self.new }
-        ensures holds { IfOk result (HoldsMore self.old.objects self.new.objects (At (reverse names.now))) }
+        ensures holds { IfOk result (HoldsMore self.old.objects self.new.objects (At (reverse
+            names.now))) }
         ensures places { KeepsPlaces self.old self.new }
-        ensures beside { IfOk result (λ n. (m : ℕ) → beside self.new m ≡ beside self.old m + cond (nat_eq n m) count 0) }
+        ensures beside { IfOk result (λ n. (m : ℕ) →
+            beside self.new m ≡ beside self.old m + cond (nat_eq n m) count 0) }
         ensures room { room self.old.objects ≤ room self.new.objects }
         ensures err { OnErr result (HoldsNoMore self.old self.new) }
     {
@@ -78,7 +86,8 @@ impl Clients {
     pub fn release(&mut self, number: usize, count: usize)
         requires { count ≤ beside self.old number }
         ensures lets { LetsGo self.old self.new }
-        ensures beside { (n : ℕ) → beside self.new n + cond (nat_eq number n) count 0 ≡ beside self.old n }
+        ensures beside { (n : ℕ) → beside self.new n + cond (nat_eq number n) count 0 ≡
+            beside self.old n }
         ensures room { room self.old.objects ≤ room self.new.objects }
     {
         self.objects.release(number, count);
@@ -88,9 +97,11 @@ impl Clients {
     /// directory of its way, by one walk. It fails as `hold_path` does.
     pub fn hold_here(&mut self, path: &Path) -> Result<Hold, AllocError>
         ensures clients { KeepsClients self.old self.new }
-        ensures holds { IfOk result (HoldsBoth self.old.objects self.new.objects path.now (At path.now)) }
+        ensures holds { IfOk result (HoldsBoth self.old.objects self.new.objects path.now (At
+            path.now)) }
         ensures places { KeepsPlaces self.old self.new }
-        ensures beside { IfOk result (λ h. (n : ℕ) → beside self.new n ≡ beside self.old n + handle_uses n h) }
+        ensures beside { IfOk result (λ h. (n : ℕ) →
+            beside self.new n ≡ beside self.old n + handle_uses n h) }
         ensures room { room self.old.objects ≤ room self.new.objects }
         ensures err { OnErr result (HoldsNoMore self.old self.new) }
     {
@@ -108,9 +119,11 @@ impl Clients {
     /// it is opened, in the same way.
     pub fn hold_file(&mut self, path: &Path, key: usize) -> Result<Hold, AllocError>
         ensures clients { KeepsClients self.old self.new }
-        ensures holds { IfOk result (HoldsBoth self.old.objects self.new.objects path.now (Upper key)) }
+        ensures holds { IfOk result (HoldsBoth self.old.objects self.new.objects path.now (Upper
+            key)) }
         ensures places { KeepsPlaces self.old self.new }
-        ensures beside { IfOk result (λ h. (n : ℕ) → beside self.new n ≡ beside self.old n + handle_uses n h) }
+        ensures beside { IfOk result (λ h. (n : ℕ) →
+            beside self.new n ≡ beside self.old n + handle_uses n h) }
         ensures err { OnErr result (HoldsNoMore self.old self.new) }
     {
         let way = self.hold_way(path)?;
@@ -129,7 +142,8 @@ impl Clients {
         ensures clients { KeepsClients self.old self.new }
         ensures holds { IfOk result (HoldsNew self.old.objects self.new.objects path.now) }
         ensures places { KeepsPlaces self.old self.new }
-        ensures beside { IfOk result (λ h. (n : ℕ) → beside self.new n ≡ beside self.old n + handle_uses n h) }
+        ensures beside { IfOk result (λ h. (n : ℕ) →
+            beside self.new n ≡ beside self.old n + handle_uses n h) }
         ensures room { room self.old.objects ≤ room self.new.objects }
         ensures err { OnErr result (HoldsNoMore self.old self.new) }
     {
@@ -158,7 +172,8 @@ impl Clients {
         ensures clients { KeepsClients self.old self.new }
         ensures holds { IfOk result (HoldsWay self.old.objects self.new.objects path.now) }
         ensures places { KeepsPlaces self.old self.new }
-        ensures beside { IfOk result (λ way. (n : ℕ) → beside self.new n ≡ beside self.old n + way_uses n way) }
+        ensures beside { IfOk result (λ way. (n : ℕ) →
+            beside self.new n ≡ beside self.old n + way_uses n way) }
         ensures room { room self.old.objects ≤ room self.new.objects }
         ensures err { OnErr result (HoldsNoMore self.old self.new) }
     {
@@ -227,14 +242,16 @@ impl Clients {
         self.objects.lose(number);
     }
 
-    /// Notes that a directory was removed, and keeps the attributes that it has for who has it open.
+    /// Notes that a directory was removed, and keeps the attributes that it has for who has it
+    /// open.
     /// It takes no memory.
     pub fn remove(&mut self, number: usize, attributes: Attributes)
         requires there { IsSome (spot_of self.old.objects number) }
         requires bare { IsBare self.old.objects number }
         ensures clients { KeepsClients self.old self.new }
         ensures loses { SetsSpot self.old.objects self.new.objects number (Some Nowhere) (holders_of self.old.objects number) }
-        ensures place { entries.SetsApart self.old.objects.tree self.new.objects.tree number (unlisted.Removed attributes) }
+        ensures place { entries.SetsApart self.old.objects.tree self.new.objects.tree number
+            (unlisted.Removed attributes) }
         ensures beside { SameBeside self.old self.new }
     {
         self.objects.remove(number, attributes);
@@ -259,7 +276,8 @@ impl Clients {
         requires below { NoneBelow self.old.objects new.now }
         ensures clients { KeepsClients self.old self.new }
         ensures moves { MovesSpots self.old.objects self.new.objects old.now new.now }
-        ensures places { renames.Moves self.old.objects.tree self.new.objects.tree old.now new.now (Some (left_of replaced)) }
+        ensures places { renames.Moves self.old.objects.tree self.new.objects.tree old.now new.now
+            (Some (left_of replaced)) }
         ensures beside { SameBeside self.old self.new }
     {
         self.objects.rename(old, new, replaced);

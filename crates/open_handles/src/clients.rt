@@ -1,5 +1,7 @@
 // The attached clients.
-ghost use Rattle.std.specs.Prelude.{◌≡◌, [], ◌+◌, ◌<◌, ◌≤◌, ◌^◌, ℕ, true, Some, None, IfOk, IfErr, IfNone, IfSome, OnOk, OnErr, IsSome, is_some, option_copied, ◌↔◌, ◌≢◌};
+ghost use Rattle.std.specs.Prelude.{◌≡◌, [], ◌+◌, ◌<◌, ◌≤◌, ◌^◌, ℕ, true, Some, None, IfOk, IfErr};
+ghost use Rattle.std.specs.Prelude.{IfNone, IfSome, OnOk, OnErr, IsSome, is_some, option_copied};
+ghost use Rattle.std.specs.Prelude.{◌↔◌, ◌≢◌};
 ghost use Rattle.std.specs.BTreeMap.{get, btree_map_len};
 ghost use Rattle.std.specs.Ordering.{nat_cmp};
 ghost use Rattle.object_table.specs.Objects.{Spot, Nowhere, spot_of, holders_of};
@@ -17,9 +19,9 @@ use std::hash::RandomState;
 /// The most clients that are attached at a time.
 pub const CLIENTS_MAX: usize = 64;
 
-/// The attached clients by number, with what each has open, and the objects that their handles hold:
-/// each object is held at least once for each handle on it, and for each handle that was opened by a
-/// way in it. Numbers of clients start at 0, rise and aren't used again.
+/// The attached clients by number, with what each has open, and the objects that their handles
+/// hold: each object is held at least once for each handle on it, and for each handle that was
+/// opened by a way in it. Numbers of clients start at 0, rise and aren't used again.
 #[derive(Drop)]
 pub struct Clients {
     pub(crate) attached: BTreeMap<u64, Descriptors>,
@@ -32,7 +34,9 @@ pub struct Clients {
 
 impl Clients {
     ghost use Rattle.open_handles.specs.FreeDescriptors.{IsFull, IsLowestFree};
-    ghost use Rattle.open_handles.specs.Attaching.{AreKnown, HasNoRoom, Attaches, Detaches, Leaves, TakesBack, IsSame, KeepsPlaces, beside, opened_by, file_by};
+    ghost use Rattle.open_handles.specs.Attaching.{AreKnown, HasNoRoom, Attaches, Detaches, Leaves};
+    ghost use Rattle.open_handles.specs.Attaching.{TakesBack, IsSame, KeepsPlaces, beside};
+    ghost use Rattle.open_handles.specs.Attaching.{opened_by, file_by};
     /// No clients, and no objects. Names and keys of what is held are hashed with these keys.
     pub fn new(alloc: Global, keys: RandomState) -> Result<Clients, AllocError>
         ensures none { IfOk result (λ clients. (n : ℕ) → get nat_cmp clients.attached n ≡ None) }
@@ -53,7 +57,8 @@ impl Clients {
     /// What always holds, for those who reason about it; it does nothing.
     pub fn lawful(&self)
         ensures known { AreKnown self.now }
-        ensures counted { (n : ℕ) → (spot_of self.now.objects n ≡ None) ↔ (holders_of self.now.objects n ≡ 0) }
+        ensures counted { (n : ℕ) → (spot_of self.now.objects n ≡
+            None) ↔ (holders_of self.now.objects n ≡ 0) }
         ensures one_there { (spot : Spot) (m n : ℕ) → spot ≢ Nowhere → spot_of self.now.objects m ≡ Some spot → spot_of self.now.objects n ≡ Some spot → m ≡ n }
     {
         self.objects.lawful();

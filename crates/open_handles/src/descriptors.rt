@@ -2,7 +2,8 @@
 ghost use Rattle.std.specs.Prelude.{◌≡◌, ◌≤◌, ◌<◌, [], Some, None, true, IfSome, IfNone, OnOk, ℕ, option_copied, option_map, is_some, length, IsSome, vec_len, count_by, map};
 ghost use Rattle.std.specs.List.{list_any};
 ghost use Rattle.open_handles.specs.Descriptors.{opened, SetsSlot, IsFull, IsLowestFree};
-ghost use Rattle.open_handles.specs.Handles.{handle_came_by, handle_is_on, handle_re_way, slot_has_file};
+ghost use Rattle.open_handles.specs.Handles.{handle_came_by, handle_is_on, handle_re_way};
+ghost use Rattle.open_handles.specs.Handles.{slot_has_file};
 
 use crate::handle::{Handle, On};
 use crate::way::Way;
@@ -83,7 +84,8 @@ impl Descriptors {
 
     /// How far the directory was listed to which a descriptor leads, if it leads to one.
     pub fn listing(&self, descriptor: u32) -> Option<&Cursor>
-        ensures { option_copied result ≡ option_map listing_of (open_directory self.now.slots.items descriptor) }
+        ensures { option_copied result ≡
+            option_map listing_of (open_directory self.now.slots.items descriptor) }
     {
         match &self.get(descriptor)?.on {
             On::Directory(listing) => Some(listing),
@@ -183,7 +185,8 @@ impl Descriptors {
 
     /// Each handle on an object by exactly one way has another one. It takes no memory.
     pub fn re_way(&mut self, object: usize, from: &Way, to: &Way)
-        ensures { self.new.slots.items ≡ map (option_map (handle_re_way object from.now to.now)) self.old.slots.items }
+        ensures { self.new.slots.items ≡
+            map (option_map (handle_re_way object from.now to.now)) self.old.slots.items }
     {
         for slot in self.slots.iter_mut() {
             re_way(slot, object, from, to);

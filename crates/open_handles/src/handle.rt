@@ -1,6 +1,7 @@
 // What a descriptor leads to.
 ghost use Rattle.std.specs.Prelude.{◌≡◌, IfOk, OnOk, OnErr, None, Some, drop, take};
-ghost use Rattle.open_handles.specs.Listings.{after_names, directory_in, file_in, names_left, with_listing, with_place};
+ghost use Rattle.open_handles.specs.Listings.{after_names, directory_in, file_in, names_left};
+ghost use Rattle.open_handles.specs.Listings.{with_listing, with_place};
 ghost use Rattle.open_handles.specs.TrackedHandles.{came_by};
 ghost use Rattle.open_handles.specs.Handles.{is_on_file, tracked_of};
 

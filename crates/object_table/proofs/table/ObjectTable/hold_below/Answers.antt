@@ -17,7 +17,8 @@ invariant_of-self c =
     let at = spots.opened-path was c.args.directory c.requires.0 (subst (λ (t : Objects). spot_of t c.args.directory ≡ Some (At c.requires.0)) (sym c.self.view_is) c.requires.1) in
     spots.filed-same was new c.self.invariant (spots.keys-result was new _ c.open_below.result
     (λ k opens. spots.keys-holds was new k _ (spots.opens-holds _ _ _ _ (c.args.name.now ∷ c.requires.0) k (opens c.requires.0 at)) (λ key e. cc))
-    c.open_below.ensures.opens (spots.OnErr-map c.open_below.result (spots.same-spots _ _ _ _) c.open_below.ensures.err)) (λ key. refl)
+    c.open_below.ensures.opens (spots.OnErr-map c.open_below.result (spots.same-spots _ _ _ _)
+        c.open_below.ensures.err)) (λ key. refl)
 
 pub returns-clause-holds : goal.returns-clause-holds
 returns-clause-holds c =

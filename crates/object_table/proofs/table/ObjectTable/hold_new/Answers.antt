@@ -22,8 +22,10 @@ returns-clause-unknown c =
 pub returns-clause-holds : goal.returns-clause-holds
 returns-clause-holds c =
     let new = objects_by c.add_apart.new.self c.self.inside.files in
-    subst (λ (t : Objects). IfOk c.add_apart.result (λ n. SetsSpot t new n (Some Nowhere) 1)) c.self.view_is
-    (spots.IfOk-map c.add_apart.result (λ n adds. spots.adds-sets _ _ _ _ n unlisted.Nowhere adds) c.add_apart.ensures.adds)
+    subst (λ (t : Objects). IfOk c.add_apart.result (λ n. SetsSpot t new n (Some Nowhere) 1))
+        c.self.view_is
+    (spots.IfOk-map c.add_apart.result (λ n adds. spots.adds-sets _ _ _ _ n unlisted.Nowhere adds)
+        c.add_apart.ensures.adds)
 
 pub returns-clause-err : goal.returns-clause-err
 returns-clause-err c =

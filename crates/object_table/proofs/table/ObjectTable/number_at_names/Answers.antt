@@ -15,4 +15,5 @@ pub returns-clause-absent : goal.returns-clause-absent
 returns-clause-absent c =
     let was = objects_by c.self.inside.tree c.self.inside.files in
     subst (λ (t : Objects). IfNone c.find_names.result (IsVacant t (At (reverse c.args.names.now)))) c.self.view_is
-    (spots.IfNone-map c.find_names.result (λ absent n is. absent n (spots.opened-path was n (reverse c.args.names.now) is)) c.find_names.ensures.absent)
+    (spots.IfNone-map c.find_names.result (λ absent n is. absent n (spots.opened-path was n
+        (reverse c.args.names.now) is)) c.find_names.ensures.absent)

@@ -70,20 +70,29 @@ returns-in_default-clause-releases c =
 pub returns-then-last-clause-place : goal.returns-then-last-clause-place
 unfolding holders_of
 returns-then-last-clause-place c = λ some.
-    let left = subst (λ (t : Objects). holders_of t c.args.number - c.args.count ≢ 0) (sym c.self.view_is) some in
-    subst (λ (t : Objects). opened c.release.new.self c.args.number ≡ opened t.tree c.args.number) c.self.view_is
-    (spots.place-held c.self.inside.tree c.release.new.self c.self.inside.files c.swap_remove.new.self c.args.number _ left c.release.ensures)
+    let left = subst (λ (t : Objects). holders_of t c.args.number - c.args.count ≢ 0) (sym
+        c.self.view_is) some in
+    subst (λ (t : Objects). opened c.release.new.self c.args.number ≡
+        opened t.tree c.args.number) c.self.view_is
+    (spots.place-held c.self.inside.tree c.release.new.self c.self.inside.files
+        c.swap_remove.new.self c.args.number _ left c.release.ensures)
 
 pub returns-else-last-clause-place : goal.returns-else-last-clause-place
 unfolding holders_of
 returns-else-last-clause-place c = λ some.
-    let left = subst (λ (t : Objects). holders_of t c.args.number - c.args.count ≢ 0) (sym c.self.view_is) some in
-    subst (λ (t : Objects). opened c.release.new.self c.args.number ≡ opened t.tree c.args.number) c.self.view_is
-    (spots.place-held c.self.inside.tree c.release.new.self c.self.inside.files c.self.inside.files c.args.number _ left c.release.ensures)
+    let left = subst (λ (t : Objects). holders_of t c.args.number - c.args.count ≢ 0) (sym
+        c.self.view_is) some in
+    subst (λ (t : Objects). opened c.release.new.self c.args.number ≡
+        opened t.tree c.args.number) c.self.view_is
+    (spots.place-held c.self.inside.tree c.release.new.self c.self.inside.files
+        c.self.inside.files c.args.number _ left c.release.ensures)
 
 pub returns-in_default-clause-place : goal.returns-in_default-clause-place
 unfolding holders_of
 returns-in_default-clause-place c = λ some.
-    let left = subst (λ (t : Objects). holders_of t c.args.number - c.args.count ≢ 0) (sym c.self.view_is) some in
-    subst (λ (t : Objects). opened c.release.new.self c.args.number ≡ opened t.tree c.args.number) c.self.view_is
-    (spots.place-held c.self.inside.tree c.release.new.self c.self.inside.files c.self.inside.files c.args.number _ left c.release.ensures)
+    let left = subst (λ (t : Objects). holders_of t c.args.number - c.args.count ≢ 0) (sym
+        c.self.view_is) some in
+    subst (λ (t : Objects). opened c.release.new.self c.args.number ≡
+        opened t.tree c.args.number) c.self.view_is
+    (spots.place-held c.self.inside.tree c.release.new.self c.self.inside.files
+        c.self.inside.files c.args.number _ left c.release.ensures)

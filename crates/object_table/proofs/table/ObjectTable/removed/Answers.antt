@@ -6,4 +6,5 @@ use Rattle.object_table.proofs.table.ObjectTable.removed.Goals as goal
 
 pub removed-requires : goal.removed-requires
 removed-requires c =
-    spots.some-opened (objects_by c.self.inside.tree c.self.inside.files) c.args.number (subst (λ (t : Objects). IsSome (spot_of t c.args.number)) (sym c.self.view_is) c.requires)
+    spots.some-opened (objects_by c.self.inside.tree c.self.inside.files) c.args.number (subst (λ
+        (t : Objects). IsSome (spot_of t c.args.number)) (sym c.self.view_is) c.requires)

@@ -21,7 +21,10 @@ pub invariant_of-self : goal.invariant_of-self
 invariant_of-self c =
     let was = objects_by c.self.inside.tree c.self.inside.files in
     let new = objects_by c.rename.new.self c.self.inside.files in
-    let moves = spots.moves-spots _ _ _ _ c.args.old.now c.args.new.now _ (subst (λ (a : Unlisted). spot_at (tree.Apart a) ≡ Nowhere) (sym c.left_by.ensures) (spots.left-nowhere c.args.replaced)) c.rename.ensures.moves in
+    let moves = spots.moves-spots _ _ _ _ c.args.old.now c.args.new.now _ (subst (λ (a :
+        Unlisted). spot_at (tree.Apart a) ≡
+        Nowhere) (sym c.left_by.ensures) (spots.left-nowhere c.args.replaced))
+        c.rename.ensures.moves in
     spots.filed-same was new c.self.invariant (spots.keys-moved was new c.args.old.now c.args.new.now moves (spots.as-moved was new c.args.old.now c.args.new.now moves)) (λ key. refl)
 
 pub returns-clause-moves : goal.returns-clause-moves

@@ -12,5 +12,7 @@ loop-slot-preserved c =
     let i = c.loop-slot.slot-index in
     let began : c.deref_mut-slot-items.result.now ≡ slots = c.deref_mut-slot-items.ensures.value in
     let within : i < length slots = omega (arith, ap length began) in
-    ap (λ (s : Option Handle). set now i s) (c.re_way.ensures ∙ sym (ap (option_map (handle_re_way c.args.object c.args.from.now c.args.to.now)) c.slot-item.is))
-    ∙ map_over_more (option_map (handle_re_way c.args.object c.args.from.now c.args.to.now)) slots now i c.slot-item.result within c.loop-slot.invariant c.slot-item.is
+    ap (λ (s : Option Handle). set now i s) (c.re_way.ensures ∙ sym (ap (option_map (handle_re_way
+        c.args.object c.args.from.now c.args.to.now)) c.slot-item.is))
+    ∙ map_over_more (option_map (handle_re_way c.args.object c.args.from.now c.args.to.now)) slots
+        now i c.slot-item.result within c.loop-slot.invariant c.slot-item.is
