@@ -16,7 +16,7 @@ use Rattle.plain_model.specs.Replies.{queue_of}
 use Rattle.plain_model.specs.Runs.{Called}
 use Rattle.merged_lookup.specs.Merged.{lowers_of}
 use Rattle.notice_laws.specs.Clients.{Disarmed, Takes}
-use Rattle.notice_laws.specs.Watches.{AreKnown, Watches}
+use Rattle.notice_laws.specs.Notified.{AreKnown, Notified}
 use Rattle.notice_laws.proofs.Clients.{law_of_asked}
 use Rattle.notice_laws.proofs.ArmedWatches.{law_of_disarmed, law_of_taken}
 use Rattle.mount_calls.specs.declared.mount.Mount.{Mount}
@@ -37,12 +37,12 @@ taking-refusal s c count true is = rw is refl
 taking-refusal s c count false is = rw is refl
 
 -- the engine's instances have the watch of a number where the state's have it
-same-watch : (m : Mount) (k : Watches) (s : State) (c : ℕ) (number : ℤ) → Agrees m k s →
+same-watch : (m : Mount) (k : Notified) (s : State) (c : ℕ) (number : ℤ) → Agrees m k s →
     list_any (is_numbered number) (watches_of (instance_of s.instances c)) ≡ list_any (is_numbered number) (watches_of (instance_of k.instances c))
 same-watch m k s c number a = sym ((law_of_asked (mount_upper m) s k a.tracks c).numbered number)
 
 -- a call that is refused leaves all as it is
-pub goes-refused : (shows : Rule) (m : Mount) (k : Watches) (c : ℕ) (call : Call) (e : Errno) → is_attached m.clients c ≡ true →
+pub goes-refused : (shows : Rule) (m : Mount) (k : Notified) (c : ℕ) (call : Call) (e : Errno) → is_attached m.clients c ≡ true →
     ((s : State) → Agrees m k s → refusal s c call ≡ Some e) → Goes shows m k c (Called call (Refused e)) m k
 goes-refused shows m k c call e there refused =
     goes-agreed shows c call (Refused e) m m k k there
@@ -51,14 +51,14 @@ goes-refused shows m k c call e there refused =
     (λ s a fine. let no : None ≡ Some e = sym fine ∙ refused s a in cc)
 
 -- a disarm of a watch that the client doesn't have
-pub disarm-refused : (shows : Rule) (m : Mount) (k : Watches) (c : ℕ) (number : ℤ) → is_attached m.clients c ≡ true →
+pub disarm-refused : (shows : Rule) (m : Mount) (k : Notified) (c : ℕ) (number : ℤ) → is_attached m.clients c ≡ true →
     list_any (is_numbered number) (watches_of (instance_of k.instances c)) ≡ false → Goes shows m k c (Called (Disarm number) (Refused EINVAL)) m k
 disarm-refused shows m k c number there none =
     goes-refused shows m k c (Disarm number) EINVAL there
     (λ s a. disarm-refusal s c number false (same-watch m k s c number a ∙ none))
 
 -- and of one that it has
-pub disarm-goes : (shows : Rule) (m : Mount) (old new : Watches) (c : ℕ) (number : ℤ) → is_attached m.clients c ≡ true →
+pub disarm-goes : (shows : Rule) (m : Mount) (old new : Notified) (c : ℕ) (number : ℤ) → is_attached m.clients c ≡ true →
     list_any (is_numbered number) (watches_of (instance_of old.instances c)) ≡ true → AreKnown new → Disarmed shows old new c number →
     Goes shows m old c (Called (Disarm number) Done) m new
 disarm-goes shows m old new c number there has known disarmed =
@@ -83,7 +83,7 @@ pub taking-allowed : (s : State) (c count : ℕ) → count ≤ 65 → refusal s 
 taking-allowed s c count few = taking-refusal s c count false (not-above count few)
 
 -- and are given
-pub taking-goes : (shows : Rule) (m : Mount) (old new : Watches) (c count : ℕ) (given : List Notice) → is_attached m.clients c ≡ true →
+pub taking-goes : (shows : Rule) (m : Mount) (old new : Notified) (c count : ℕ) (given : List Notice) → is_attached m.clients c ≡ true →
     count ≤ 65 → given ≡ take count (queue_of (instance_of old.instances c)) → Takes old new c count →
     Goes shows m old c (Called (TakeNotices count) (Unread given)) m new
 taking-goes shows m old new c count given there few is takes =

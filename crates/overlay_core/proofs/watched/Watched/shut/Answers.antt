@@ -1,5 +1,5 @@
 use Rattle.std.proofs.Common.{◌≡◌, Some, option_map, sym, ap, ◌∙◌, subst}
-use Rattle.notice_laws.specs.Watches.{AreKnown}
+use Rattle.notice_laws.specs.Notified.{AreKnown}
 use Rattle.notice_laws.specs.Steps.{Closed}
 use Rattle.open_handles.specs.Attaching.{opened_by}
 use Rattle.overlay_core.specs.Leaving.{closing}
