@@ -127,7 +127,7 @@ module _ (m : Mount) (s : State) (st : IsStateOf m s) (c d : ℕ) where
       (ap status_reply (tells x.2.location h.node x.2.located x.2.stands ∙ a.1)
       ∙ sym (ap (λ v. stat_seen v (s.tree h.node)) (ap (λ (z : Handle). z.view) x.2.access) ∙ folder-status (s.tree h.node) a.0 a.2))
     where
-      x : (h : Handle) × (handle_of s.tables c d ≡ Some h) × IsHandle s.tree m.clients.directories o h
+      x : (h : Handle) × (handle_of s.tables c d ≡ Some h) × IsHandle s.tree m.clients.objects.tree o h
       x = directory-at m s st c d o is
 
       h : Handle

@@ -165,7 +165,7 @@ module _ (m : Mount) (s : State) (st : IsStateOf m s) (c : ℕ) (clients : Clien
   filled-state =
       state-on reserved s (reserved-state m s st c clients same) new low t s.serial
       (subst (λ (Ls : List Layer). IsMountOf V Ls (record s { tree = t })) (sym (lowers-same m.layers new low)) alters.mounts)
-      (handle-on s.tree t (λ q e at. alters.paths q ∙ at) hidden-still (λ e folder. alters.folders e ∙ folder) clients.directories)
+      (handle-on s.tree t (λ q e at. alters.paths q ∙ at) hidden-still (λ e folder. alters.folders e ∙ folder) clients.objects.tree)
       (record {
         live = λ b fd g h k at on is. live-still h.node k;
         leaves = λ b fd h on. leaf-still h.node;

@@ -36,7 +36,7 @@ any-kept [] n b h = refl
 any-kept (k ∷ ks) n b h = grind (arith, any-kept ks n b h)
 
 -- without a client that goes the tables are those of the others
-go : (U : Layer) (lowers : List Layer) (t : Tree) (clients new : Clients) (ks : List Table) (n : ℕ) → AreTables (IsOpenAs U lowers t clients.directories) clients ks → Detaches clients new n → KeepsPlaces clients new → AreTables (IsOpenAs U lowers t new.directories) new (without n ks)
+go : (U : Layer) (lowers : List Layer) (t : Tree) (clients new : Clients) (ks : List Table) (n : ℕ) → AreTables (IsOpenAs U lowers t clients.objects.tree) clients ks → Detaches clients new n → KeepsPlaces clients new → AreTables (IsOpenAs U lowers t new.objects.tree) new (without n ks)
 go U lowers t clients new ks n a h places = grind (arith, tables-but, handles-kept, any-kept, any-gone, handles-gone)
 
 -- the mount stands for the state without a client that is gone

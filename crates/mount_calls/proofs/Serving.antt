@@ -60,7 +60,7 @@ pub placed : (U : Layer) (lowers : List Layer) (t : Tree) (ds es : Dentries) (o 
 placed U lowers t ds es o h f s = grind arith
 
 -- where the open directories are the same, they stand where they stood
-pub places-same : (clients new : Clients) → new.directories ≡ clients.directories → KeepsPlaces clients new
+pub places-same : (clients new : Clients) → new.objects.tree ≡ clients.objects.tree → KeepsPlaces clients new
 places-same clients new same c d o l is at = ap (λ z. places.opened z o.directory) same ∙ at
 
 pub slot-some : (P : handles.Handle → Handle → Type 0) (a : Option handles.Handle) (x : Option Handle) → IsSlot P a x → is_some a ≡ is_some x

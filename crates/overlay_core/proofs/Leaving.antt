@@ -151,7 +151,7 @@ module _ (shows : Rule) (old new : Mount) (from to : Notified) (c d : ℕ) (r : 
         named = named s a.stands fine;
       } in
       let bits : closing_bits s (handle_of s.tables c d) ≡ closing o =
-      ap (closing_bits s) h.1 ∙ closing-same (mount_upper old) (lowers_of old.layers) s old.clients.directories o h.0 h.2 in
+      ap (closing_bits s) h.1 ∙ closing-same (mount_upper old) (lowers_of old.layers) s old.clients.objects.tree o h.0 h.2 in
       let on : Resumes shows (mount_upper new) s c (Close d) to =
       law_of_closed shows (mount_upper old) (mount_upper new) (lowers_of old.layers) s c d pass from to a.tracks known
       (subst (Closed shows from to c d) (sym bits) closed) in

@@ -79,7 +79,7 @@ writer-file : (m : Mount) (s : State) → IsStateOf m s → (c fd : ℕ) → can
 writer-file m s st c fd = by (opened_by m.clients c fd) (handle_of s.tables c fd) (st.tables.slots c fd)
   where
     by : (o : Option handles.Handle) (h : Option Handle) →
-        IsSlot (IsOpenAs (upper_of m.layers) (lowers_of m.layers) s.tree m.clients.directories) o h →
+        IsSlot (IsOpenAs (upper_of m.layers) (lowers_of m.layers) s.tree m.clients.objects.tree) o h →
         can_write h ≡ true → is_folder (handle_node s.tree h) ≡ false
     by None None on writes = absurd (false≢true writes)
     by None (Some h) on writes = absurd on
