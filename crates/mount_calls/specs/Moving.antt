@@ -48,7 +48,7 @@ pub record IsCourse (clients : Clients) (p q : Path) (o e : Object) (course : Co
 -- so it takes no memory: there is room where a file of a lower layer is copied up by it, and for a
 -- directory that goes along
 pub record IsReady (clients : Clients) (p q : Path) (o e : Object) (course : Course) : Type 0 where
-  pub course : IsCourse clients p q o e course
+  pub found : IsCourse clients p q o e course
   pub room : HasRoom clients.objects p o
   pub prepared : o ≡ object.Directory → IsPrepared clients.objects p q
 
