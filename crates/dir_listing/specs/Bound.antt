@@ -1,5 +1,5 @@
 -- The names that the layers of a merged directory have.
-use Rattle.std.specs.Prelude.{ℕ, Bool, true, false, List, [], ◌∷◌, Option, None, Some, IsSome, map, is_some, slice_get}
+use Rattle.std.specs.Prelude.{◌≡◌, ℕ, Bool, true, false, List, [], ◌∷◌, Option, None, Some, IsSome, map, is_some, slice_get}
 use Rattle.std.specs.Map.{lookup}
 use Rattle.std.specs.Str.{bytes_eq}
 use Rattle.std.specs.Option.{option_and_then}
@@ -31,6 +31,11 @@ abbrev pub shows_or : Option Entry → Bool → Bool
 shows_or None below = below
 shows_or (Some (Object key)) below = true
 shows_or (Some Whiteout) below = false
+
+-- what these have at each name tells what is shown there: the topmost object, where s is that below
+abbrev pub TellsShown : List Bound → (List ℕ → Option Place → Option Place) → Type 0
+TellsShown bs topmost =
+    (n : List ℕ) (s : Option Place) → shows_or (found n bs) (is_some s) ≡ is_some (topmost n s)
 
 -- whether an object is bound
 abbrev pub is_object : Bound → Bool

@@ -4,7 +4,7 @@ ghost use Rattle.ov_base.specs.declared.place.Place as stack;
 ghost use Rattle.std.specs.List.Sorted.{IsStrictlySortedBy};
 ghost use Rattle.merged_lookup.specs.Merged.{trees};
 ghost use Rattle.merged_lookup.specs.Descent.{topmost_in};
-ghost use Rattle.dir_listing.specs.Bound.{bound_of, by_name, found, shows_or, first_over, AreThere};
+ghost use Rattle.dir_listing.specs.Bound.{bound_of, by_name, found, shows_or, first_over, AreThere, TellsShown};
 
 use crate::merge::{keep_topmost, merged};
 use indexmap::map::Slice;
@@ -27,7 +27,8 @@ pub(crate) fn bounds_of<'a>(
     places: &[Place],
 ) -> Result<Vec<Bound<'a>>, AllocError>
     ensures sorted { IfOk result (λ v. IsStrictlySortedBy by_name v.items) }
-    ensures found { IfOk result (λ v. AreThere (trees layers.now) places.now → (n : List ℕ) (s : Option stack.Place) → shows_or (found n v.items) (is_some s) ≡ is_some (first_over (trees layers.now) places.now n s)) }
+    ensures found { IfOk result (λ v. AreThere (trees layers.now) places.now →
+        TellsShown v.items (first_over (trees layers.now) places.now)) }
 {
     match places {
         [] => Ok(Vec::new(alloc)),
@@ -48,7 +49,8 @@ fn bounds_at<'a>(
     place: Place,
 ) -> Result<Vec<Bound<'a>>, AllocError>
     ensures sorted { IfOk result (λ v. IsStrictlySortedBy by_name v.items) }
-    ensures found { IfOk result (λ v. IsSome (slice_get (trees layers.now) place.layer) → (n : List ℕ) (s : Option stack.Place) → shows_or (found n v.items) (is_some s) ≡ is_some (topmost_in (slice_get (trees layers.now) place.layer) place n s)) }
+    ensures found { IfOk result (λ v. IsSome (slice_get (trees layers.now) place.layer) →
+        TellsShown v.items (topmost_in (slice_get (trees layers.now) place.layer) place)) }
 {
     let Some(layer) = layers.layer(place.layer) else {
         return Ok(Vec::new(alloc));

@@ -15,7 +15,7 @@ use Rattle.layer_tree.specs.Table.{NameMap, object_key}
 use Rattle.layer_tree.specs.Change.{Retables, Unlinks, IsCounted, left_names}
 use Rattle.layer_tree.specs.Tree.{Tree, ROOT, entry, child, key_at, entry_at, seen_at, seen_entry, inode_at, layer_of, directory_attributes, leads_on, names_room, with_less, IsDirectory, IsUnmarked, IsTree, HoldsNoObjects}
 use Rattle.layer_tree.specs.Nameless.{IsNameless, KeepsObjects}
-use Rattle.layer_tree.specs.Move.{left_entry, left_object, Moves, MovesPath}
+use Rattle.layer_tree.specs.Move.{left_entry, left_object, AtBothNames, Moves, MovesPath}
 use Rattle.layer_tree.specs.declared.name_table.Entry.{Entry}
 use Rattle.layer_tree.specs.declared.name_table.Entry.TheVariants as bound
 use Rattle.layer_tree.proofs.Walks.{unwrapped, one_path, walk_under_none}
@@ -364,11 +364,11 @@ module _ (old new : Tree) (from to : ℕ) (name further : List ℕ) (covered : B
 pub record Outcome (old new : Tree) (from to : ℕ) (name further : List ℕ) (covered : Bool) : Type 0 where
   pub tree : IsTree new
   pub moves : Moves old new from name to further (left_entry covered)
-  pub path : (p q : Path) → key_at old p ≡ Some from → key_at old q ≡ Some to → IsOutside (name ∷ p) (further ∷ q) → IsOutside (further ∷ q) (name ∷ p) → MovesPath (layer_of old) (layer_of new) (name ∷ p) (further ∷ q) (left_object covered)
+  pub path : AtBothNames old from name to further (λ p q. MovesPath (layer_of old) (layer_of new) p q (left_object covered))
   pub unnamed : (k : ℕ) → child old to further ≡ Some k → IsDirectory old k → (d : ℕ) (n : List ℕ) → child new d n ≢ Some k
   pub nameless : HoldsNoObjects old to further → (k : ℕ) → child old to further ≡ Some k → IsDirectory old k → IsNameless new k
   pub keeps_objects : (q : Path) → key_at old q ≡ Some to → KeepsObjects old new (child old to further)
-  pub keeps : (p q : Path) → key_at old p ≡ Some from → key_at old q ≡ Some to → IsOutside (name ∷ p) (further ∷ q) → IsOutside (further ∷ q) (name ∷ p) → HoldsNoObjects old to further → IsLayer (layer_of old) → IsLayer (layer_of new)
+  pub keeps : AtBothNames old from name to further (λ p q. HoldsNoObjects old to further → IsLayer (layer_of old) → IsLayer (layer_of new))
 
 -- the steps come to that
 pub outcome : (t0 t1 t2 t3 : Tree) (from to : ℕ) (name further : List ℕ) (covered : Bool) (e : Entry) → Some e ≡ entry t0 from name → child t0 to further ≢ child t0 from name → Retables t0 t1 from (left_names covered name) 0 → Retables t1 t2 to (λ m. map.insert m further e) 1 → (was : Option Entry) → was ≡ entry t1 to further → Unlinks t2 t3 (option_and_then object_key was) → IsTree t0 → IsSome (child t0 from name) → IsDirectory t0 to → Outcome t0 t3 from to name further covered

@@ -1,11 +1,13 @@
 -- What other attributes of an object make of a layer (chmod(2), chown(2), setxattr(2), removexattr(2)).
 use Rattle.std.specs.Prelude.{◌≡◌, ◌≢◌, ℕ, Bool, List, Option, Some, option_map}
 use Rattle.slab.specs.Slab.{get}
+use Rattle.ov_base.specs.AttributeChanges.{changed}
+use Rattle.ov_base.specs.declared.attribute_change.AttributeChange.{AttributeChange}
 use Rattle.ov_base.specs.declared.attributes.Attributes.{Attributes}
 use Rattle.ov_base.specs.declared.redirect.Redirect.{Redirect}
 use Rattle.plain_model.specs.Layers as layers
 use Rattle.plain_model.specs.Layers.{Layer, Path, held}
-use Rattle.layer_tree.specs.Tree.{Tree, entry, key_at}
+use Rattle.layer_tree.specs.Tree.{Tree, entry, inode_at, key_at, layer_of, IsDirectory}
 use Rattle.layer_tree.specs.declared.node.Node.{Node}
 use Rattle.layer_tree.specs.declared.node.Node.TheVariants as node
 
@@ -47,3 +49,17 @@ pub record SetsDirectory (old new : Layer) (path : Path) (key : ℕ) (a : Attrib
   pub now : held new path ≡ Some (layers.Directory key a opaque redirect)
   pub elsewhere : (other : Path) → other ≢ path → held new other ≡ held old other
   pub inodes : (k : ℕ) → new.inodes k ≡ old.inodes k
+
+-- the attributes of what stands under the key are changed where they stand: under the key, of the
+-- inode, and of the directory at each path that leads to it
+pub record ChangesAttributes (old new : Tree) (key : ℕ) (change : AttributeChange) : Type 0 where
+  pub sets :
+      (a : Attributes) → attributes_at old key ≡ Some a →
+      SetsAttributes old new key (changed change a)
+  pub inode :
+      (i : layers.Inode) → inode_at old key ≡ Some i →
+      SetsInode (layer_of old) (layer_of new) key (changed change i.attributes)
+  pub directory :
+      (path : Path) (a : Attributes) → attributes_at old key ≡ Some a →
+      key_at old path ≡ Some key → IsDirectory old key →
+      SetsDirectory (layer_of old) (layer_of new) path key (changed change a)

@@ -8,7 +8,7 @@ use Rattle.ov_base.specs.declared.redirect.Redirect.TheVariants as redirect
 use Rattle.plain_model.specs.Layers.{Name, Path, Object, Directory, Named, Whiteout, held, spell, below, cut, cuts, holds_directory}
 use Rattle.layer_tree.specs.Tree.{Tree, layer_of}
 use Rattle.merged_lookup.specs.Descent.{holds_in}
-use Rattle.merged_lookup.specs.Passing.{directory_key, holds_under, passed, pass, redirected}
+use Rattle.merged_lookup.specs.Passing.{directory_key, holds_under, passed, pass, spelling_past}
 use Rattle.merged_lookup.proofs.Descending.{parent-held, held-in, key-of}
 
 under : (t : Tree) (n : Name) (u o : Option Object) → (is_some o ≡ true → holds_directory u ≡ true) → ((k : ℕ) (a : Attributes) (b : Bool) (r : Option Redirect) → u ≡ Some (Directory k a b r) → holds_in t k n ≡ o) → o ≡ holds_under t (directory_key u) n
@@ -35,7 +35,7 @@ abbrev pub crossed : Tree → Option ℕ → Bool → List Name → List Name �
 crossed t d c s [] = record { dir = d; cut = c; next = s }
 crossed t d c s (n ∷ ns) =
     crossed t (directory_key (holds_under t d n)) (cut (holds_under t d n) c)
-    (redirected (holds_under t d n) s (λ q. reverse q ++ pass t (directory_key (holds_under t d n)) ns)) ns
+    (spelling_past t (holds_under t d n) s ns) ns
 
 -- this is what the layer has at the path
 pub record IsCrossed (t : Tree) (p : Path) (x : Crossed) : Type 0 where
@@ -48,7 +48,7 @@ pub reverse-over : (n : Name) (b x : List Name) → reverse (n ∷ b) ++ x ≡ r
 reverse-over n b x = ap (λ z. z ++ x) (reverse-append (n ∷ []) b) ∙ append_assoc (reverse b) (n ∷ []) x
 
 -- the spelling one name on, where o is held at the name and b is the spelling of what is before it
-next-step : (t : Tree) (o : Option Object) (n : Name) (c : Bool) (s : List Name) (b : Path) (ns : List Name) → (c ≡ false → s ≡ reverse b ++ passed o n ∷ pass t (directory_key o) ns) → cut o c ≡ false → redirected o s (λ q. reverse q ++ pass t (directory_key o) ns) ≡ reverse (spell o n b) ++ pass t (directory_key o) ns
+next-step : (t : Tree) (o : Option Object) (n : Name) (c : Bool) (s : List Name) (b : Path) (ns : List Name) → (c ≡ false → s ≡ reverse b ++ passed o n ∷ pass t (directory_key o) ns) → cut o c ≡ false → spelling_past t o s ns ≡ reverse (spell o n b) ++ pass t (directory_key o) ns
 next-step t None n c s b ns h f = h f ∙ sym (reverse-over n b (pass t None ns))
 next-step t (Some Whiteout) n c s b ns h f = absurd (false≢true (sym f))
 next-step t (Some (Named k)) n c s b ns h f = absurd (false≢true (sym f))
@@ -68,7 +68,7 @@ crossed-from t (n ∷ ns) p d c s ed ec es =
     let eo : o ≡ held (layer_of t) (n ∷ p) = ap (λ z. holds_under t z n) ed ∙ sym (held-under t p n) in
     let P : Path → Type 0 = λ z. IsCrossed t z (crossed t d c s (n ∷ ns)) in
     subst P (sym (reverse-over n ns p))
-    (crossed-from t ns (n ∷ p) (directory_key o) (cut o c) (redirected o s (λ q. reverse q ++ pass t (directory_key o) ns)) (ap directory_key eo)
+    (crossed-from t ns (n ∷ p) (directory_key o) (cut o c) (spelling_past t o s ns) (ap directory_key eo)
     (ap (cut o) ec ∙ ap (λ z. cut z (cuts (layer_of t) p)) eo)
     (λ f. next-step t o n c s (below (layer_of t) p) ns es f ∙ ap (λ z. reverse (spell z n (below (layer_of t) p)) ++ pass t (directory_key o) ns) eo))
 

@@ -79,10 +79,14 @@ pub record ShowsDirectory (l : Layers) (p : Path) (s : List Place) : Type 0 wher
   pub shown : shows 0 (layers_of l) p ≡ Some (Folder (top_of s).layer (top_of s).key attributes)
   pub places : s ≡ places_at 0 (layers_of l) p
 
--- the layers show the file or symbolic link of this place at a path
+-- the layers show at a path the file or symbolic link of this place, which is this inode
+abbrev pub ShowsAs : Layers → Path → Place → Option Inode → Type 0
+ShowsAs l p d inode = shows 0 (layers_of l) p ≡ Some (Contents d.layer d.key inode)
+
+-- so of some inode
 pub record ShowsInode (l : Layers) (p : Path) (d : Place) : Type 0 where
   pub inode : Option Inode
-  pub shown : shows 0 (layers_of l) p ≡ Some (Contents d.layer d.key inode)
+  pub shown : ShowsAs l p d inode
 
 -- the layers show nothing at a path
 pub record ShowsNothing (l : Layers) (p : Path) : Type 0 where

@@ -1,5 +1,5 @@
 -- What one layer does with the names that come to it from above, root first, and how it spells them for the layers below.
-use Rattle.std.specs.Prelude.{◌≡◌, ℕ, Bool, true, false, List, [], ◌∷◌, Option, None, Some}
+use Rattle.std.specs.Prelude.{◌≡◌, ℕ, Bool, true, false, List, [], ◌∷◌, ◌++◌, Option, None, Some, reverse}
 use Rattle.std.specs.Option.{option_and_then}
 use Rattle.ov_base.specs.declared.redirect.Redirect.TheVariants as redirect
 use Rattle.plain_model.specs.Layers.{Name, Path, Object, Directory, cut}
@@ -31,6 +31,10 @@ pass t d (n ∷ ns) = passed (holds_under t d n) n ∷ pass t (directory_key (ho
 abbrev pub redirected : Option Object → List Name → (Path → List Name) → List Name
 redirected (Some (Directory k a false (Some (redirect.Absolute q)))) s new = new q
 redirected _ s new = s
+
+-- the spelling for the next layer, where this is held at a name before those
+abbrev pub spelling_past : Tree → Option Object → List Name → List Name → List Name
+spelling_past t o s ns = redirected o s (λ q. reverse q ++ pass t (directory_key o) ns)
 
 -- the same four of an answer about a layer's directory
 abbrev pub way_key : Onward → Option ℕ

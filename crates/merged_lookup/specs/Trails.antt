@@ -1,5 +1,5 @@
 -- The path by which the layers below the upper come to a directory.
-use Rattle.std.specs.Prelude.{◌≡◌, ℕ, Bool, true, false, List, ◌∷◌, ◌++◌, Option, None, Some, reverse}
+use Rattle.std.specs.Prelude.{◌≡◌, ℕ, Bool, true, false, List, [], ◌∷◌, ◌++◌, Option, None, Some, IfSome, reverse}
 use Rattle.ov_base.specs.declared.attributes.Attributes.{Attributes}
 use Rattle.ov_base.specs.declared.redirect.Redirect.{Redirect}
 use Rattle.ov_base.specs.declared.redirect.Redirect.TheVariants as redirect
@@ -26,6 +26,13 @@ LeadsOn ts s (Some r) = (k : ℕ) (ds : List Place) → s ≡ record { layer = 0
 -- where the place is of the upper, it is that of the upper's directory at the path
 abbrev pub IsUppers : Tree → Path → Place → Type 0
 IsUppers upper p d = d.layer ≡ 0 → (a : Attributes) × (o : Bool) × (r : Option Redirect) × (held (layer_of upper) p ≡ Some (Directory d.key a o r))
+
+-- where this holds of the path of all names that were walked, a trail that is right for those before
+-- the last one goes on to one that is right for all
+abbrev pub GoesOneOn : Tree → List Name → Option Trail → Option Trail → (Path → Type 0) → Type 0
+GoesOneOn upper walked old new P =
+    (before : List Name) (n : Name) → walked ≡ before ++ n ∷ [] → P (n ∷ reverse before) →
+    IfSome old (IsTrail upper before) → IfSome new (IsTrail upper walked)
 
 -- the place is the upper's, the first, and a path is the trail there and one name more
 abbrev pub IsFurther : Option Trail → ℕ → Place → Path → Name → Type 0

@@ -97,7 +97,9 @@ fn directory_under<'a>(
     dir: Option<usize>,
     name: &Name,
 ) -> Option<(usize, &'a Marks)>
-    ensures { MatchOption result (directory_key (holds_under layer.now dir name.now) ≡ None) (λ d. (a : Attributes) × (holds_under layer.now dir name.now ≡ Some (held.Directory d.0 a d.1.now.opaque d.1.now.redirect))) }
+    ensures { let o = holds_under layer.now dir name.now in
+        MatchOption result (directory_key o ≡ None) (λ d. (a : Attributes) ×
+        (o ≡ Some (held.Directory d.0 a d.1.now.opaque d.1.now.redirect))) }
 {
     match layer.entry(dir?, name) {
         Some(Entry::Object(key)) => match layer.node(key) {

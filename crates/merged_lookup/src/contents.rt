@@ -1,8 +1,8 @@
 // What files and symbolic links of the lower layers hold, to be copied up: a file's bytes are
 // shared.
 ghost use Rattle.std.specs.Prelude.{◌≡◌, ◌<◌, Some, IsSome, IfOk};
-ghost use Rattle.plain_model.specs.Layers.{Path, Inode, Contents, shows};
-ghost use Rattle.merged_lookup.specs.Merged.{layers_of, lowers_of, ShowsInode};
+ghost use Rattle.plain_model.specs.Layers.{Path, Inode};
+ghost use Rattle.merged_lookup.specs.Merged.{lowers_of, ShowsAs, ShowsInode};
 ghost use Rattle.merged_lookup.specs.Lower.{lower_bytes};
 
 use crate::layers::Layers;
@@ -15,8 +15,7 @@ impl Layers {
         requires shown { (p : Path) × ShowsInode self.now p place }
         requires lower { 0 < place.layer }
         ensures { IfOk result (λ c. (p : Path) (i : Inode) →
-            shows 0 (layers_of self.now) p ≡ Some (Contents place.layer place.key (Some i)) →
-            c ≡ i.content) }
+            ShowsAs self.now p place (Some i) → c ≡ i.content) }
     {
         let content = self.inode_at(place).content.clone()?;
         Ok(content)

@@ -1,11 +1,11 @@
 // The way of a path down the layers, one layer after the other.
-ghost use Rattle.std.specs.Prelude.{◌≡◌, ◌+◌, ◌++◌, ◌<◌, ◌≤◌, List, ℕ, length, drop, map, reverse, false};
+ghost use Rattle.std.specs.Prelude.{◌≡◌, ◌+◌, ◌<◌, ◌≤◌, List, ℕ, length, drop, map, reverse, false};
 ghost use Rattle.plain_model.specs.Layers.{held, cut, cuts, below};
 ghost use Rattle.layer_tree.specs.Tree.{layer_of};
 ghost use Rattle.merged_lookup.specs.Merged.{trees};
 ghost use Rattle.merged_lookup.specs.Descent.{places_from};
 ghost use Rattle.merged_lookup.specs.Numbered.{row};
-ghost use Rattle.merged_lookup.specs.Passing.{pass, holds_under, directory_key, redirected};
+ghost use Rattle.merged_lookup.specs.Passing.{holds_under, directory_key, spelling_past};
 ghost use Rattle.merged_lookup.specs.Spelling.{names_of, IsRow};
 
 use crate::layers::Layers;
@@ -34,7 +34,9 @@ impl<'a> Crossing<'a> {
         requires row { IsRow rest.now }
         ensures dir { self.new.dir ≡ directory_key (holds_under layer.now self.old.dir name.now) }
         ensures cut { self.new.cut ≡ cut (holds_under layer.now self.old.dir name.now) self.old.cut }
-        ensures next { names_of self.new.next ≡ redirected (holds_under layer.now self.old.dir name.now) (names_of self.old.next) (λ path. reverse path ++ pass layer.now (directory_key (holds_under layer.now self.old.dir name.now)) (names_of rest.now)) }
+        ensures next { names_of self.new.next ≡
+            spelling_past layer.now (holds_under layer.now self.old.dir name.now)
+            (names_of self.old.next) (names_of rest.now) }
         ensures first { self.old.next.first + 1 ≡ rest.now.first → self.new.next.first + 1 ≡ rest.now.first }
         ensures row { IsRow self.old.next → IsRow self.new.next }
     {

@@ -68,11 +68,11 @@ impl Model for Layers {
 }
 
 impl Layers {
-    ghost use Rattle.merged_lookup.specs.Merged.{trees, node_in, fill_at, layers_of, lowers_of, places_at, IsStackOf, IsAnswer, IsFound, IsTopmost, IsParentOf, parent, parents_fault, walk_fault, way_fault, inode_fault, place_fault, ShowsInode};
+    ghost use Rattle.merged_lookup.specs.Merged.{trees, node_in, fill_at, layers_of, lowers_of, places_at, IsStackOf, IsAnswer, IsFound, IsTopmost, IsParentOf, parent, parents_fault, walk_fault, way_fault, inode_fault, place_fault, ShowsAs, ShowsInode};
     ghost use Rattle.merged_lookup.specs.Descent.{first, places_from};
     ghost use Rattle.merged_lookup.specs.Changing.{LendsUpper};
     ghost use Rattle.merged_lookup.specs.Numbered.{row};
-    ghost use Rattle.merged_lookup.specs.Trails.{IsTrail, IsUppers};
+    ghost use Rattle.merged_lookup.specs.Trails.{GoesOneOn, IsUppers};
     ghost use Rattle.std.specs.Borrow.{sem};
     ghost use Rattle.layer_tree.specs.declared.node.Node.TheVariants as Node;
 
@@ -204,7 +204,8 @@ impl Layers {
     /// The file or symbolic link that is shown at a place.
     pub fn inode_at(&self, place: Place) -> &Inode
         requires { (p : Path) × ShowsInode self.now p place }
-        ensures { (p : Path) → ShowsInode self.now p place → shows 0 (layers_of self.now) p ≡ Some (held.Contents place.layer place.key (fill_at place.layer (lowers_of self.now) (inode_of (Node.Inode result.now)))) }
+        ensures { (p : Path) → ShowsInode self.now p place → ShowsAs self.now p place
+            (fill_at place.layer (lowers_of self.now) (inode_of (Node.Inode result.now))) }
     {
         let Some(layer) = self.layer(place.layer) else {
             unreachable!()
@@ -390,7 +391,8 @@ impl Layers {
     ) -> Option<Trail<'a>>
         requires within { walked ≤ length names.now }
         requires since { IfSome trail (λ t. length t.since.now < walked) }
-        ensures { (before : List held.Name) (n : held.Name) → take walked names.now ≡ before ++ n ∷ [] → IsUppers self.now.upper (n ∷ reverse before) first → IfSome trail.entry (IsTrail self.now.upper before) → IfSome result (IsTrail self.now.upper (take walked names.now)) }
+        ensures { GoesOneOn self.now.upper (take walked names.now) trail.entry result
+            (λ p. IsUppers self.now.upper p first) }
     {
         if first.layer != 0 || names.len() > FOLLOWED_MAX {
             return None;

@@ -1,9 +1,9 @@
 // The path by which the layers below the upper come to a directory.
-ghost use Rattle.std.specs.Prelude.{◌≡◌, ◌≢◌, ◌<◌, ◌∷◌, ◌++◌, [], List, ℕ, length, reverse, Some, is_some, MatchOption, IfSome};
+ghost use Rattle.std.specs.Prelude.{◌≡◌, ◌≢◌, ◌<◌, ◌∷◌, ℕ, length, Some, is_some, MatchOption, IfSome};
 ghost use Rattle.ov_base.specs.declared.attributes.Attributes.{Attributes};
 ghost use Rattle.plain_model.specs.Layers as held;
 ghost use Rattle.layer_tree.specs.Tree.{Tree, layer_of};
-ghost use Rattle.merged_lookup.specs.Trails.{trail_path, IsTrail, IsFurther, goes_on};
+ghost use Rattle.merged_lookup.specs.Trails.{trail_path, GoesOneOn, IsFurther, goes_on};
 
 use layer_tree::Marks;
 use ov_base::{Name, Path, Place, Redirect};
@@ -52,7 +52,9 @@ pub(crate) fn trail_past<'a>(
 ) -> Option<Trail<'a>>
     requires { IfSome trail (λ t. length t.since.now < length walked.now) }
     ensures some { is_some result ≡ goes_on marks.now.opaque marks.now.redirect (is_some trail.entry) }
-    ensures trail { (upper : Tree) (before : List held.Name) (n : held.Name) (k : ℕ) (a : Attributes) → walked.now ≡ before ++ n ∷ [] → held.held (layer_of upper) (n ∷ reverse before) ≡ Some (held.Directory k a marks.now.opaque marks.now.redirect) → IfSome trail.entry (IsTrail upper before) → IfSome result (IsTrail upper walked.now) }
+    ensures trail { (upper : Tree) (k : ℕ) (a : Attributes) →
+        GoesOneOn upper walked.now trail.entry result (λ p. held.held (layer_of upper) p
+        ≡ Some (held.Directory k a marks.now.opaque marks.now.redirect)) }
 {
     if marks.opaque {
         return None;

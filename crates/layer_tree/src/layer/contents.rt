@@ -2,14 +2,12 @@
 ghost use Rattle.std.specs.Prelude.{◌≡◌, ℕ, ◌+◌, ◌^◌, ◌<◌, ◌≤◌, ◌↔◌, IsTrue, Some, OnOk, OnErr, IsOk, is_ok, IsSome, if◌then◌else◌, List, length};
 ghost use Rattle.std.specs.Option.{option_copied};
 ghost use Rattle.slab.specs.Slab.{get};
-ghost use Rattle.ov_base.specs.AttributeChanges.{changed};
-ghost use Rattle.ov_base.specs.declared.attributes.Attributes.{Attributes as AttributesOf};
 ghost use Rattle.plain_model.specs.Changes.{sized};
 ghost use Rattle.plain_model.specs.Layers as layers;
 ghost use Rattle.plain_model.specs.Layers.{IsLayer};
 ghost use Rattle.layer_tree.specs.Tree.{key_at, inode_at, bytes_at, own_at, mark_at, HasMark, layer_of, Writes, written, IsDirectory, names_room, SameObjects, SameTree, UsesObjects};
 ghost use Rattle.layer_tree.specs.Nameless.{IsNameless};
-ghost use Rattle.layer_tree.specs.AttributeChange.{attributes_at, SetsAttributes, SetsInode, SetsDirectory};
+ghost use Rattle.layer_tree.specs.AttributeChange.{ChangesAttributes, SetsAttributes, SetsInode, SetsDirectory};
 ghost use Rattle.layer_tree.specs.ContentChange.{SetsBytes};
 
 use super::Layer;
@@ -153,9 +151,7 @@ impl Layer {
     /// It fails only when out of memory, and changes nothing then.
     pub fn alter(&mut self, key: usize, change: AttributeChange) -> Result<(), AllocError>
         requires { IsSome (get self.old key) }
-        ensures sets { OnOk result ((a : AttributesOf) → attributes_at self.old key ≡ Some a → SetsAttributes self.old self.new key (changed change a)) }
-        ensures inode { OnOk result ((i : layers.Inode) → inode_at self.old key ≡ Some i → SetsInode (layer_of self.old) (layer_of self.new) key (changed change i.attributes)) }
-        ensures directory { OnOk result ((path : List (List ℕ)) (a : AttributesOf) → attributes_at self.old key ≡ Some a → key_at self.old path ≡ Some key → IsDirectory self.old key → SetsDirectory (layer_of self.old) (layer_of self.new) path key (changed change a)) }
+        ensures changes { OnOk result (ChangesAttributes self.old self.new key change) }
         ensures unchanged { OnErr result (self.new ≡ self.old) }
         ensures kinds { (d : ℕ) → IsDirectory self.old d → IsDirectory self.new d }
         ensures names { (d : ℕ) → names_room self.new d ≡ names_room self.old d }

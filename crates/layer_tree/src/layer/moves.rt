@@ -1,13 +1,12 @@
 // An entry is moved to another name, and a directory gets other marks: what a rename needs.
-ghost use Rattle.std.specs.Prelude.{◌≡◌, ◌≢◌, ℕ, ◌+◌, ◌<◌, ◌≤◌, List, ◌∷◌, Some, None, IsSome, IsTrue};
+ghost use Rattle.std.specs.Prelude.{◌≡◌, ◌≢◌, ℕ, ◌+◌, ◌<◌, ◌≤◌, List, Some, None, IsSome, IsTrue};
 ghost use Rattle.std.specs.FinMap as map;
 ghost use Rattle.slab.specs.Slab.{slab_len};
 ghost use Rattle.plain_model.specs.Layers.{IsLayer};
-ghost use Rattle.plain_model.specs.Laws.{IsOutside};
 ghost use Rattle.layer_tree.specs.Tree.{ROOT, entry, child, key_at, layer_of, leads, names_room, table_of, IsDirectory, HoldsNoObjects, UsesObjects};
 ghost use Rattle.layer_tree.specs.Nameless.{IsNameless, KeepsObjects};
 ghost use Rattle.layer_tree.specs.Change.{Retables, Retabled, node_entry, left_names};
-ghost use Rattle.layer_tree.specs.Move.{left_entry, left_object, Moves, MovesPath};
+ghost use Rattle.layer_tree.specs.Move.{left_entry, left_object, AtBothNames, Moves, MovesPath};
 ghost use Rattle.layer_tree.specs.MarkChange.{with_marks, SetsMarks, MarksDirectory};
 
 use super::{Layer, bind_name, unlink};
@@ -34,7 +33,8 @@ impl Layer {
         requires apart { child self.old to further ≢ child self.old from name.now }
         requires names { entry self.old to further ≡ None → 0 < names_room self.old to }
         ensures value { result ≡ entry self.old to further }
-        ensures path { (p q : List (List ℕ)) → key_at self.old p ≡ Some from → key_at self.old q ≡ Some to → IsOutside (name.now ∷ p) (further ∷ q) → IsOutside (further ∷ q) (name.now ∷ p) → MovesPath (layer_of self.old) (layer_of self.new) (name.now ∷ p) (further ∷ q) (left_object covered) }
+        ensures path { AtBothNames self.old from name.now to further (λ p q.
+            MovesPath (layer_of self.old) (layer_of self.new) p q (left_object covered)) }
         ensures moves { Moves self.old self.new from name.now to further (left_entry covered) }
         ensures kinds { (d : ℕ) → IsDirectory self.old d → IsDirectory self.new d }
         ensures names { (d : ℕ) → names_room self.old d ≤ names_room self.new d + 1 }
@@ -42,7 +42,9 @@ impl Layer {
         ensures unnamed { (key : ℕ) → child self.old to further ≡ Some key → IsDirectory self.old key → (d : ℕ) (n : List ℕ) → child self.new d n ≢ Some key }
         ensures nameless { HoldsNoObjects self.old to further → (key : ℕ) → child self.old to further ≡ Some key → IsDirectory self.old key → IsNameless self.new key }
         ensures keeps_objects { (q : List (List ℕ)) → key_at self.old q ≡ Some to → KeepsObjects self.old self.new (child self.old to further) }
-        ensures keeps { (p q : List (List ℕ)) → key_at self.old p ≡ Some from → key_at self.old q ≡ Some to → IsOutside (name.now ∷ p) (further ∷ q) → IsOutside (further ∷ q) (name.now ∷ p) → HoldsNoObjects self.old to further → IsLayer (layer_of self.old) → IsLayer (layer_of self.new) }
+        ensures keeps { AtBothNames self.old from name.now to further (λ p q.
+            HoldsNoObjects self.old to further →
+            IsLayer (layer_of self.old) → IsLayer (layer_of self.new)) }
     {
         let Some(entry) = leave_name(&mut self.nodes, from, name, covered) else {
             unreachable!()
