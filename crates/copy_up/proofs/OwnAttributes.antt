@@ -9,9 +9,9 @@ use Rattle.ov_base.specs.declared.attributes.Attributes.{Attributes}
 use Rattle.ov_base.specs.declared.redirect.Redirect.{Redirect}
 use Rattle.plain_model.specs.Layers.{Path, Object, Directory, Named, Whiteout, Inode, Layer, fill, held, below, cuts, Folder, Contents, over, unless, shows, IsLayer}
 use Rattle.mount_laws.specs.Altered.{Alters}
-use Rattle.layer_tree.specs.AttributeChange.{attributes_at, SetsAttributes, SetsInode, SetsDirectory}
+use Rattle.layer_tree.specs.AttributeChange.{attributes_at, ChangesAttributes, SetsInode, SetsDirectory}
 use Rattle.layer_tree.specs.Nameless.{IsNameless}
-use Rattle.layer_tree.specs.Tree.{IsTree, IsHeldTogether, IsDirectory, layer_of, inode_at, key_at}
+use Rattle.layer_tree.specs.Tree.{IsTree, IsHeldTogether, layer_of}
 use Rattle.layer_tree.proofs.AttributeChanges.{inode_attributes}
 use Rattle.layer_tree.proofs.Changing.{directory_is_present}
 use Rattle.merged_lookup.specs.declared.found.Topmost.{Topmost}
@@ -97,14 +97,8 @@ pub own-there : (l : Layers) (p : Path) (d : Place) → IsOwn l p d → IsSome (
 own-there l p d (inl o) = directory_is_present l.upper d.key o.stands.directory
 own-there l p d (inr o) = inode-there (get l.upper d.key) o.inode o.is.inode
 
--- the attributes under a key of the upper are changed where they stand
-pub record ChangesKey (old new : Layers) (key : ℕ) (x : AttributeChange) : Type 0 where
-  pub sets : (a : Attributes) → attributes_at old.upper key ≡ Some a → SetsAttributes old.upper new.upper key (changed x a)
-  pub inode : (i : Inode) → inode_at old.upper key ≡ Some i → SetsInode (layer_of old.upper) (layer_of new.upper) key (changed x i.attributes)
-  pub directory : (p : Path) (a : Attributes) → attributes_at old.upper key ≡ Some a → key_at old.upper p ≡ Some key → IsDirectory old.upper key → SetsDirectory (layer_of old.upper) (layer_of new.upper) p key (changed x a)
-
--- an object of the upper that is shown, of which they are
-module _ (old new : Layers) (p : Path) (d : Place) (low : new.lowers ≡ old.lowers) (x : AttributeChange) (made : ChangesKey old new d.key x) where
+-- an object of the upper that is shown, whose attributes are changed where they stand
+module _ (old new : Layers) (p : Path) (d : Place) (low : new.lowers ≡ old.lowers) (x : AttributeChange) (made : ChangesAttributes old.upper new.upper d.key x) where
   sets-directory : (o : IsOwnDirectory old p d) → SetsDirectory (layer_of old.upper) (layer_of new.upper) p d.key (changed x o.attributes)
   sets-directory o = made.directory p o.attributes o.under o.stands.key o.stands.directory
 
@@ -149,15 +143,6 @@ module _ (old new : Layers) (p : Path) (d : Place) (low : new.lowers ≡ old.low
       subst (λ (b : Attributes). AltersObject old new p (changed x b)) (shown-inode old p d.layer d.key (fill (lowers_of old) o.inode) a o.shown shows)
       (object-inode old new p d.key (changed x o.inode.attributes)
       (made.sets o.inode.attributes (inode_attributes old.upper d.key o.inode o.is.inode)) (sets-inode o) o.is.named nameless)
-
--- the facts of a success together
-pub changes-key : {A : Type 0} (old new : Layers) (key : ℕ) (x : AttributeChange) (r : Result A AllocError)
-    → OnOk r ((a : Attributes) → attributes_at old.upper key ≡ Some a → SetsAttributes old.upper new.upper key (changed x a))
-    → OnOk r ((i : Inode) → inode_at old.upper key ≡ Some i → SetsInode (layer_of old.upper) (layer_of new.upper) key (changed x i.attributes))
-    → OnOk r ((p : Path) (a : Attributes) → attributes_at old.upper key ≡ Some a → key_at old.upper p ≡ Some key → IsDirectory old.upper key → SetsDirectory (layer_of old.upper) (layer_of new.upper) p key (changed x a))
-    → OnOk r (ChangesKey old new key x)
-changes-key old new key x (Ok u) sets inode directory = record { sets = sets; inode = inode; directory = directory }
-changes-key old new key x (Err e) sets inode directory = tt
 
 -- a success that gives a key gives the number that is held, where that is under it
 pub key-given : {P : Type 0} (r : Result ℕ AllocError) (key : ℕ) (o : Option ℕ) → OnOk r P → (P → o ≡ Some key) → IfOk r (λ k. k ≡ key) → IfOk r (λ k. o ≡ Some k)

@@ -1,14 +1,17 @@
 -- What the copying up of a file or a symbolic link leaves (overlayfs.rst, "Non-directories").
-use Rattle.std.specs.Prelude.{◌≡◌, ℕ, Bool, ◌&&◌, cond, Option, None, Some, is_some}
+use Rattle.std.specs.Prelude.{◌≡◌, ℕ, Bool, ◌&&◌, cond, Option, None, Some, is_some, option_map}
+use Rattle.std.specs.Global.{Box}
 use Rattle.slab.specs.Slab.{get}
 use Rattle.ov_base.specs.declared.attributes.Attributes.{Attributes}
 use Rattle.ov_base.specs.declared.bytes.Content.{Content}
-use Rattle.plain_model.specs.Layers.{Path, Named, Layer, held, below, is_file, AreLayers}
+use Rattle.plain_model.specs.Layers.{Path, Inode, Named, Layer, held, below, fill, is_file, AreLayers}
 use Rattle.mount_laws.specs.Altered.{Alters}
-use Rattle.layer_tree.specs.Tree.{layer_of}
+use Rattle.layer_tree.specs.Tree.{layer_of, new_inode}
+use Rattle.layer_tree.specs.declared.node.Object.{Object}
 use Rattle.layer_tree.specs.Nameless.{KeepsObjects}
 use Rattle.merged_lookup.specs.declared.layers.Layers.{Layers}
-use Rattle.merged_lookup.specs.Merged.{upper_of, layers_of, lowers_of}
+use Rattle.ov_base.specs.declared.place.Place.{Place}
+use Rattle.merged_lookup.specs.Merged.{upper_of, layers_of, lowers_of, ShowsAs}
 use Rattle.copy_up.specs.Showing.{KeepsOthers}
 
 -- the mark of a copy of what stands at a path: of a file whose bytes stay below its spelling there, and else none
@@ -27,3 +30,21 @@ pub record CopiesLeaf (old new : Layers) (p : Path) (content : Content) (mark : 
   pub vacant : get old.upper number ≡ None
   pub others : KeepsOthers old new p
   pub objects : KeepsObjects old.upper new.upper (Some number)
+
+-- this is the mark of a copy of what stands at the path
+abbrev pub IsCopyMark : Layers → Bool → Path → Content → Option (Box Path) → Type 0
+IsCopyMark l low p content mark =
+    option_map (λ b. b.value) mark ≡ copy_mark low (layer_of l.upper) p content
+
+-- the file or link that the path showed at this place is copied so, under this key
+abbrev pub CopiesShown : Layers → Layers → Path → Place → Option Path → Attributes → ℕ → Type 0
+CopiesShown old new p d mark a key =
+    (i : Inode) → ShowsAs old p d (Some i) →
+    (leaf : CopiesLeaf old new p i.content mark a) × (leaf.number ≡ key)
+
+-- by this object, where that shows what the file or link has
+abbrev pub CopiesBy : Layers → Layers → Path → Place → Object → ℕ → Type 0
+CopiesBy old new p d object key =
+    (i copy : Inode) → ShowsAs old p d (Some i) →
+    new_inode object ≡ Some copy → (fill (lowers_of old) copy).content ≡ i.content →
+    (leaf : CopiesLeaf old new p i.content copy.mark copy.attributes) × (leaf.number ≡ key)

@@ -5,7 +5,7 @@ use Rattle.ov_base.specs.declared.attributes.Attributes.{Attributes}
 use Rattle.ov_base.specs.declared.redirect.Redirect.{Redirect}
 use Rattle.plain_model.specs.Laws.{Placed, IsOutside}
 use Rattle.plain_model.specs.Machine.{State}
-use Rattle.plain_model.specs.Layers.{AreLayers, Folder, Name, Path, Object, Directory, Named, Layer, held, below, cuts, shows}
+use Rattle.plain_model.specs.Layers.{AreLayers, Folder, Name, Path, Object, Directory, Named, Layer, held, holds_directory, below, cuts, shows}
 use Rattle.plain_model.specs.Tree.{Sight, merged, IsThin}
 use Rattle.mount_laws.specs.Looks.{IsMountOf}
 use Rattle.layer_tree.specs.Tree.{layer_of, inode_at}
@@ -82,6 +82,16 @@ pub record HasPlace (L : Layer) (dir : ℕ) (n : Name) (p : Path) : Type 0 where
   pub redirect : Option Redirect
   pub directory : held L p ≡ Some (Directory dir attributes opaque redirect)
   pub free : is_object (held L (n ∷ p)) ≡ false
+
+-- so it is of the upper before and after, at each path at which the name has its place
+abbrev pub AtPlace : Layers → Layers → ℕ → Name → (Layer → Layer → Path → Type 0) → Type 0
+AtPlace old new dir n P =
+    (p : Path) → HasPlace (layer_of old.upper) dir n p →
+    P (layer_of old.upper) (layer_of new.upper) (n ∷ p)
+
+-- the upper holds no directory at the path
+abbrev pub HoldsNoDirectory : Layers → Path → Type 0
+HoldsNoDirectory l p = holds_directory (held (layer_of l.upper) p) ≡ false
 
 -- layers that are layers stay so
 abbrev pub StaysLayers : Layers → Layers → Type 0

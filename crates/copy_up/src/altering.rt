@@ -3,14 +3,14 @@ ghost use Rattle.std.specs.Prelude.{◌≡◌, ◌≢◌, ◌<◌, ◌∷◌, �
 ghost use Rattle.slab.specs.Slab.{get};
 ghost use Rattle.ov_base.specs.AttributeChanges.{changed};
 ghost use Rattle.ov_base.specs.declared.attributes.Attributes.{Attributes as AttributesOf};
-ghost use Rattle.plain_model.specs.Layers.{Name, Path as Names, Inode, Folder, Contents, held, shows, is_directory, IsLayer, AreLayers};
+ghost use Rattle.plain_model.specs.Layers.{Name, Path as Names, Inode, Folder, held, shows, is_directory, IsLayer, AreLayers};
 ghost use Rattle.mount_laws.specs.Altered.{Alters};
-ghost use Rattle.layer_tree.specs.AttributeChange.{attributes_at, SetsAttributes, SetsInode, SetsDirectory};
+ghost use Rattle.layer_tree.specs.AttributeChange.{ChangesAttributes, SetsAttributes, SetsInode, SetsDirectory};
 ghost use Rattle.layer_tree.specs.Nameless.{IsNameless};
 ghost use Rattle.layer_tree.specs.Tree.{layer_of, key_at, inode_at, IsDirectory};
-ghost use Rattle.merged_lookup.specs.Merged.{upper_of, layers_of, lowers_of, parent, parents_fault, way_fault, top_of, IsStackOf, IsTopmost, ShowsInode};
+ghost use Rattle.merged_lookup.specs.Merged.{upper_of, layers_of, lowers_of, parent, parents_fault, way_fault, top_of, IsStackOf, IsTopmost, ShowsAs, ShowsInode};
 ghost use Rattle.copy_up.specs.Showing.{number_of, ShowsSame, ChangesNoSight, GainsParents, Stays, StaysSound};
-ghost use Rattle.copy_up.specs.Leaves.{CopiesLeaf, copy_mark};
+ghost use Rattle.copy_up.specs.Leaves.{CopiesShown, IsCopyMark};
 ghost use Rattle.copy_up.specs.Altering.{AltersObject, AltersAs, AltersObjectAs};
 ghost use Rattle.copy_up.specs.Texts.{KeepsTexts};
 
@@ -205,16 +205,11 @@ fn copy_marked(
     requires way { way_fault (layers_of layers.old) (reverse parents.now) ≡ None }
     requires directory { IsStackOf layers.old (reverse parents.now) directory.now }
     requires shown { (i : Inode) × (low : Bool) ×
-        (shows 0 (layers_of layers.old) (name.now ∷ reverse parents.now) ≡
-        Some (Contents place.layer place.key (Some i))) ×
-        (option_map (λ b. b.value) mark ≡
-        copy_mark low (layer_of layers.old.upper) (name.now ∷ reverse parents.now) i.content) }
+        ShowsAs layers.old (name.now ∷ reverse parents.now) place (Some i) ×
+        IsCopyMark layers.old low (name.now ∷ reverse parents.now) i.content mark }
     requires lower { 0 < place.layer }
-    ensures copied { IfOk result (λ key. (i : Inode) →
-        shows 0 (layers_of layers.old) (name.now ∷ reverse parents.now) ≡
-        Some (Contents place.layer place.key (Some i)) →
-        (leaf : CopiesLeaf layers.old layers.new (name.now ∷ reverse parents.now) i.content
-        (option_map (λ b. b.value) mark) attributes) × (leaf.number ≡ key)) }
+    ensures copied { IfOk result (CopiesShown layers.old layers.new
+        (name.now ∷ reverse parents.now) place (option_map (λ b. b.value) mark) attributes) }
     ensures no_memory { OnErr result (ChangesNoSight layers.old layers.new
         (GainsParents layers.old layers.new (name.now ∷ reverse parents.now))) }
     ensures sound { StaysSound layers.old layers.new }
@@ -232,7 +227,8 @@ fn changed_inode(
     change: AttributeChange,
 ) -> Result<Attributes, AllocError>
     requires { (p : Names) × ShowsInode layers.now p place }
-    ensures { IfOk result (λ x. (p : Names) → ShowsInode layers.now p place → (i : Inode) × (shows 0 (layers_of layers.now) p ≡ Some (Contents place.layer place.key (Some i))) × (x ≡ changed change i.attributes)) }
+    ensures { IfOk result (λ x. (p : Names) → ShowsInode layers.now p place →
+        (i : Inode) × ShowsAs layers.now p place (Some i) × (x ≡ changed change i.attributes)) }
 {
     let mut attributes = layers.inode_at(place).attributes.clone()?;
     change.apply(&mut attributes)?;
@@ -249,9 +245,8 @@ fn alter_upper(
     requires { IsSome (get layers.old.upper key) }
     ensures same { IfOk result (λ k. k ≡ key) }
     ensures lowers { layers.new.lowers ≡ layers.old.lowers }
-    ensures sets { OnOk result ((a : AttributesOf) → attributes_at layers.old.upper key ≡ Some a → SetsAttributes layers.old.upper layers.new.upper key (changed change a)) }
-    ensures inode { OnOk result ((i : Inode) → inode_at layers.old.upper key ≡ Some i → SetsInode (layer_of layers.old.upper) (layer_of layers.new.upper) key (changed change i.attributes)) }
-    ensures directory { OnOk result ((p : Names) (a : AttributesOf) → attributes_at layers.old.upper key ≡ Some a → key_at layers.old.upper p ≡ Some key → IsDirectory layers.old.upper key → SetsDirectory (layer_of layers.old.upper) (layer_of layers.new.upper) p key (changed change a)) }
+    ensures changes { OnOk result
+        (ChangesAttributes layers.old.upper layers.new.upper key change) }
     ensures unchanged { OnErr result (layers.new.upper ≡ layers.old.upper) }
     ensures keeps { IsLayer (layer_of layers.old.upper) → IsLayer (layer_of layers.new.upper) }
     ensures nameless { (k : ℕ) → IsNameless layers.old.upper k → IsNameless layers.new.upper k }

@@ -1,13 +1,13 @@
 // Files and symbolic links in the upper: new ones, and those of lower layers copied up.
-ghost use Rattle.std.specs.Prelude.{◌≡◌, ◌<◌, ◌∷◌, Some, None, IsSome, true, option_map, reverse, IfOk, OnErr};
+ghost use Rattle.std.specs.Prelude.{◌≡◌, ◌<◌, ◌∷◌, Some, None, IsSome, true, reverse, IfOk, OnErr};
 ghost use Rattle.slab.specs.Slab.{get};
-ghost use Rattle.plain_model.specs.Layers.{Path as Names, Inode, Contents, below, fill, is_file, shows, IsLayer};
+ghost use Rattle.plain_model.specs.Layers.{Path as Names, Inode, below, is_file, IsLayer};
 ghost use Rattle.mount_laws.specs.Leaves.{PlacesLeaf};
 ghost use Rattle.layer_tree.specs.Nameless.{KeepsObjects};
 ghost use Rattle.layer_tree.specs.Tree.{layer_of, new_inode, SameObjects};
-ghost use Rattle.merged_lookup.specs.Merged.{layers_of, lowers_of, way_fault, IsStackOf, ShowsInode};
-ghost use Rattle.copy_up.specs.Showing.{ChangesNoSight, HasPlace, GainsParents, StaysSound};
-ghost use Rattle.copy_up.specs.Leaves.{CopiesLeaf, copy_mark};
+ghost use Rattle.merged_lookup.specs.Merged.{layers_of, way_fault, IsStackOf, ShowsAs, ShowsInode};
+ghost use Rattle.copy_up.specs.Showing.{AtPlace, ChangesNoSight, HasPlace, GainsParents, StaysSound};
+ghost use Rattle.copy_up.specs.Leaves.{CopiesBy, CopiesShown, IsCopyMark};
 
 use crate::parents::{place_parents, placed_or};
 use layer_tree::Object;
@@ -30,14 +30,10 @@ pub fn all_at_once(
     requires way { way_fault (layers_of layers.old) (reverse parents.now) ≡ None }
     requires directory { IsStackOf layers.old (reverse parents.now) directory.now }
     requires shown { (i : Inode) ×
-        (shows 0 (layers_of layers.old) (name.now ∷ reverse parents.now) ≡
-        Some (Contents place.layer place.key (Some i))) }
+        ShowsAs layers.old (name.now ∷ reverse parents.now) place (Some i) }
     requires lower { 0 < place.layer }
-    ensures copied { IfOk result (λ key. (i : Inode) →
-        shows 0 (layers_of layers.old) (name.now ∷ reverse parents.now) ≡
-        Some (Contents place.layer place.key (Some i)) →
-        (leaf : CopiesLeaf layers.old layers.new (name.now ∷ reverse parents.now) i.content
-        None attributes) × (leaf.number ≡ key)) }
+    ensures copied { IfOk result (CopiesShown layers.old layers.new
+        (name.now ∷ reverse parents.now) place None attributes) }
     ensures no_memory { OnErr result (ChangesNoSight layers.old layers.new
         (GainsParents layers.old layers.new (name.now ∷ reverse parents.now))) }
     ensures sound { StaysSound layers.old layers.new }
@@ -61,16 +57,13 @@ pub fn place_meta(
     requires way { way_fault (layers_of layers.old) (reverse parents.now) ≡ None }
     requires directory { IsStackOf layers.old (reverse parents.now) directory.now }
     requires shown { (i : Inode) ×
-        (shows 0 (layers_of layers.old) (name.now ∷ reverse parents.now) ≡
-        Some (Contents place.layer place.key (Some i))) × (is_file i.content ≡ true) }
+        ShowsAs layers.old (name.now ∷ reverse parents.now) place (Some i) ×
+        (is_file i.content ≡ true) }
     requires lower { 0 < place.layer }
     requires mark { mark.value ≡
         below (layer_of layers.old.upper) (name.now ∷ reverse parents.now) }
-    ensures copied { IfOk result (λ key. (i : Inode) →
-        shows 0 (layers_of layers.old) (name.now ∷ reverse parents.now) ≡
-        Some (Contents place.layer place.key (Some i)) →
-        (leaf : CopiesLeaf layers.old layers.new (name.now ∷ reverse parents.now) i.content
-        (Some mark.value) attributes) × (leaf.number ≡ key)) }
+    ensures copied { IfOk result (CopiesShown layers.old layers.new
+        (name.now ∷ reverse parents.now) place (Some mark.value) attributes) }
     ensures no_memory { OnErr result (ChangesNoSight layers.old layers.new
         (GainsParents layers.old layers.new (name.now ∷ reverse parents.now))) }
     ensures sound { StaysSound layers.old layers.new }
@@ -91,16 +84,11 @@ fn place_leaf(
     requires way { way_fault (layers_of layers.old) (reverse parents.now) ≡ None }
     requires directory { IsStackOf layers.old (reverse parents.now) directory.now }
     requires shown { (i : Inode) ×
-        (shows 0 (layers_of layers.old) (name.now ∷ reverse parents.now) ≡
-        Some (Contents place.layer place.key (Some i))) }
+        ShowsAs layers.old (name.now ∷ reverse parents.now) place (Some i) }
     requires lower { 0 < place.layer }
     requires leaf { (copy : Inode) × (new_inode object ≡ Some copy) }
-    ensures copied { IfOk result (λ key. (i copy : Inode) →
-        shows 0 (layers_of layers.old) (name.now ∷ reverse parents.now) ≡
-        Some (Contents place.layer place.key (Some i)) →
-        new_inode object ≡ Some copy → (fill (lowers_of layers.old) copy).content ≡ i.content →
-        (leaf : CopiesLeaf layers.old layers.new (name.now ∷ reverse parents.now) i.content
-        copy.mark copy.attributes) × (leaf.number ≡ key)) }
+    ensures copied { IfOk result (CopiesBy layers.old layers.new
+        (name.now ∷ reverse parents.now) place object) }
     ensures no_memory { OnErr result (ChangesNoSight layers.old layers.new
         (GainsParents layers.old layers.new (name.now ∷ reverse parents.now))) }
     ensures sound { StaysSound layers.old layers.new }
@@ -121,10 +109,8 @@ pub fn mark_of(
     metacopy: bool,
 ) -> Result<Option<Box<Path>>, AllocError>
     requires { ShowsInode layers.now path.now place }
-    ensures { IfOk result (λ mark. (i : Inode) →
-        shows 0 (layers_of layers.now) path.now ≡ Some (Contents place.layer place.key (Some i)) →
-        option_map (λ b. b.value) mark ≡
-        copy_mark metacopy (layer_of layers.now.upper) path.now i.content) }
+    ensures { IfOk result (λ mark. (i : Inode) → ShowsAs layers.now path.now place (Some i) →
+        IsCopyMark layers.now metacopy path.now i.content mark) }
 {
     if !metacopy {
         return Ok(None);
@@ -150,7 +136,8 @@ pub fn insert_leaf(
     requires place { (p : Names) × HasPlace (layer_of layers.old.upper) dir name.now p }
     requires leaf { IsSome (new_inode object) }
     ensures lowers { layers.new.lowers ≡ layers.old.lowers }
-    ensures placed { IfOk result (λ key. (p : Names) (i : Inode) → HasPlace (layer_of layers.old.upper) dir name.now p → new_inode object ≡ Some i → PlacesLeaf (layer_of layers.old.upper) (layer_of layers.new.upper) (name.now ∷ p) key i) }
+    ensures placed { IfOk result (λ key. AtPlace layers.old layers.new dir name.now (λ U V x.
+        (i : Inode) → new_inode object ≡ Some i → PlacesLeaf U V x key i)) }
     ensures unchanged { OnErr result (SameObjects (layer_of layers.old.upper) (layer_of layers.new.upper)) }
     ensures vacant { IfOk result (λ key. get layers.old.upper key ≡ None) }
     ensures objects { IfOk result (λ key. KeepsObjects layers.old.upper layers.new.upper (Some key)) }

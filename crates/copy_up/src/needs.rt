@@ -1,9 +1,9 @@
 // Which parents of a path the upper lacks, and placing them one at a time.
-ghost use Rattle.std.specs.Prelude.{◌≡◌, ◌∷◌, Some, None, true, false, reverse, IfSome, OnOk, OnErr};
+ghost use Rattle.std.specs.Prelude.{◌≡◌, ◌∷◌, Some, None, true, false, reverse, IfSome, OnSome, OnOk, OnErr};
 ghost use Rattle.plain_model.specs.Layers.{Path as Names, held, shows, is_directory, holds_directory};
 ghost use Rattle.layer_tree.specs.Tree.{layer_of, key_at, SameObjects};
 ghost use Rattle.merged_lookup.specs.Merged.{layers_of, parents_fault, way_fault, IsStackOf};
-ghost use Rattle.copy_up.specs.Showing.{ShowsSame, GainsParent, GainsParents, Stays};
+ghost use Rattle.copy_up.specs.Showing.{HoldsNoDirectory, ShowsSame, GainsParent, GainsParents, Stays};
 ghost use Rattle.copy_up.specs.Needs.{IsNeed, first_names};
 
 use crate::parents::{directory_in, place_parent};
@@ -38,8 +38,12 @@ pub fn need_at(layers: &Layers, path: &Path) -> Need
 
 // The key of the directory that the upper holds at a name in a directory of its own.
 fn upper_directory(layers: &Layers, dir: usize, name: &Name) -> Option<usize>
-    ensures held { IfSome result (λ key. (p : Names) → key_at layers.now.upper p ≡ Some dir → (key_at layers.now.upper (name.now ∷ p) ≡ Some key) × (holds_directory (held (layer_of layers.now.upper) (name.now ∷ p)) ≡ true)) }
-    ensures none { result ≡ None → (p : Names) → key_at layers.now.upper p ≡ Some dir → holds_directory (held (layer_of layers.now.upper) (name.now ∷ p)) ≡ false }
+    ensures key { IfSome result (λ key. (p : Names) → key_at layers.now.upper p ≡ Some dir →
+        key_at layers.now.upper (name.now ∷ p) ≡ Some key) }
+    ensures held { OnSome result ((p : Names) → key_at layers.now.upper p ≡ Some dir →
+        holds_directory (held (layer_of layers.now.upper) (name.now ∷ p)) ≡ true) }
+    ensures none { result ≡ None → (p : Names) → key_at layers.now.upper p ≡ Some dir →
+        HoldsNoDirectory layers.now (name.now ∷ p) }
 {
     let upper = layers.upper();
     match upper.entry(dir, name) {

@@ -7,7 +7,7 @@ ghost use Rattle.slab.specs.Slab.{get};
 ghost use Rattle.layer_tree.specs.Nameless.{KeepsObjects};
 ghost use Rattle.layer_tree.specs.Tree.{layer_of, inode_at, SetsPath, SameObjects};
 ghost use Rattle.merged_lookup.specs.Merged.{layers_of, way_fault, top_of, IsStackOf, ShowsDirectory};
-ghost use Rattle.copy_up.specs.Showing.{ShowsSame, HasPlace, GainsParent, IsParent, GainsParents, Stays};
+ghost use Rattle.copy_up.specs.Showing.{AtPlace, HoldsNoDirectory, ShowsSame, HasPlace, GainsParent, IsParent, GainsParents, Stays};
 
 use layer_tree::{Marks, Object};
 use merged_lookup::{Found, Layers, Stack};
@@ -81,7 +81,9 @@ pub(crate) fn place_parent(
     ensures stack { IfOk result (λ s. (p : Path) → IsStackOf layers.old p parent.now → IsStackOf layers.new (name.now ∷ p) s) }
     ensures upper { IfOk result (λ s. (top_of s.places.items).layer ≡ 0) }
     ensures stays { Stays layers.old layers.new }
-    ensures placed { OnOk result ((p : Path) → IsStackOf layers.old p parent.now → held.holds_directory (held.held (layer_of layers.old.upper) (name.now ∷ p)) ≡ false → GainsParent layers.old layers.new (name.now ∷ p)) }
+    ensures placed { OnOk result ((p : Path) → IsStackOf layers.old p parent.now →
+        HoldsNoDirectory layers.old (name.now ∷ p) →
+        GainsParent layers.old layers.new (name.now ∷ p)) }
     ensures unchanged { OnErr result (SameObjects (layer_of layers.old.upper) (layer_of layers.new.upper)) }
     ensures gains { (p t : Path) → IsStackOf layers.old p parent.now → IsParent (name.now ∷ p) t → GainsParents layers.old layers.new t }
 {
@@ -119,7 +121,9 @@ pub fn insert_directory(
 ) -> Result<usize, AllocError>
     requires { (p : Path) × HasPlace (layer_of layers.old.upper) dir name.now p }
     ensures lowers { layers.new.lowers ≡ layers.old.lowers }
-    ensures sets { IfOk result (λ key. (p : Path) → HasPlace (layer_of layers.old.upper) dir name.now p → SetsPath (layer_of layers.old.upper) (layer_of layers.new.upper) (name.now ∷ p) (held.Directory key attributes opaque None) × (get layers.old.upper key ≡ None)) }
+    ensures sets { IfOk result (λ key. AtPlace layers.old layers.new dir name.now (λ U V x.
+        SetsPath U V x (held.Directory key attributes opaque None))) }
+    ensures vacant { IfOk result (λ key. get layers.old.upper key ≡ None) }
     ensures unchanged { OnErr result (SameObjects (layer_of layers.old.upper) (layer_of layers.new.upper)) }
     ensures keeps { IsLayer (layer_of layers.old.upper) → IsLayer (layer_of layers.new.upper) }
     ensures inodes { (key : ℕ) → inode_at layers.new.upper key ≡ inode_at layers.old.upper key }

@@ -2,7 +2,7 @@ use Rattle.std.proofs.Common.{Some}
 use Rattle.std.proofs.lemmas.Result.{on_ok_weaker, on_err_weaker}
 use Rattle.copy_up.proofs.Keeping.{no-sight, then-layers}
 use Rattle.copy_up.proofs.OtherAttributes.{thin-either}
-use Rattle.copy_up.proofs.OwnAttributes.{is-own, own-there, own-alters, own-key, own-object, own-texts, own-thin, changes-key, key-given}
+use Rattle.copy_up.proofs.OwnAttributes.{is-own, own-there, own-alters, own-key, own-object, own-texts, own-thin, key-given}
 use Rattle.copy_up.proofs.Texts.{texts-either}
 use Rattle.copy_up.proofs.altering.alter.Goals as goal
 
@@ -17,7 +17,7 @@ returns-then-place-eq0-clause-altered c =
     let own = is-own old c.lawful.ensures.tree c.lawful.ensures.together c.args.path.now c.args.top c.place-place.result c.place-place.ensures c.if-place-eq0.true c.requires.shown in
     on_ok_weaker c.alter_upper.result
     (λ made. own-alters old c.alter_upper.new.layers c.args.path.now c.place-place.result c.alter_upper.ensures.lowers c.args.change made c.args.metacopy c.alter_upper.ensures.keeps own)
-    (changes-key old c.alter_upper.new.layers c.place-place.result.key c.args.change c.alter_upper.result c.alter_upper.ensures.sets c.alter_upper.ensures.inode c.alter_upper.ensures.directory)
+    c.alter_upper.ensures.changes
 
 pub returns-then-place-eq0-clause-object : goal.returns-then-place-eq0-clause-object
 returns-then-place-eq0-clause-object c =
@@ -25,7 +25,7 @@ returns-then-place-eq0-clause-object c =
     let own = is-own old c.lawful.ensures.tree c.lawful.ensures.together c.args.path.now c.args.top c.place-place.result c.place-place.ensures c.if-place-eq0.true c.requires.shown in
     on_ok_weaker c.alter_upper.result
     (λ made. own-object old c.alter_upper.new.layers c.args.path.now c.place-place.result c.alter_upper.ensures.lowers c.args.change made c.alter_upper.ensures.nameless own)
-    (changes-key old c.alter_upper.new.layers c.place-place.result.key c.args.change c.alter_upper.result c.alter_upper.ensures.sets c.alter_upper.ensures.inode c.alter_upper.ensures.directory)
+    c.alter_upper.ensures.changes
 
 pub returns-then-place-eq0-clause-sound : goal.returns-then-place-eq0-clause-sound
 returns-then-place-eq0-clause-sound c =
@@ -37,7 +37,7 @@ returns-then-place-eq0-clause-sound c =
           thin-either old c.alter_upper.new.layers c.alter_upper.result c.alter_upper.ensures.lowers
           (on_ok_weaker c.alter_upper.result
           (λ made. own-thin old c.alter_upper.new.layers c.args.path.now c.place-place.result c.alter_upper.ensures.lowers c.args.change made own)
-          (changes-key old c.alter_upper.new.layers c.place-place.result.key c.args.change c.alter_upper.result c.alter_upper.ensures.sets c.alter_upper.ensures.inode c.alter_upper.ensures.directory))
+          c.alter_upper.ensures.changes)
           c.alter_upper.ensures.unchanged;
     }
 
@@ -46,7 +46,7 @@ returns-then-place-eq0-clause-key c =
     let old = c.args.layers.now in
     let own = is-own old c.lawful.ensures.tree c.lawful.ensures.together c.args.path.now c.args.top c.place-place.result c.place-place.ensures c.if-place-eq0.true c.requires.shown in
     key-given c.alter_upper.result c.place-place.result.key _
-    (changes-key old c.alter_upper.new.layers c.place-place.result.key c.args.change c.alter_upper.result c.alter_upper.ensures.sets c.alter_upper.ensures.inode c.alter_upper.ensures.directory)
+    c.alter_upper.ensures.changes
     (λ made. own-key old c.alter_upper.new.layers c.args.path.now c.place-place.result c.alter_upper.ensures.lowers c.args.change made own)
     c.alter_upper.ensures.same
 
@@ -64,7 +64,7 @@ returns-then-place-eq0-clause-texts c =
     texts-either old c.alter_upper.new.layers c.args.path.now (Some c.args.path.now) c.alter_upper.result
     (on_ok_weaker c.alter_upper.result
     (λ made. own-texts old c.alter_upper.new.layers c.args.path.now c.place-place.result c.alter_upper.ensures.lowers c.args.change made (Some c.args.path.now) own)
-    (changes-key old c.alter_upper.new.layers c.place-place.result.key c.args.change c.alter_upper.result c.alter_upper.ensures.sets c.alter_upper.ensures.inode c.alter_upper.ensures.directory))
+    c.alter_upper.ensures.changes)
     (on_err_weaker c.alter_upper.result (no-sight old c.alter_upper.new.layers c.args.path.now c.alter_upper.ensures.lowers) c.alter_upper.ensures.unchanged)
 
 pub returns-in-Directory-clause-texts : goal.returns-in-Directory-clause-texts

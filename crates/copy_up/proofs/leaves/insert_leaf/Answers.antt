@@ -23,7 +23,7 @@ pub insert-requires-clause-redirect : goal.insert-requires-clause-redirect
 insert-requires-clause-redirect c = leaf-leads c.args.object c.requires.leaf
 
 pub returns-clause-placed : goal.returns-clause-placed
-returns-clause-placed c = λ p i h is.
+returns-clause-placed c = λ p h i is.
     let w = rw c.upper_mut.ensures.value at c.in_ok-key.ensures in
     leaf-placed c.args.layers.now.upper c.insert.new.self c.args.dir c.args.name.now p c.in_ok-key.key c.args.object i is h
     (rw c.in_ok-name.ensures.cases at (w.sets p (key-of c.args.layers.now.upper p c.args.dir h.attributes h.opaque h.redirect h.directory))) (rw c.in_ok-name.ensures.cases at w.inserts)

@@ -42,7 +42,7 @@ returns-clause-copied c = λ i copy shown is full.
     let same = c.place_parents.ensures.same in
     let stays = c.place_parents.ensures.stays in
     let gains = c.place_parents.ensures.gains c.args.name.now in
-    let placed = c.in_ok-key.ensures.placed q copy (copy-place c.args.layers.now c.place_parents.new.layers same n q gains c.args.place.layer c.args.place.key (Some c.requires.shown.0) c.requires.shown.1 c.requires.lower c.placed_or.result.now c.top-dir.result (subst (λ (s : Stack). IsStackOf c.place_parents.new.layers (reverse c.args.parents.now) s) (sym c.placed_or.ensures) c.in_ok-placed.ensures.stack) (subst (λ (s : Stack). (top_of s.places.items).layer ≡ 0) (sym c.placed_or.ensures) c.in_ok-placed.ensures.upper) c.top-dir.ensures) is in
+    let placed = c.in_ok-key.ensures.placed q (copy-place c.args.layers.now c.place_parents.new.layers same n q gains c.args.place.layer c.args.place.key (Some c.requires.shown.0) c.requires.shown.1 c.requires.lower c.placed_or.result.now c.top-dir.result (subst (λ (s : Stack). IsStackOf c.place_parents.new.layers (reverse c.args.parents.now) s) (sym c.placed_or.ensures) c.in_ok-placed.ensures.stack) (subst (λ (s : Stack). (top_of s.places.items).layer ≡ 0) (sym c.placed_or.ensures) c.in_ok-placed.ensures.upper) c.top-dir.ensures) copy is in
     leaf-copied c.args.layers.now c.place_parents.new.layers c.insert_leaf.new.layers same n q gains c.insert_leaf.ensures.lowers c.in_ok-key.key copy placed stays.sound.layers stays.names c.insert_leaf.ensures.keeps c.args.place.layer c.args.place.key i shown c.requires.lower
     full c.in_ok-key.ensures.vacant c.in_ok-key.ensures.objects
 
@@ -53,7 +53,7 @@ returns-clause-sound c =
     let same = c.place_parents.ensures.same in
     let sound = c.place_parents.ensures.stays.sound in
     let gains = c.place_parents.ensures.gains c.args.name.now in
-    let placed = c.in_ok-key.ensures.placed q c.requires.leaf.0 (copy-place c.args.layers.now c.place_parents.new.layers same n q gains c.args.place.layer c.args.place.key (Some c.requires.shown.0) c.requires.shown.1 c.requires.lower c.placed_or.result.now c.top-dir.result (subst (λ (s : Stack). IsStackOf c.place_parents.new.layers (reverse c.args.parents.now) s) (sym c.placed_or.ensures) c.in_ok-placed.ensures.stack) (subst (λ (s : Stack). (top_of s.places.items).layer ≡ 0) (sym c.placed_or.ensures) c.in_ok-placed.ensures.upper) c.top-dir.ensures) c.requires.leaf.1 in
+    let placed = c.in_ok-key.ensures.placed q (copy-place c.args.layers.now c.place_parents.new.layers same n q gains c.args.place.layer c.args.place.key (Some c.requires.shown.0) c.requires.shown.1 c.requires.lower c.placed_or.result.now c.top-dir.result (subst (λ (s : Stack). IsStackOf c.place_parents.new.layers (reverse c.args.parents.now) s) (sym c.placed_or.ensures) c.in_ok-placed.ensures.stack) (subst (λ (s : Stack). (top_of s.places.items).layer ≡ 0) (sym c.placed_or.ensures) c.in_ok-placed.ensures.upper) c.top-dir.ensures) c.requires.leaf.0 c.requires.leaf.1 in
     record {
       layers = then-layers c.args.layers.now c.place_parents.new.layers c.insert_leaf.new.layers sound.layers c.insert_leaf.ensures.lowers c.insert_leaf.ensures.keeps;
       thin = thin-copied c.args.layers.now c.place_parents.new.layers c.insert_leaf.new.layers same n q gains c.insert_leaf.ensures.lowers c.in_ok-key.key c.requires.leaf.0 placed sound.thin;

@@ -10,10 +10,11 @@ insert-requires-clause-no_object c =
 
 pub returns-clause-sets : goal.returns-clause-sets
 returns-clause-sets c = λ p h.
-    let w = rw c.upper_mut.ensures.value at c.in_ok-key.ensures in (
-      rw c.in_ok-name.ensures.cases at (w.sets p (key-of c.args.layers.now.upper p c.args.dir h.attributes h.opaque h.redirect h.directory)),
-      w.inserts.fresh,
-    )
+    let w = rw c.upper_mut.ensures.value at c.in_ok-key.ensures in
+    rw c.in_ok-name.ensures.cases at (w.sets p (key-of c.args.layers.now.upper p c.args.dir h.attributes h.opaque h.redirect h.directory))
+
+pub returns-clause-vacant : goal.returns-clause-vacant
+returns-clause-vacant c = let w = rw c.upper_mut.ensures.value at c.in_ok-key.ensures in w.inserts.fresh
 
 pub returns-clause-keeps : goal.returns-clause-keeps
 returns-clause-keeps c =

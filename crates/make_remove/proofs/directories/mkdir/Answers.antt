@@ -25,8 +25,8 @@ returns-clause-made c =
     let q = reverse c.in-Some.parents.now in
     let made = c.in_ok-insert_directory.ensures.sets q (absent-place c.args.layers.now c.place_parents.new.layers c.args.path.now (reverse c.in-Some.parents.now) c.in-Some.name.now c.placed_or-parent.result.now c.top-dir.result c.in-Some.ensures c.place_parents.ensures.same c.requires.absent (subst (IsStackOf c.place_parents.new.layers (reverse c.in-Some.parents.now)) (sym c.placed_or-parent.ensures) c.in_ok-placed.ensures.stack) (subst (λ (s : Stack). (top_of s.places.items).layer ≡ 0) (sym c.placed_or-parent.ensures) c.in_ok-placed.ensures.upper) c.top-dir.ensures) in
     let made_with : Attributes → Type 0 = λ a. SetsPath (layer_of c.place_parents.new.layers.upper) (layer_of c.insert_directory.new.layers.upper) (c.in-Some.name.now ∷ q) (Directory c.in_ok-insert_directory.field-0 a c.lowers_show_directory-opaque.result None) in
-    makes c.args.layers.now c.place_parents.new.layers _ c.args.path.now q c.in-Some.name.now c.in_ok-insert_directory.field-0 c.args.mode c.lowers_show_directory-opaque.result c.in-Some.ensures c.place_parents.ensures.same (c.place_parents.ensures.gains c.in-Some.name.now) made.1 c.insert_directory.ensures.objects c.insert_directory.ensures.lowers c.insert_directory.ensures.inodes c.requires.absent
-    (c.lowers_show_directory-opaque.ensures q (subst (IsStackOf c.place_parents.new.layers (reverse c.in-Some.parents.now)) (sym c.placed_or-parent.ensures) c.in_ok-placed.ensures.stack)) (subst made_with c.new_attributes-attributes.ensures made.0)
+    makes c.args.layers.now c.place_parents.new.layers _ c.args.path.now q c.in-Some.name.now c.in_ok-insert_directory.field-0 c.args.mode c.lowers_show_directory-opaque.result c.in-Some.ensures c.place_parents.ensures.same (c.place_parents.ensures.gains c.in-Some.name.now) c.in_ok-insert_directory.ensures.vacant c.insert_directory.ensures.objects c.insert_directory.ensures.lowers c.insert_directory.ensures.inodes c.requires.absent
+    (c.lowers_show_directory-opaque.ensures q (subst (IsStackOf c.place_parents.new.layers (reverse c.in-Some.parents.now)) (sym c.placed_or-parent.ensures) c.in_ok-placed.ensures.stack)) (subst made_with c.new_attributes-attributes.ensures made)
 
 pub returns-clause-steps : goal.returns-clause-steps
 returns-clause-steps c =
@@ -42,7 +42,7 @@ returns-clause-steps c =
     (c.lowers_show_directory-opaque.ensures q
     (subst (IsStackOf c.place_parents.new.layers (reverse c.in-Some.parents.now))
     (sym c.placed_or-parent.ensures) c.in_ok-placed.ensures.stack))
-    (subst made_with c.new_attributes-attributes.ensures made.0)
+    (subst made_with c.new_attributes-attributes.ensures made)
     (mkdir-vacancy (layers_of c.args.layers.now) c.args.path.now c.args.mode c.lawful.ensures
     ∙ vacancy-fine (layers_of c.args.layers.now) c.args.path.now c.requires.parents
     c.requires.absent)
@@ -54,7 +54,7 @@ returns-clause-sound c =
     let made_with : Attributes → Type 0 = λ a. SetsPath (layer_of c.place_parents.new.layers.upper) (layer_of c.insert_directory.new.layers.upper) (c.in-Some.name.now ∷ q) (Directory c.in_ok-insert_directory.field-0 a c.lowers_show_directory-opaque.result None) in
     record {
       layers = then-layers c.args.layers.now c.place_parents.new.layers c.insert_directory.new.layers c.place_parents.ensures.stays.sound.layers c.insert_directory.ensures.lowers c.insert_directory.ensures.keeps;
-      thin = mkdir-thin c.args.layers.now c.place_parents.new.layers c.insert_directory.new.layers c.place_parents.ensures.same c.place_parents.ensures.stays.mounts c.insert_directory.ensures.lowers c.insert_directory.ensures.inodes c.insert_directory.ensures.keeps c.args.path.now q c.in-Some.name.now c.in_ok-insert_directory.field-0 c.args.mode c.lowers_show_directory-opaque.result c.in-Some.ensures c.requires.absent (c.lowers_show_directory-opaque.ensures q (subst (IsStackOf c.place_parents.new.layers (reverse c.in-Some.parents.now)) (sym c.placed_or-parent.ensures) c.in_ok-placed.ensures.stack)) (subst made_with c.new_attributes-attributes.ensures made.0) c.place_parents.ensures.stays.sound.thin;
+      thin = mkdir-thin c.args.layers.now c.place_parents.new.layers c.insert_directory.new.layers c.place_parents.ensures.same c.place_parents.ensures.stays.mounts c.insert_directory.ensures.lowers c.insert_directory.ensures.inodes c.insert_directory.ensures.keeps c.args.path.now q c.in-Some.name.now c.in_ok-insert_directory.field-0 c.args.mode c.lowers_show_directory-opaque.result c.in-Some.ensures c.requires.absent (c.lowers_show_directory-opaque.ensures q (subst (IsStackOf c.place_parents.new.layers (reverse c.in-Some.parents.now)) (sym c.placed_or-parent.ensures) c.in_ok-placed.ensures.stack)) (subst made_with c.new_attributes-attributes.ensures made) c.place_parents.ensures.stays.sound.thin;
     }
 
 pub returns-in_err-placed-clause-no_memory : goal.returns-in_err-placed-clause-no_memory

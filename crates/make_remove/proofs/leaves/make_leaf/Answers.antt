@@ -20,13 +20,13 @@ returns-in_err-key-clause-no_memory c =
 pub returns-clause-made : goal.returns-clause-made
 returns-clause-made c =
     let q = reverse c.in-Some.parents.now in
-    let placed = c.in_ok-key.ensures.placed q (leaf_of c.args.content None c.args.attributes) (absent-place c.args.layers.now c.place_parents.new.layers c.args.path.now (reverse c.in-Some.parents.now) c.in-Some.name.now c.placed_or.result.now c.top-dir.result c.in-Some.ensures c.place_parents.ensures.same c.requires.absent (subst (IsStackOf c.place_parents.new.layers (reverse c.in-Some.parents.now)) (sym c.placed_or.ensures) c.in_ok-placed.ensures.stack) (subst (λ (s : Stack). (top_of s.places.items).layer ≡ 0) (sym c.placed_or.ensures) c.in_ok-placed.ensures.upper) c.top-dir.ensures) refl in
+    let placed = c.in_ok-key.ensures.placed q (absent-place c.args.layers.now c.place_parents.new.layers c.args.path.now (reverse c.in-Some.parents.now) c.in-Some.name.now c.placed_or.result.now c.top-dir.result c.in-Some.ensures c.place_parents.ensures.same c.requires.absent (subst (IsStackOf c.place_parents.new.layers (reverse c.in-Some.parents.now)) (sym c.placed_or.ensures) c.in_ok-placed.ensures.stack) (subst (λ (s : Stack). (top_of s.places.items).layer ≡ 0) (sym c.placed_or.ensures) c.in_ok-placed.ensures.upper) c.top-dir.ensures) (leaf_of c.args.content None c.args.attributes) refl in
     leaf-made c.args.layers.now c.place_parents.new.layers _ c.place_parents.ensures.same c.place_parents.ensures.stays.sound.layers c.place_parents.ensures.stays.names c.insert_leaf.ensures.lowers c.insert_leaf.ensures.keeps c.args.path.now c.in-Some.name.now q c.in_ok-key.key c.args.content c.args.attributes c.in-Some.ensures c.requires.absent placed (c.place_parents.ensures.gains c.in-Some.name.now) c.in_ok-key.ensures.vacant c.in_ok-key.ensures.objects
 
 pub returns-clause-sound : goal.returns-clause-sound
 returns-clause-sound c =
     let q = reverse c.in-Some.parents.now in
-    let placed = c.in_ok-key.ensures.placed q (leaf_of c.args.content None c.args.attributes) (absent-place c.args.layers.now c.place_parents.new.layers c.args.path.now (reverse c.in-Some.parents.now) c.in-Some.name.now c.placed_or.result.now c.top-dir.result c.in-Some.ensures c.place_parents.ensures.same c.requires.absent (subst (IsStackOf c.place_parents.new.layers (reverse c.in-Some.parents.now)) (sym c.placed_or.ensures) c.in_ok-placed.ensures.stack) (subst (λ (s : Stack). (top_of s.places.items).layer ≡ 0) (sym c.placed_or.ensures) c.in_ok-placed.ensures.upper) c.top-dir.ensures) refl in
+    let placed = c.in_ok-key.ensures.placed q (absent-place c.args.layers.now c.place_parents.new.layers c.args.path.now (reverse c.in-Some.parents.now) c.in-Some.name.now c.placed_or.result.now c.top-dir.result c.in-Some.ensures c.place_parents.ensures.same c.requires.absent (subst (IsStackOf c.place_parents.new.layers (reverse c.in-Some.parents.now)) (sym c.placed_or.ensures) c.in_ok-placed.ensures.stack) (subst (λ (s : Stack). (top_of s.places.items).layer ≡ 0) (sym c.placed_or.ensures) c.in_ok-placed.ensures.upper) c.top-dir.ensures) (leaf_of c.args.content None c.args.attributes) refl in
     record {
       layers = then-layers c.args.layers.now c.place_parents.new.layers c.insert_leaf.new.layers c.place_parents.ensures.stays.sound.layers c.insert_leaf.ensures.lowers c.insert_leaf.ensures.keeps;
       thin = leaf-thin c.args.layers.now c.place_parents.new.layers c.insert_leaf.new.layers c.place_parents.ensures.same c.place_parents.ensures.stays.sound.layers c.place_parents.ensures.stays.names c.insert_leaf.ensures.lowers c.insert_leaf.ensures.keeps c.args.path.now c.in-Some.name.now q c.in_ok-key.key c.args.content c.args.attributes c.in-Some.ensures c.requires.absent placed c.place_parents.ensures.stays.sound.thin;

@@ -27,16 +27,16 @@ returns-clause-changes c = on_ok c.alter_in.result c.alter_in.ensures.changed (�
     record {
       sets = λ a at.
           subst (by_node a c.alter_in.new.node) c.self.view_is
-          (subst (λ n. by_node a n old) (sym (same a (ap (λ (s : Tree). attributes_at s key) c.self.view_is ∙ at)))
+          (subst (λ (n : Node). by_node a n old) (sym (same a (ap (λ (s : Tree). attributes_at s key) c.self.view_is ∙ at)))
           (sets_attributes old key c.index_mut-node.result.now found (changed c.args.change a)));
       inode = λ i is.
           let inside = ap (λ (s : Tree). inode_at s key) c.self.view_is ∙ is in
           subst (by_inode i.attributes c.alter_in.new.node) c.self.view_is
-          (subst (λ n. by_inode i.attributes n old) (sym (same i.attributes (inode_attributes old key i inside)))
+          (subst (λ (n : Node). by_inode i.attributes n old) (sym (same i.attributes (inode_attributes old key i inside)))
           (sets_inode old key c.index_mut-node.result.now found (changed c.args.change i.attributes) i inside));
       directory = λ path a at leads is.
           subst (by_path path a c.alter_in.new.node) c.self.view_is
-          (subst (λ n. by_path path a n old) (sym (same a (ap (λ (s : Tree). attributes_at s key) c.self.view_is ∙ at)))
+          (subst (λ (n : Node). by_path path a n old) (sym (same a (ap (λ (s : Tree). attributes_at s key) c.self.view_is ∙ at)))
           (sets_directory old key c.index_mut-node.result.now found (changed c.args.change a) c.self.invariant path (ap (λ (s : Tree). key_at s path) c.self.view_is ∙ leads) (subst (λ (s : Tree). IsDirectory s key) (sym c.self.view_is) is)));
     })
 
