@@ -1,7 +1,10 @@
 -- What a call that removes a name leaves, by what is shown and by what the upper holds (overlayfs.rst, "whiteouts and opaque
 -- directories"; POSIX.1-2017, unlink() and rmdir()).
 use Rattle.std.specs.Prelude.{◌≡◌, ℕ, Bool, false, cond, nat_lt, [], ◌∷◌, Option, None, Some, option_map}
+use Rattle.ov_base.specs.Calls.{Call}
 use Rattle.plain_model.specs.Layers.{Path, Object, Directory, Named, Inode, held, AreLayers}
+use Rattle.plain_model.specs.Machine.{State}
+use Rattle.mount_laws.specs.Looks.{IsMountOf}
 pub use Rattle.mount_laws.specs.Removals.{unlink_fault, rmdir_fault, ShowsNoName, TakesAway, Loses, left_behind, Removes}
 pub use Rattle.dir_listing.specs.Shown.{TellsNames}
 use Rattle.layer_tree.specs.Tree.{Tree, inode_at, with_less, layer_of}
@@ -47,3 +50,10 @@ pub record Unnames (old new : Layers) (p : Path) (released : Option ℕ) : Type 
   pub fewer : (key : ℕ) → number_of (held (layer_of old.upper) p) ≡ Some key → inode_at new.upper key ≡ option_map with_less (inode_at old.upper key)
   pub handed_back : released ≡ last_named old.upper (held (layer_of old.upper) p)
   pub nameless : (key : ℕ) → released ≡ Some key → IsNameless new.upper key
+
+-- every state of the machine whose mount has the old layers goes on to one with the new layers by this
+-- call, which removes the name
+abbrev pub RemovalSteps : Layers → Layers → Path → Call → Type 0
+RemovalSteps old new p removal =
+    (s : State) → IsMountOf (upper_of old) (lowers_of old) s → (c : ℕ) →
+    Removes (upper_of new) (lowers_of new) s c p removal

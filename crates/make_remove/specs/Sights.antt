@@ -14,3 +14,7 @@ pub record IsSeen (l : Layers) (p : Path) (seen : Result (Stack × Option Topmos
   pub way : OnOk seen (parents_fault (layers_of l) p ≡ None)
   pub directory : IfOk seen (λ shown. IsStackOf l (parent p) shown.0)
   pub top : IfOk seen (λ shown. IsTopmost l p shown.1)
+
+-- so of all layers, and of each path at which this was seen of them
+abbrev pub WhereSeen : Result (Stack × Option Topmost) Errno → (Layers → Path → Type 0) → Type 0
+WhereSeen seen P = (l : Layers) (p : Path) → IsSeen l p seen → P l p

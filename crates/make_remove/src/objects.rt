@@ -1,11 +1,10 @@
 // What every call that makes an object asks and gives.
 ghost use Rattle.std.specs.Prelude.{◌≡◌, None, Some, IfOk, MatchResult};
-ghost use Rattle.plain_model.specs.Layers.{Path as Names, shows};
-ghost use Rattle.merged_lookup.specs.declared.layers.Layers.{Layers as LayersOf};
+ghost use Rattle.plain_model.specs.Layers.{shows};
 ghost use Rattle.merged_lookup.specs.Merged.{layers_of, parents_fault, parent, IsStackOf};
 ghost use Rattle.make_remove.specs.Making as made;
 ghost use Rattle.make_remove.specs.Making.{vacancy_fault};
-ghost use Rattle.make_remove.specs.Sights.{IsSeen};
+ghost use Rattle.make_remove.specs.Sights.{WhereSeen};
 
 use crate::seen::Seen;
 use merged_lookup::Stack;
@@ -17,15 +16,14 @@ use std::alloc::Global;
 /// ENOENT, a file ENOTDIR and a symbolic link ELOOP; where something is shown it is EEXIST.
 pub fn vacant(seen: &Seen) -> Result<&Stack, Errno>
     ensures cases { MatchResult result
-        (λ _. (l : LayersOf) (p : Names) → IsSeen l p seen.now → vacancy_fault (layers_of l) p ≡ None)
-        (λ e. (l : LayersOf) (p : Names) → IsSeen l p seen.now →
-        vacancy_fault (layers_of l) p ≡ Some e) }
-    ensures parents { IfOk result (λ _. (l : LayersOf) (p : Names) → IsSeen l p seen.now →
-        parents_fault (layers_of l) p ≡ None) }
-    ensures absent { IfOk result (λ _. (l : LayersOf) (p : Names) → IsSeen l p seen.now →
-        shows 0 (layers_of l) p ≡ None) }
-    ensures parent { IfOk result (λ s. (l : LayersOf) (p : Names) → IsSeen l p seen.now →
-        IsStackOf l (parent p) s.now) }
+        (λ _. WhereSeen seen.now (λ l p. vacancy_fault (layers_of l) p ≡ None))
+        (λ e. WhereSeen seen.now (λ l p. vacancy_fault (layers_of l) p ≡ Some e)) }
+    ensures parents { IfOk result (λ _.
+        WhereSeen seen.now (λ l p. parents_fault (layers_of l) p ≡ None)) }
+    ensures absent { IfOk result (λ _.
+        WhereSeen seen.now (λ l p. shows 0 (layers_of l) p ≡ None)) }
+    ensures parent { IfOk result (λ s.
+        WhereSeen seen.now (λ l p. IsStackOf l (parent p) s.now)) }
 {
     let (directory, top) = match seen {
         Ok(shown) => shown,

@@ -1,21 +1,20 @@
 // `unlink` and `rmdir`.
-ghost use Rattle.std.specs.Prelude.{◌≡◌, ◌≢◌, ◌∷◌, List, ℕ, Bool, false, cond, Some, None, option_map, reverse, IfOk, IfErr, OnOk, OnErr};
+ghost use Rattle.std.specs.Prelude.{◌≡◌, ◌≢◌, ◌∷◌, List, ℕ, Bool, false, Some, None, option_map, reverse, IfOk, IfErr, OnOk, OnErr};
 ghost use Rattle.std.specs.Option.{option_and_then};
 ghost use Rattle.ov_base.specs.declared.call.CallOf.TheVariants as call;
-ghost use Rattle.plain_model.specs.Layers as held;
 ghost use Rattle.plain_model.specs.Layers.{IsLayer};
 ghost use Rattle.plain_model.specs.Machine.{State};
 ghost use Rattle.plain_model.specs.Refusals.{refusal};
 ghost use Rattle.mount_laws.specs.Looks.{IsMountOf};
+ghost use Rattle.layer_tree.specs.Move.{left_entry, left_object};
 ghost use Rattle.layer_tree.specs.Nameless.{IsNameless, KeepsObjects};
 ghost use Rattle.layer_tree.specs.Table.{object_key};
 ghost use Rattle.layer_tree.specs.Tree.{layer_of, inode_at, with_less, entry, child, key_at, IsDirectory, HoldsNoObjects, ReplacesPath, Unbinds, SameTree, SameObjects};
-ghost use Rattle.layer_tree.specs.declared.name_table.Entry.TheVariants as bound;
 ghost use Rattle.merged_lookup.specs.declared.layers.Layers.{Layers as LayersOf};
 ghost use Rattle.merged_lookup.specs.Merged.{upper_of, layers_of, lowers_of, parent, way_fault, IsStackOf, ShowsInode};
 ghost use Rattle.copy_up.specs.Showing.{ChangesNoSight, GainsParents, StaysSound};
 ghost use Rattle.make_remove.specs.Sights.{IsSeen};
-ghost use Rattle.make_remove.specs.Removing.{unlink_fault, rmdir_fault, ShowsNoName, TakesAway, Removes, TellsNames, TakesName, Unnames, released_by, has_more};
+ghost use Rattle.make_remove.specs.Removing.{unlink_fault, rmdir_fault, ShowsNoName, TakesAway, RemovalSteps, TellsNames, TakesName, Unnames, released_by, has_more};
 
 use crate::seen::{Seen, found_in, there};
 use copy_up::{place_parents, placed_or};
@@ -66,10 +65,8 @@ pub fn unlink(
     requires allowed { unlink_fault (layers_of layers.old) path.now ≡ None }
     requires directory { IsStackOf layers.old (parent path.now) directory.now }
     ensures takes { OnOk result (TakesName layers.old layers.new path.now) }
-    ensures steps { OnOk result ((s : State) →
-        IsMountOf (upper_of layers.old) (lowers_of layers.old) s → (c : ℕ) →
-        Removes (upper_of layers.new) (lowers_of layers.new) s c path.now
-        (call.Unlink path.now)) }
+    ensures steps { OnOk result
+        (RemovalSteps layers.old layers.new path.now (call.Unlink path.now)) }
     ensures unnames { IfOk result (λ released. Unnames layers.old layers.new path.now released) }
     ensures no_memory { OnErr result
         (ChangesNoSight layers.old layers.new (GainsParents layers.old layers.new path.now)) }
@@ -127,10 +124,8 @@ pub fn rmdir(
     requires bare { ShowsNoName (layers_of layers.old) path.now }
     requires directory { IsStackOf layers.old (parent path.now) directory.now }
     ensures takes { OnOk result (TakesName layers.old layers.new path.now) }
-    ensures steps { OnOk result ((s : State) →
-        IsMountOf (upper_of layers.old) (lowers_of layers.old) s → (c : ℕ) →
-        Removes (upper_of layers.new) (lowers_of layers.new) s c path.now
-        (call.Rmdir path.now)) }
+    ensures steps { OnOk result
+        (RemovalSteps layers.old layers.new path.now (call.Rmdir path.now)) }
     ensures unnames { IfOk result (λ released. Unnames layers.old layers.new path.now released) }
     ensures no_memory { OnErr result
         (ChangesNoSight layers.old layers.new (GainsParents layers.old layers.new path.now)) }
@@ -178,7 +173,9 @@ fn remove_name(
 ) -> Result<Option<usize>, AllocError>
     requires dir { IsDirectory layers.old.upper dir }
     requires bare { HoldsNoObjects layers.old.upper dir name.now }
-    ensures takes { OnOk result ((p : List (List ℕ)) → key_at layers.old.upper p ≡ Some dir → TakesAway (layer_of layers.old.upper) (layer_of layers.new.upper) (name.now ∷ p) (cond covered (Some held.Whiteout) None)) }
+    ensures takes { OnOk result ((p : List (List ℕ)) → key_at layers.old.upper p ≡ Some dir →
+        TakesAway (layer_of layers.old.upper) (layer_of layers.new.upper) (name.now ∷ p)
+        (left_object covered)) }
     ensures objects { OnOk result (KeepsObjects layers.old.upper layers.new.upper (child layers.old.upper dir name.now)) }
     ensures fewer { OnOk result ((key : ℕ) → child layers.old.upper dir name.now ≡ Some key → inode_at layers.new.upper key ≡ option_map with_less (inode_at layers.old.upper key)) }
     ensures released { IfOk result (λ released. released ≡ released_by layers.new.upper (child layers.old.upper dir name.now)) }
@@ -203,8 +200,11 @@ fn unbind(
 ) -> Result<Option<Entry>, AllocError>
     requires { IsDirectory upper.old dir }
     ensures value { IfOk result (λ was. was ≡ entry upper.old dir name.now) }
-    ensures replaces { OnOk result ((p : List (List ℕ)) → key_at upper.old p ≡ Some dir → ReplacesPath (layer_of upper.old) (layer_of upper.new) (name.now ∷ p) (cond covered (Some held.Whiteout) None)) }
-    ensures unbinds { OnOk result (Unbinds upper.old upper.new dir name.now (cond covered (Some bound.Whiteout) None)) }
+    ensures replaces { OnOk result ((p : List (List ℕ)) → key_at upper.old p ≡ Some dir →
+        ReplacesPath (layer_of upper.old) (layer_of upper.new) (name.now ∷ p)
+        (left_object covered)) }
+    ensures unbinds { OnOk result
+        (Unbinds upper.old upper.new dir name.now (left_entry covered)) }
     ensures unnamed { OnOk result ((key : ℕ) → child upper.old dir name.now ≡ Some key → IsDirectory upper.old key → (d : ℕ) (n : List ℕ) → child upper.new d n ≢ Some key) }
     ensures keeps { (p : List (List ℕ)) → key_at upper.old p ≡ Some dir → HoldsNoObjects upper.old dir name.now → IsLayer (layer_of upper.old) → IsLayer (layer_of upper.new) }
     ensures err { OnErr result (SameTree upper.old upper.new) }

@@ -1,10 +1,8 @@
 // What was seen at a path, as far as calls that make, remove, link and rename judge by it.
 ghost use Rattle.std.specs.Prelude.{◌≡◌, ◌≢◌, [], Some, None, IfOk, IfErr, OnOk};
-ghost use Rattle.plain_model.specs.Layers.{Path as Names};
-ghost use Rattle.merged_lookup.specs.declared.layers.Layers.{Layers as LayersOf};
 ghost use Rattle.merged_lookup.specs.Merged.{layers_of, walk_fault, parent};
 ghost use Rattle.merged_lookup.specs.Merged.{IsFound, IsStackOf, IsTopmost};
-ghost use Rattle.make_remove.specs.Sights.{IsSeen};
+ghost use Rattle.make_remove.specs.Sights.{WhereSeen};
 
 use merged_lookup::{Found, Layers, Stack, Topmost};
 use ov_base::{Errno, Path};
@@ -16,14 +14,12 @@ pub type Seen = Result<(Stack, Option<Topmost>), Errno>;
 /// The merged directory in which something was seen, and the topmost object; or why a walk there is
 /// refused.
 pub fn there(seen: &Seen) -> Result<(&Stack, Topmost), Errno>
-    ensures refused { IfErr result (λ e. (l : LayersOf) (p : Names) → IsSeen l p seen.now →
-        walk_fault (layers_of l) p ≡ Some e) }
-    ensures fine { OnOk result ((l : LayersOf) (p : Names) → IsSeen l p seen.now →
-        walk_fault (layers_of l) p ≡ None) }
-    ensures directory { IfOk result (λ w. (l : LayersOf) (p : Names) → IsSeen l p seen.now →
-        IsStackOf l (parent p) w.0.now) }
-    ensures top { IfOk result (λ w. (l : LayersOf) (p : Names) → IsSeen l p seen.now →
-        IsTopmost l p (Some w.1)) }
+    ensures refused { IfErr result (λ e.
+        WhereSeen seen.now (λ l p. walk_fault (layers_of l) p ≡ Some e)) }
+    ensures fine { OnOk result (WhereSeen seen.now (λ l p. walk_fault (layers_of l) p ≡ None)) }
+    ensures directory { IfOk result (λ w.
+        WhereSeen seen.now (λ l p. IsStackOf l (parent p) w.0.now)) }
+    ensures top { IfOk result (λ w. WhereSeen seen.now (λ l p. IsTopmost l p (Some w.1))) }
 {
     let (directory, top) = match seen {
         Ok(shown) => shown,
