@@ -1,5 +1,5 @@
 // Which parents of a path the upper lacks, and placing them one at a time.
-ghost use Rattle.std.specs.Prelude.{◌≡◌, ◌∷◌, Some, None, true, false, reverse, IfSome, OnSome, OnOk, OnErr};
+ghost use Rattle.std.specs.Prelude.{◌≡◌, ◌∷◌, Some, None, true, reverse, IfSome, OnSome, OnOk, OnErr};
 ghost use Rattle.plain_model.specs.Layers.{Path as Names, held, shows, is_directory, holds_directory};
 ghost use Rattle.layer_tree.specs.Tree.{layer_of, key_at, SameObjects};
 ghost use Rattle.merged_lookup.specs.Merged.{layers_of, parents_fault, way_fault, IsStackOf};

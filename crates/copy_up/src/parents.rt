@@ -1,5 +1,5 @@
 // Directories that only lower layers have, placed in the upper.
-ghost use Rattle.std.specs.Prelude.{◌≡◌, ◌∷◌, ℕ, Some, None, true, false, reverse, unwrap_or, IfOk, OnOk, OnErr};
+ghost use Rattle.std.specs.Prelude.{◌≡◌, ◌∷◌, ℕ, Some, None, true, reverse, unwrap_or, IfOk, OnOk, OnErr};
 ghost use Rattle.ov_base.specs.declared.attributes.Attributes.{Attributes};
 ghost use Rattle.plain_model.specs.Layers as held;
 ghost use Rattle.plain_model.specs.Layers.{Path, shows, is_directory, IsLayer};

@@ -1,5 +1,5 @@
 // The layers of a mount.
-ghost use Rattle.std.specs.Prelude.{◌≡◌, ◌≢◌, ◌+◌, ◌<◌, ◌≤◌, ◌∷◌, ◌++◌, [], List, ℕ, Option, length, slice_get, Some, None, is_some, IsOk, IfOk, IfErr, IfSome, MatchOption, OnOk, ◌↔◌, map, reverse, take};
+ghost use Rattle.std.specs.Prelude.{◌≡◌, ◌≢◌, ◌+◌, ◌<◌, ◌≤◌, ◌∷◌, [], List, ℕ, Option, length, slice_get, Some, None, is_some, IsOk, IfOk, IfErr, IfSome, MatchOption, OnOk, ◌↔◌, map, reverse, take};
 ghost use Rattle.std.specs.Vec.{vec_len};
 ghost use Rattle.std.specs.Option.{option_copied, option_and_then};
 ghost use Rattle.ov_base.specs.declared.attributes.Attributes.{Attributes};

@@ -1,8 +1,7 @@
 -- A move in the mount, by the merged directories in which it begins and ends.
-use Rattle.std.proofs.Common.{◌≡◌, ◌≢◌, ℕ, Bool, true, false, [], ◌∷◌, ◌++◌, append-nil, Option, None, Some, is_some, sym, ap, ap₂, ◌∙◌, subst, inr}
+use Rattle.std.proofs.Common.{◌≡◌, ◌≢◌, ℕ, Bool, true, false, [], ◌∷◌, ◌++◌, append-nil, Option, Some, is_some, sym, ap, ap₂, ◌∙◌, subst, inr}
 use Rattle.std.proofs.lemmas.Bool.{false≢true}
-use Rattle.ov_base.specs.declared.redirect.Redirect.TheVariants.{Absolute}
-use Rattle.plain_model.specs.Layers.{Path, Layer, held, Folder, below, shows, through, under, base, is_directory}
+use Rattle.plain_model.specs.Layers.{Path, Layer, held, Folder, shows, through, under, is_directory}
 use Rattle.plain_model.specs.Laws.{IsOutside}
 use Rattle.plain_model.specs.Tree.{AreLinked}
 use Rattle.mount_laws.specs.Moving.{NamesNoInode}
@@ -19,7 +18,7 @@ use Rattle.copy_up.proofs.OtherAttributes.{upper-directory}
 use Rattle.copy_up.proofs.Placing.{free-absent}
 use Rattle.rename_redirect.specs.declared.entries.Route.{Route}
 use Rattle.rename_redirect.specs.Renaming.{MovesOver, Replaces, Moves}
-use Rattle.rename_redirect.specs.Routes.{IsUnder, IsMove, IsFolderMove}
+use Rattle.rename_redirect.specs.Routes.{AsksFor, IsUnder, IsMove, IsFolderMove, MovesRoute}
 
 -- a path that another is outside of isn't the root
 pub not-root : (p q : Path) → IsOutside p q → p ≢ []
@@ -54,22 +53,18 @@ module _ (l : Layers) (old new t u : Path) (r : Route) (is_old : old ≡ r.name.
       }
 
   -- a directory that moves so
-  pub is-folder : (s : Stack) (top : Place) (marks : Marks) → ShowsDirectory l (r.name.now ∷ t) s.places.items → top ≡ top_of s.places.items → (is_directory (shows 0 (layers_of l) old) ≡ true → NamesNoInode (layer_of l.upper) new) → (base (layer_of l.upper) (lowers_of l) old ≡ true → (marks.opaque ≡ false) × (marks.redirect ≡ Some (Absolute (below (layer_of l.upper) old)))) → (onto : Stack) → IsStackOf l (parent new) onto → (base (layer_of l.upper) (lowers_of l) old ≡ false → (marks.redirect ≡ None) × ((q : Path) → IsStackOf l q onto → marks.opaque ≡ is_directory (under (layer_of l.upper) (lowers_of l) r.further.now q))) → IsFolderMove l t u r top marks
-  is-folder s top marks shown is_top kind when_base onto at when_not = record {
+  pub is-folder : IsMove l t u r → (s : Stack) (top : Place) (marks : Marks) → ShowsDirectory l (r.name.now ∷ t) s.places.items → top ≡ top_of s.places.items → (is_directory (shows 0 (layers_of l) old) ≡ true → NamesNoInode (layer_of l.upper) new) → (onto : Stack) → IsStackOf l (parent new) onto → ((q : Path) → IsStackOf l q onto → AsksFor l old (r.further.now ∷ q) marks) → IsFolderMove l t u r top marks
+  is-folder move s top marks shown is_top kind onto at asks = record {
+    move = move;
     attributes = shown.attributes;
     shown = shown.shown ∙ ap (λ (d : Place). Some (Folder d.layer d.key shown.attributes)) (sym is_top);
     own = λ e. top-under l (r.name.now ∷ t) s top.key (record { places = shown.places }) (sym (ap (λ (d : Place). d.layer) is_top) ∙ e) (ap (λ (d : Place). d.key) is_top);
     unnamed = subst (NamesNoInode (layer_of l.upper)) is_new (kind (ap (λ x. is_directory (shows 0 (layers_of l) x)) is_old ∙ ap is_directory shown.shown));
-    when_base = λ h.
-        let b = when_base (ap (base (layer_of l.upper) (lowers_of l)) is_old ∙ h) in
-        (b.0, b.1 ∙ ap (λ x. Some (Absolute (below (layer_of l.upper) x))) is_old);
-    when_not = λ h.
-        let b = when_not (ap (base (layer_of l.upper) (lowers_of l)) is_old ∙ h) in
-        (b.0, b.1 u (subst (λ x. IsStackOf l (parent x) onto) is_new at));
+    asks = subst (λ x. AsksFor l x (r.further.now ∷ u) marks) is_old (asks u (subst (λ x. IsStackOf l (parent x) onto) is_new at));
   }
 
   -- what moved so is what rename moves
-  pub moves-as : (b : Layers) (marked directory : Bool) (released : Option ℕ) → is_one (layer_of l.upper) old new ≡ false → is_directory (shows 0 (layers_of l) (r.name.now ∷ t)) ≡ directory → MovesOver l b marked (r.name.now ∷ t) (r.further.now ∷ u) × Replaces l b (r.further.now ∷ u) released → Moves l b marked old new directory released
+  pub moves-as : (b : Layers) (marked directory : Bool) (released : Option ℕ) → is_one (layer_of l.upper) old new ≡ false → is_directory (shows 0 (layers_of l) (r.name.now ∷ t)) ≡ directory → MovesRoute l b marked r t u released → Moves l b marked old new directory released
   moves-as b marked directory released apart kind m = record {
     apart = apart;
     kind = ap (λ x. is_directory (shows 0 (layers_of l) x)) is_old ∙ kind;

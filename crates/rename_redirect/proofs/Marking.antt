@@ -31,9 +31,9 @@ marks-lead l p q r top marks together f = by (base (layer_of l.upper) (lowers_of
   where
     by : (b : Bool) → base (layer_of l.upper) (lowers_of l) (r.name.now ∷ p) ≡ b → IsTrue (leads marks.redirect)
     by true e =
-        ap leads (f.when_base e).1
+        ap leads (f.asks.when_base e).1
         ∙ absolute-leads (below (layer_of l.upper) (r.name.now ∷ p)) (spelled-some (layer_of l.upper) together r.name.now p (held (layer_of l.upper) (r.name.now ∷ p)) refl (below (layer_of l.upper) p))
-    by false e = ap leads (f.when_not e).0
+    by false e = ap leads (f.asks.when_not e).0
 
 -- a directory at a path below the root isn't the root
 pub not-the-root : (t : Tree) → IsHeldTogether (layer_of t) → (n : Name) (p : Path) (k : ℕ) (a : Attributes) (o : Bool) (r : Option Redirect) → held (layer_of t) (n ∷ p) ≡ Some (Directory k a o r) → k ≢ ROOT

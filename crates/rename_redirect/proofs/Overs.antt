@@ -35,11 +35,6 @@ use Rattle.rename_redirect.specs.Routes.{MovesEntry, IsMove, IsFolderMove}
 use Rattle.rename_redirect.proofs.Filling.{full, filled-stays, some-filled, less-filled}
 use Rattle.rename_redirect.proofs.Preparing.{Prepared}
 
--- what a name that is covered, or isn't, leaves
-left-object : (covered : Bool) → left_object covered ≡ cond covered (Some Whiteout) None
-left-object true = refl
-left-object false = refl
-
 -- what moved along a path stands where it follows
 pub follows-held : (L M : Layer) (p q : Path) (left : Option Object) → MovesPath L M p q left → (x y : Path) → Follows p q x y → held M y ≡ held L x
 follows-held L M p q left m x y (Goes r e f) = ap (held M) f ∙ m.inside r ∙ ap (held L) (sym e)
@@ -70,7 +65,7 @@ module _ (u w v : Tree) (lowers : List Layer) (n : Name) (p : Path) (m : Name) (
   under-new = under-agree (layer_of u) (layer_of w) lowers m q (agree q (outside-parent (n ∷ p) m q out))
 
   pub left-there : held (layer_of v) (n ∷ p) ≡ left_at (layer_of u) lowers (n ∷ p)
-  left-there = e.path.leaves ∙ left-object covered ∙ ap (λ c. cond c (Some Whiteout) None) is_covered
+  left-there = e.path.leaves ∙ ap (λ c. cond c (Some Whiteout) None) is_covered
 
   left-ready : held (layer_of v) (n ∷ p) ≡ left_at (layer_of w) lowers (n ∷ p)
   left-ready = left-there ∙ sym (ap (λ s. cond (is_some s) (Some Whiteout) None) under-old)
@@ -261,18 +256,18 @@ module _ (old mid new : Layers) (w : Tree) (p q : Path) (r : Route) (released : 
   pub over-directory : ((k : ℕ) → IsSome (get old.upper k) → (directory_number (held (layer_of old.upper) (r.name.now ∷ p)) ≡ Some k → ⊥) → k ≢ key) → MovesOver old new marked (r.name.now ∷ p) (r.further.now ∷ q)
   over-directory other = record {
     lowers = low;
-    moves = λ h. raise old new low (λ V. MovesTo (upper_of old) V (lowers_of old) marked (r.name.now ∷ p) (r.further.now ∷ q)) (directory-moves old.upper w mid.upper (lowers_of old) r.name.now p r.further.now q r.covered marked released ready together move.route.out move.route.within move.covered e key a was had source new.upper marks.opaque marks.redirect m folder.unnamed folder.when_base folder.when_not keep h);
+    moves = λ h. raise old new low (λ V. MovesTo (upper_of old) V (lowers_of old) marked (r.name.now ∷ p) (r.further.now ∷ q)) (directory-moves old.upper w mid.upper (lowers_of old) r.name.now p r.further.now q r.covered marked released ready together move.route.out move.route.within move.covered e key a was had source new.upper marks.opaque marks.redirect m folder.unnamed folder.asks.when_base folder.asks.when_not keep h);
     left = m.elsewhere (r.name.now ∷ p) (λ z. move.route.within [] z) ∙ left-there old.upper w mid.upper (lowers_of old) r.name.now p r.further.now q r.covered marked released ready together move.route.out move.route.within move.covered e;
     marks = λ h.
-        let b = marks-moved old.upper w mid.upper (lowers_of old) r.name.now p r.further.now q r.covered marked released ready together move.route.out move.route.within move.covered e key a was had source new.upper marks.opaque marks.redirect m folder.unnamed folder.when_base folder.when_not in
+        let b = marks-moved old.upper w mid.upper (lowers_of old) r.name.now p r.further.now q r.covered marked released ready together move.route.out move.route.within move.covered e key a was had source new.upper marks.opaque marks.redirect m folder.unnamed folder.asks.when_base folder.asks.when_not in
         record { when_base = b.0; when_not = b.1 };
     paths = λ x y f off.
         inl
         (m.elsewhere y (follows-apart (r.name.now ∷ p) (r.further.now ∷ q) x y f off)
         ∙ follows-held (layer_of w) (layer_of mid.upper) (r.name.now ∷ p) (r.further.now ∷ q) (left_object r.covered) e.path x y f
         ∙ ready.elsewhere x off);
-    directories = marked-follows old.upper w mid.upper (lowers_of old) r.name.now p r.further.now q r.covered marked released ready together move.route.out move.route.within move.covered e key a was had source new.upper marks.opaque marks.redirect m folder.unnamed folder.when_base folder.when_not;
-    links = λ h j is. raise old new low (λ V. MovesLink (upper_of old) V (r.name.now ∷ p) (r.further.now ∷ q) j) (directory-links old.upper w mid.upper (lowers_of old) r.name.now p r.further.now q r.covered marked released ready together move.route.out move.route.within move.covered e key a was had source new.upper marks.opaque marks.redirect m folder.unnamed folder.when_base folder.when_not h j is);
+    directories = marked-follows old.upper w mid.upper (lowers_of old) r.name.now p r.further.now q r.covered marked released ready together move.route.out move.route.within move.covered e key a was had source new.upper marks.opaque marks.redirect m folder.unnamed folder.asks.when_base folder.asks.when_not;
+    links = λ h j is. raise old new low (λ V. MovesLink (upper_of old) V (r.name.now ∷ p) (r.further.now ∷ q) j) (directory-links old.upper w mid.upper (lowers_of old) r.name.now p r.further.now q r.covered marked released ready together move.route.out move.route.within move.covered e key a was had source new.upper marks.opaque marks.redirect m folder.unnamed folder.asks.when_base folder.asks.when_not h j is);
     seen = λ k is off. ap (option_map (seen k)) (sets.others k (other k is off)) ∙ seen-kept old.upper w mid.upper (lowers_of old) r.name.now p r.further.now q r.covered marked released ready together move.route.out move.route.within move.covered e k is;
     nameless = λ k h. nameless k (nameless-kept old.upper w mid.upper (lowers_of old) r.name.now p r.further.now q r.covered marked released ready together move.route.out move.route.within move.covered e k h);
   }
@@ -286,4 +281,4 @@ module _ (old mid new : Layers) (w : Tree) (p q : Path) (r : Route) (released : 
   pub thin-directory : AreLayers (layers_of old) → StaysThin old new
   thin-directory h t =
       subst (λ (Ls : List Layer). IsThin (layer_of new.upper) Ls) (sym (lowers-same old new low))
-      (directory-thin old.upper w mid.upper (lowers_of old) r.name.now p r.further.now q r.covered marked released ready together move.route.out move.route.within move.covered e key a was had source new.upper marks.opaque marks.redirect m folder.unnamed folder.when_base folder.when_not h.1 t)
+      (directory-thin old.upper w mid.upper (lowers_of old) r.name.now p r.further.now q r.covered marked released ready together move.route.out move.route.within move.covered e key a was had source new.upper marks.opaque marks.redirect m folder.unnamed folder.asks.when_base folder.asks.when_not h.1 t)

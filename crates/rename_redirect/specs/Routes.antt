@@ -5,21 +5,23 @@ use Rattle.plain_model.specs.Layers as layers
 use Rattle.ov_base.specs.declared.attributes.Attributes.{Attributes}
 use Rattle.ov_base.specs.declared.redirect.Redirect.{Redirect}
 use Rattle.ov_base.specs.declared.redirect.Redirect.TheVariants.{Absolute}
-use Rattle.plain_model.specs.Layers.{Name, Path, Directory, Named, Layer, held, below, Folder, shows, under, base, is_directory, IsLayer}
+use Rattle.plain_model.specs.Layers.{Name, Path, Directory, Named, Layer, held, below, Folder, shows, under, base, IsLayer}
 use Rattle.plain_model.specs.Laws.{IsOutside}
 use Rattle.plain_model.specs.Tree.{AreLinked}
 use Rattle.mount_laws.specs.Moving.{NamesNoInode}
 use Rattle.mount_laws.specs.Removals.{ShowsNoName}
 use Rattle.layer_tree.specs.Tree.{Tree, layer_of, child, seen_at, inode_at, seen_object, new_inode, with_less, SetsPath}
 use Rattle.layer_tree.specs.Nameless.{IsNameless, KeepsObjects}
-use Rattle.layer_tree.specs.Move.{MovesPath}
+use Rattle.layer_tree.specs.Move.{left_object, MovesPath}
 use Rattle.layer_tree.specs.declared.node.Marks.{Marks}
 use Rattle.layer_tree.specs.declared.node.Object.{Object}
 use Rattle.merged_lookup.specs.declared.layers.Layers.{Layers}
 use Rattle.ov_base.specs.declared.place.Place.{Place}
-use Rattle.merged_lookup.specs.Merged.{layers_of, lowers_of}
+use Rattle.merged_lookup.specs.Merged.{layers_of, lowers_of, ShowsInode}
 use Rattle.copy_up.specs.Showing.{is_object}
+use Rattle.make_remove.specs.Making.{shown_under}
 use Rattle.make_remove.specs.Removing.{last_named}
+use Rattle.rename_redirect.specs.Renaming.{MovesOver, Replaces}
 use Rattle.rename_redirect.specs.declared.entries.Route.{Route}
 
 -- the layer holds a directory under this key at a path
@@ -67,6 +69,18 @@ pub record MovesNew
     pub layer : IsLayer (layer_of old) → IsLayer (layer_of mid)
     pub moves : MovesEntry mid new p q left released
 
+-- what stands at the route's first name moves to its last, along each two paths of the route
+abbrev pub MovesAlong : Tree → Tree → Route → Option ℕ → Type 0
+MovesAlong old new r released =
+    (p q : Path) → IsRoute (layer_of old) p q r →
+    MovesEntry old new (r.name.now ∷ p) (r.further.now ∷ q) (left_object r.covered) released
+
+-- so of a new object
+abbrev pub MovesNewAlong : Tree → Tree → Route → Object → ℕ → Option ℕ → Type 0
+MovesNewAlong old new r o key released =
+    (p q : Path) → IsRoute (layer_of old) p q r →
+    MovesNew old new (r.name.now ∷ p) (r.further.now ∷ q) o (left_object r.covered) key released
+
 -- The route is that of a move in the mount, from what is shown at its first name to where no name is shown below its last: the names are
 -- not of one inode, and the first is covered exactly where the lower layers show something there.
 pub record IsMove (l : Layers) (p q : Path) (r : Route) : Type 0 where
@@ -75,16 +89,34 @@ pub record IsMove (l : Layers) (p q : Path) (r : Route) : Type 0 where
   pub empty : ShowsNoName (layers_of l) (r.further.now ∷ q)
   pub covered : r.covered ≡ is_some (under (layer_of l.upper) (lowers_of l) r.name.now p)
 
+-- The marks that a directory of p is to have at q: a base one gets the path by which the layers below
+-- have it as its redirect, and any other is opaque where they show a directory there.
+pub record AsksFor (l : Layers) (p q : Path) (marks : Marks) : Type 0 where
+  pub when_base :
+      base (layer_of l.upper) (lowers_of l) p ≡ true →
+      (marks.opaque ≡ false) × (marks.redirect ≡ Some (Absolute (below (layer_of l.upper) p)))
+  pub when_not :
+      base (layer_of l.upper) (lowers_of l) p ≡ false →
+      (marks.redirect ≡ None) × (marks.opaque ≡ shown_under l q)
+
 -- The route is that of a directory, shown by its topmost place, to where the upper names no inode, and these are the marks that its new
 -- place asks for.
 pub record IsFolderMove (l : Layers) (p q : Path) (r : Route) (top : Place) (marks : Marks) : Type 0 where
+  pub move : IsMove l p q r
   pub attributes : Attributes
   pub shown : shows 0 (layers_of l) (r.name.now ∷ p) ≡ Some (Folder top.layer top.key attributes)
   pub own : top.layer ≡ 0 → IsUnder (layer_of l.upper) (r.name.now ∷ p) top.key
   pub unnamed : NamesNoInode (layer_of l.upper) (r.further.now ∷ q)
-  pub when_base :
-      base (layer_of l.upper) (lowers_of l) (r.name.now ∷ p) ≡ true →
-      (marks.opaque ≡ false) × (marks.redirect ≡ Some (Absolute (below (layer_of l.upper) (r.name.now ∷ p))))
-  pub when_not :
-      base (layer_of l.upper) (lowers_of l) (r.name.now ∷ p) ≡ false →
-      (marks.redirect ≡ None) × (marks.opaque ≡ is_directory (under (layer_of l.upper) (lowers_of l) r.further.now q))
+  pub asks : AsksFor l (r.name.now ∷ p) (r.further.now ∷ q) marks
+
+-- the route is that of a file or symbolic link, shown at this place, and begins at this path
+pub record IsLeafMove (l : Layers) (p q : Path) (r : Route) (old : Path) (d : Place) : Type 0 where
+  pub move : IsMove l p q r
+  pub shown : ShowsInode l (r.name.now ∷ p) d
+  pub path : old ≡ r.name.now ∷ p
+
+-- what the route leads from moved to where it ends, over what stood there
+abbrev pub MovesRoute : Layers → Layers → Bool → Route → Path → Path → Option ℕ → Type 0
+MovesRoute old new low r p q released =
+    MovesOver old new low (r.name.now ∷ p) (r.further.now ∷ q) ×
+    Replaces old new (r.further.now ∷ q) released

@@ -1,8 +1,8 @@
 // `link` of what a lower layer has, which is copied up first.
 ghost use Rattle.std.specs.Prelude.{◌≡◌, ◌<◌, ◌∷◌, Option, Some, None, IfOk, OnOk, OnErr};
-ghost use Rattle.plain_model.specs.Layers.{Name as NameOf, Path as Names, Inode, Contents, Named, held, shows};
+ghost use Rattle.plain_model.specs.Layers.{Name as NameOf, Path as Names, Inode, Named, held, shows};
 ghost use Rattle.layer_tree.specs.Tree.{layer_of};
-ghost use Rattle.merged_lookup.specs.Merged.{layers_of, parents_fault, parent, IsStackOf, ShowsInode};
+ghost use Rattle.merged_lookup.specs.Merged.{layers_of, parents_fault, parent, IsStackOf, ShowsAs, ShowsInode};
 ghost use Rattle.copy_up.specs.Showing.{ShowsSame, ChangesNoSight, HasPlace, Stays, StaysSound};
 ghost use Rattle.copy_up.specs.Texts.{KeepsTexts};
 ghost use Rattle.rename_redirect.specs.Judging.{MayLink};
@@ -60,9 +60,7 @@ pub(crate) fn copy_of(
 ) -> Result<Object, AllocError>
     requires shown { ShowsInode layers.now path.now place }
     requires lower { 0 < place.layer }
-    ensures { IfOk result (λ object. (i : Inode) ×
-        (shows 0 (layers_of layers.now) path.now
-        ≡ Some (Contents place.layer place.key (Some i)))
+    ensures { IfOk result (λ object. (i : Inode) × ShowsAs layers.now path.now place (Some i)
         × CopiesInode layers.now metacopy path.now i object) }
 {
     let attributes = layers.inode_at(place).attributes.clone()?;
@@ -97,7 +95,8 @@ fn place_both(
     ensures gains { GainsBoth layers.old layers.new old.now new.now }
     ensures from { IfOk result (λ dirs. (n : NameOf) (p : Names) → old.now ≡ n ∷ p → HasPlace (layer_of layers.new.upper) dirs.0 n p) }
     ensures onto { IfOk result (λ dirs. (n : NameOf) (p : Names) → new.now ≡ n ∷ p → HasPlace (layer_of layers.new.upper) dirs.1 n p) }
-    ensures shown { (x : Option Inode) → shows 0 (layers_of layers.old) old.now ≡ Some (Contents place.layer place.key x) → shows 0 (layers_of layers.new) old.now ≡ Some (Contents place.layer place.key x) }
+    ensures shown { (x : Option Inode) →
+        ShowsAs layers.old old.now place x → ShowsAs layers.new old.now place x }
 {
     let (placed, placed_onto) = place_ways(layers, old, new, directory, onto)?;
     let from = placed_or(&placed, directory);

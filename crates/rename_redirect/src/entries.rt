@@ -1,11 +1,10 @@
 // An entry of the upper moves to another name, one that it has or a new one, and a directory gets other marks.
-ghost use Rattle.std.specs.Prelude.{◌≡◌, ◌≢◌, ◌<◌, ◌∷◌, ℕ, Some, None, IfOk, OnErr, IsTrue};
+ghost use Rattle.std.specs.Prelude.{◌≡◌, ◌≢◌, ◌<◌, ℕ, Some, None, IfOk, OnErr, IsTrue};
 ghost use Rattle.plain_model.specs.Layers.{Path as Names, IsLayer};
 ghost use Rattle.layer_tree.specs.Nameless.{IsNameless, KeepsObjects};
 ghost use Rattle.layer_tree.specs.MarkChange.{MarksDirectory, SetsMarks};
-ghost use Rattle.layer_tree.specs.Move.{left_object};
 ghost use Rattle.layer_tree.specs.Tree.{ROOT, layer_of, key_at, child, leads, leads_on, names_room, seen_object, IsDirectory, SameObjects};
-ghost use Rattle.rename_redirect.specs.Routes.{IsRoute, Leads, MovesEntry, MovesNew};
+ghost use Rattle.rename_redirect.specs.Routes.{IsRoute, Leads, MovesAlong, MovesNewAlong};
 
 use crate::names::room_for_both;
 use layer_tree::{Layer, Marks, Object};
@@ -33,7 +32,7 @@ pub(crate) fn move_in_upper(
     requires route { (p q : Names) × IsRoute (layer_of layers.old.upper) p q route.now }
     requires leads { Leads layers.old.upper route.now }
     ensures lowers { layers.new.lowers ≡ layers.old.lowers }
-    ensures moved { IfOk result (λ released. (p q : Names) → IsRoute (layer_of layers.old.upper) p q route.now → MovesEntry layers.old.upper layers.new.upper (route.now.name.now ∷ p) (route.now.further.now ∷ q) (left_object route.now.covered) released) }
+    ensures moved { IfOk result (MovesAlong layers.old.upper layers.new.upper route.now) }
     ensures unchanged { OnErr result (SameObjects (layer_of layers.old.upper) (layer_of layers.new.upper)) }
     ensures same { OnErr result (KeepsObjects layers.old.upper layers.new.upper None) }
     ensures keeps { IsLayer (layer_of layers.old.upper) → IsLayer (layer_of layers.new.upper) }
@@ -50,7 +49,7 @@ fn move_reserved(upper: &mut Layer, route: &Route<'_>, further: Name) -> Option<
     requires leads { Leads upper.old route.now }
     requires further { further ≡ route.now.further.now }
     requires room { 0 < names_room upper.old route.now.to }
-    ensures moved { (p q : Names) → IsRoute (layer_of upper.old) p q route.now → MovesEntry upper.old upper.new (route.now.name.now ∷ p) (route.now.further.now ∷ q) (left_object route.now.covered) result }
+    ensures moved { MovesAlong upper.old upper.new route.now result }
     ensures keeps { IsLayer (layer_of upper.old) → IsLayer (layer_of upper.new) }
 {
     upper.lawful();
@@ -70,7 +69,8 @@ pub(crate) fn insert_and_move(
     requires free { child layers.old.upper route.now.from route.now.name.now ≡ None }
     requires redirect { IsTrue (leads_on (Some (seen_object 0 object))) }
     ensures lowers { layers.new.lowers ≡ layers.old.lowers }
-    ensures moved { IfOk result (λ keys. (p q : Names) → IsRoute (layer_of layers.old.upper) p q route.now → MovesNew layers.old.upper layers.new.upper (route.now.name.now ∷ p) (route.now.further.now ∷ q) object (left_object route.now.covered) keys.0 keys.1) }
+    ensures moved { IfOk result (λ keys.
+        MovesNewAlong layers.old.upper layers.new.upper route.now object keys.0 keys.1) }
     ensures unchanged { OnErr result (SameObjects (layer_of layers.old.upper) (layer_of layers.new.upper)) }
     ensures same { OnErr result (KeepsObjects layers.old.upper layers.new.upper None) }
     ensures keeps { IsLayer (layer_of layers.old.upper) → IsLayer (layer_of layers.new.upper) }

@@ -1,19 +1,18 @@
 // What a path shows moves to another path.
 ghost use Rattle.std.specs.Prelude.{◌≡◌, ◌∷◌, Bool, true, false, Some, None, IfOk, OnOk, OnErr, unwrap_or};
-ghost use Rattle.ov_base.specs.declared.redirect.Redirect.TheVariants.{Absolute};
-ghost use Rattle.plain_model.specs.Layers.{Path as Names, Named, held, below, shows, is_directory, base, under, IsLayer, AreLayers};
+ghost use Rattle.plain_model.specs.Layers.{Path as Names, Named, held, shows, is_directory, IsLayer, AreLayers};
 ghost use Rattle.plain_model.specs.Laws.{IsOutside};
 ghost use Rattle.mount_laws.specs.Removals.{ShowsNoName};
 ghost use Rattle.mount_laws.specs.Moving.{NamesNoInode};
 ghost use Rattle.mount_laws.specs.Renaming.{is_one};
 ghost use Rattle.layer_tree.specs.Nameless.{KeepsObjects};
 ghost use Rattle.layer_tree.specs.Tree.{layer_of, SameObjects};
-ghost use Rattle.merged_lookup.specs.Merged.{layers_of, lowers_of, parents_fault, parent, top_of, IsStackOf, IsTopmost, ShowsInode};
+ghost use Rattle.merged_lookup.specs.Merged.{layers_of, parents_fault, parent, top_of, IsStackOf, IsTopmost};
 ghost use Rattle.copy_up.specs.Showing.{ShowsSame, Stays, StaysThin};
 ghost use Rattle.copy_up.specs.Texts.{KeepsTexts};
 ghost use Rattle.rename_redirect.specs.Linking.{GainsBoth};
-ghost use Rattle.rename_redirect.specs.Renaming.{MovesOver, Replaces, DoesRename};
-ghost use Rattle.rename_redirect.specs.Routes.{IsMove, IsFolderMove};
+ghost use Rattle.rename_redirect.specs.Renaming.{DoesRename};
+ghost use Rattle.rename_redirect.specs.Routes.{AsksFor, IsFolderMove, IsLeafMove, MovesRoute};
 
 use crate::copies::copy_of;
 use crate::entries::{Route, insert_and_move, mark_in_upper, move_in_upper};
@@ -175,8 +174,8 @@ fn moved_marks(
     further: &Name,
 ) -> Result<Marks, AllocError>
     requires { IsStackOf layers.now old.now moved.now }
-    ensures when_base { IfOk result (λ marks. base (layer_of layers.now.upper) (lowers_of layers.now) old.now ≡ true → (marks.opaque ≡ false) × (marks.redirect ≡ Some (Absolute (below (layer_of layers.now.upper) old.now)))) }
-    ensures when_not { IfOk result (λ marks. base (layer_of layers.now.upper) (lowers_of layers.now) old.now ≡ false → (marks.redirect ≡ None) × ((q : Names) → IsStackOf layers.now q onto.now → marks.opaque ≡ is_directory (under (layer_of layers.now.upper) (lowers_of layers.now) further.now q))) }
+    ensures { IfOk result (λ marks. (q : Names) → IsStackOf layers.now q onto.now →
+        AsksFor layers.now old.now (further.now ∷ q) marks) }
 {
     if moved.is_base() {
         let below = layers.spelling_below(alloc, old)?;
@@ -198,9 +197,11 @@ fn move_directory(
     top: Place,
     marks: Marks,
 ) -> Result<Option<usize>, AllocError>
-    requires goes { (p q : Names) × IsMove layers.old p q route.now × IsFolderMove layers.old p q route.now top marks }
+    requires goes { (p q : Names) × IsFolderMove layers.old p q route.now top marks }
     ensures lowers { layers.new.lowers ≡ layers.old.lowers }
-    ensures moved { IfOk result (λ released. (p q : Names) (low : Bool) → IsMove layers.old p q route.now → IsFolderMove layers.old p q route.now top marks → MovesOver layers.old layers.new low (route.now.name.now ∷ p) (route.now.further.now ∷ q) × Replaces layers.old layers.new (route.now.further.now ∷ q) released) }
+    ensures moved { IfOk result (λ released. (p q : Names) (low : Bool) →
+        IsFolderMove layers.old p q route.now top marks →
+        MovesRoute layers.old layers.new low route.now p q released) }
     ensures texts { OnOk result (KeepsTexts layers.old layers.new None) }
     ensures unchanged { OnErr result (SameObjects (layer_of layers.old.upper) (layer_of layers.new.upper)) }
     ensures same { OnErr result (KeepsObjects layers.old.upper layers.new.upper None) }
@@ -235,10 +236,14 @@ fn move_inode(
     place: Place,
     metacopy: bool,
 ) -> Result<(usize, Option<usize>), AllocError>
-    requires goes { (p q : Names) × IsMove layers.old p q route.now × ShowsInode layers.old (route.now.name.now ∷ p) place × (old.now ≡ route.now.name.now ∷ p) }
+    requires goes { (p q : Names) × IsLeafMove layers.old p q route.now old.now place }
     ensures lowers { layers.new.lowers ≡ layers.old.lowers }
-    ensures moved { IfOk result (λ keys. (p q : Names) → IsMove layers.old p q route.now → ShowsInode layers.old (route.now.name.now ∷ p) place → old.now ≡ route.now.name.now ∷ p → MovesOver layers.old layers.new metacopy (route.now.name.now ∷ p) (route.now.further.now ∷ q) × Replaces layers.old layers.new (route.now.further.now ∷ q) keys.1) }
-    ensures key { IfOk result (λ keys. (p q : Names) → IsMove layers.old p q route.now → ShowsInode layers.old (route.now.name.now ∷ p) place → old.now ≡ route.now.name.now ∷ p → held (layer_of layers.new.upper) (route.now.further.now ∷ q) ≡ Some (Named keys.0)) }
+    ensures moved { IfOk result (λ keys. (p q : Names) →
+        IsLeafMove layers.old p q route.now old.now place →
+        MovesRoute layers.old layers.new metacopy route.now p q keys.1) }
+    ensures key { IfOk result (λ keys. (p q : Names) →
+        IsLeafMove layers.old p q route.now old.now place →
+        held (layer_of layers.new.upper) (route.now.further.now ∷ q) ≡ Some (Named keys.0)) }
     ensures texts { OnOk result (KeepsTexts layers.old layers.new (Some old.now)) }
     ensures unchanged { OnErr result (SameObjects (layer_of layers.old.upper) (layer_of layers.new.upper)) }
     ensures same { OnErr result (KeepsObjects layers.old.upper layers.new.upper None) }

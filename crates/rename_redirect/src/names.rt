@@ -5,8 +5,8 @@ ghost use Rattle.plain_model.specs.Layers.{Path as Names, Inode, Named, held, Is
 ghost use Rattle.mount_laws.specs.Linking.{AddsName};
 ghost use Rattle.layer_tree.specs.Nameless.{KeepsObjects};
 ghost use Rattle.layer_tree.specs.Tree.{layer_of, new_inode, names_room, IsDirectory, SameObjects, SameTree};
-ghost use Rattle.copy_up.specs.Showing.{HasPlace};
-ghost use Rattle.rename_redirect.specs.Linking.{CopiesName, KeepsDirectories};
+ghost use Rattle.copy_up.specs.Showing.{AtPlace, HasPlace};
+ghost use Rattle.rename_redirect.specs.Linking.{AtTwoPlaces, CopiesName, KeepsDirectories};
 
 use layer_tree::{Layer, Object};
 use merged_lookup::Layers;
@@ -23,7 +23,8 @@ pub(crate) fn link_in_upper(
     requires place { (q : Names) × HasPlace (layer_of layers.old.upper) dir name.now q }
     requires source { (p : Names) × (held (layer_of layers.old.upper) p ≡ Some (Named key)) }
     ensures lowers { layers.new.lowers ≡ layers.old.lowers }
-    ensures added { OnOk result ((p q : Names) → held (layer_of layers.old.upper) p ≡ Some (Named key) → HasPlace (layer_of layers.old.upper) dir name.now q → AddsName (layer_of layers.old.upper) (layer_of layers.new.upper) p (name.now ∷ q)) }
+    ensures added { OnOk result (AtPlace layers.old layers.new dir name.now (λ U V y.
+        (p : Names) → held U p ≡ Some (Named key) → AddsName U V p y)) }
     ensures directories { OnOk result (KeepsDirectories (layer_of layers.old.upper) (layer_of layers.new.upper)) }
     ensures objects { OnOk result (KeepsObjects layers.old.upper layers.new.upper (Some key)) }
     ensures unchanged { OnErr result (SameObjects (layer_of layers.old.upper) (layer_of layers.new.upper)) }
@@ -49,8 +50,10 @@ pub(crate) fn insert_in_upper(
     requires places { (p q : Names) × HasPlace (layer_of layers.old.upper) from name.now p × HasPlace (layer_of layers.old.upper) to further.now q × (further.now ∷ q ≢ name.now ∷ p) }
     requires leaf { (i : Inode) × (new_inode object ≡ Some i) }
     ensures lowers { layers.new.lowers ≡ layers.old.lowers }
-    ensures key { IfOk result (λ key. (p q : Names) → HasPlace (layer_of layers.old.upper) from name.now p → HasPlace (layer_of layers.old.upper) to further.now q → further.now ∷ q ≢ name.now ∷ p → held (layer_of layers.new.upper) (name.now ∷ p) ≡ Some (Named key)) }
-    ensures copied { OnOk result ((p q : Names) (i : Inode) → HasPlace (layer_of layers.old.upper) from name.now p → HasPlace (layer_of layers.old.upper) to further.now q → further.now ∷ q ≢ name.now ∷ p → new_inode object ≡ Some i → CopiesName (layer_of layers.old.upper) (layer_of layers.new.upper) (name.now ∷ p) (further.now ∷ q) i) }
+    ensures key { IfOk result (λ key. AtTwoPlaces layers.old layers.new from name.now to
+        further.now (λ U V x y. held V x ≡ Some (Named key))) }
+    ensures copied { OnOk result (AtTwoPlaces layers.old layers.new from name.now to further.now
+        (λ U V x y. (i : Inode) → new_inode object ≡ Some i → CopiesName U V x y i)) }
     ensures directories { OnOk result (KeepsDirectories (layer_of layers.old.upper) (layer_of layers.new.upper)) }
     ensures objects { OnOk result ((key : ℕ) × KeepsObjects layers.old.upper layers.new.upper (Some key)) }
     ensures unchanged { OnErr result (SameObjects (layer_of layers.old.upper) (layer_of layers.new.upper)) }

@@ -43,7 +43,7 @@ returns-clause-linked c = λ low.
     let place = absent-place l0 l1 c.args.new.now t n c.placed_or.result.now c.top-dir.result c.in-Some.ensures p.same c.requires.absent (subst (λ (s : Stack). IsStackOf c.place_parents.new.layers (reverse c.in-Some.parents.now) s) (sym c.placed_or.ensures) c.in_ok-placed.ensures.stack) (subst (λ (s : Stack). (top_of s.places.items).layer ≡ 0) (sym c.placed_or.ensures) c.in_ok-placed.ensures.upper) c.top-dir.ensures in
     let named = upper-named l0 c.args.old.now c.args.place c.requires.shown.inode c.requires.own c.requires.shown.shown in
     let absent = p.same.absent (n ∷ t) (sym (ap (shows 0 (layers_of l0)) c.in-Some.ensures) ∙ c.requires.absent) in
-    let adds = c.in_ok-link_in_upper.ensures.added c.args.old.now t ((p.stays.names c.args.old.now c.args.place.key).1 named.named) place in
+    let adds = c.in_ok-link_in_upper.ensures.added t place c.args.old.now ((p.stays.names c.args.old.now c.args.place.key).1 named.named) in
     subst (λ (z : Path). GivesName l0 l2 low c.args.old.now z) (sym c.in-Some.ensures)
     (gives-name l0 l1 l2 p.same p.stays c.args.old.now (n ∷ t) low (gains-second l0 l1 c.args.old.now (n ∷ t) p.same (p.gains n))
     (own-name l1 l2 c.link_in_upper.ensures.lowers c.link_in_upper.ensures.keeps c.args.old.now n t absent adds low)
@@ -62,7 +62,7 @@ returns-clause-sound c =
     let place = absent-place l0 l1 c.args.new.now t n c.placed_or.result.now c.top-dir.result c.in-Some.ensures p.same c.requires.absent (subst (λ (s : Stack). IsStackOf c.place_parents.new.layers (reverse c.in-Some.parents.now) s) (sym c.placed_or.ensures) c.in_ok-placed.ensures.stack) (subst (λ (s : Stack). (top_of s.places.items).layer ≡ 0) (sym c.placed_or.ensures) c.in_ok-placed.ensures.upper) c.top-dir.ensures in
     let named = upper-named l0 c.args.old.now c.args.place c.requires.shown.inode c.requires.own c.requires.shown.shown in
     let absent = p.same.absent (n ∷ t) (sym (ap (shows 0 (layers_of l0)) c.in-Some.ensures) ∙ c.requires.absent) in
-    let adds = c.in_ok-link_in_upper.ensures.added c.args.old.now t ((p.stays.names c.args.old.now c.args.place.key).1 named.named) place in
+    let adds = c.in_ok-link_in_upper.ensures.added t place c.args.old.now ((p.stays.names c.args.old.now c.args.place.key).1 named.named) in
     record {
       layers = then-layers l0 l1 l2 p.stays.sound.layers c.link_in_upper.ensures.lowers c.link_in_upper.ensures.keeps;
       thin = λ h. own-thin l1 l2 c.link_in_upper.ensures.lowers c.link_in_upper.ensures.keeps c.args.old.now n t absent adds (p.stays.sound.thin h);
@@ -79,7 +79,7 @@ returns-clause-key c =
     let place = absent-place l0 l1 c.args.new.now t n c.placed_or.result.now c.top-dir.result c.in-Some.ensures p.same c.requires.absent (subst (λ (s : Stack). IsStackOf c.place_parents.new.layers (reverse c.in-Some.parents.now) s) (sym c.placed_or.ensures) c.in_ok-placed.ensures.stack) (subst (λ (s : Stack). (top_of s.places.items).layer ≡ 0) (sym c.placed_or.ensures) c.in_ok-placed.ensures.upper) c.top-dir.ensures in
     let named = upper-named l0 c.args.old.now c.args.place c.requires.shown.inode c.requires.own c.requires.shown.shown in
     let still = (p.stays.names c.args.old.now c.args.place.key).1 named.named in
-    let adds = c.in_ok-link_in_upper.ensures.added c.args.old.now t still place in
+    let adds = c.in_ok-link_in_upper.ensures.added t place c.args.old.now still in
     let off = shown-apart (layers_of l0) c.args.old.now c.args.new.now c.args.place.layer c.args.place.key c.requires.shown.inode c.requires.shown.shown c.requires.absent in
     beside-name l1.upper (layer_of l2.upper) c.args.old.now (n ∷ t) place.free adds c.args.old.now (λ e. off (e ∙ sym c.in-Some.ensures)) ∙ still
 
@@ -107,6 +107,6 @@ returns-clause-texts c =
     let t = reverse c.in-Some.parents.now in
     let place = absent-place l0 l1 c.args.new.now t n c.placed_or.result.now c.top-dir.result c.in-Some.ensures p.same c.requires.absent (subst (λ (s : Stack). IsStackOf c.place_parents.new.layers (reverse c.in-Some.parents.now) s) (sym c.placed_or.ensures) c.in_ok-placed.ensures.stack) (subst (λ (s : Stack). (top_of s.places.items).layer ≡ 0) (sym c.placed_or.ensures) c.in_ok-placed.ensures.upper) c.top-dir.ensures in
     let named = upper-named l0 c.args.old.now c.args.place c.requires.shown.inode c.requires.own c.requires.shown.shown in
-    let adds = c.in_ok-link_in_upper.ensures.added c.args.old.now t ((p.stays.names c.args.old.now c.args.place.key).1 named.named) place in
+    let adds = c.in_ok-link_in_upper.ensures.added t place c.args.old.now ((p.stays.names c.args.old.now c.args.place.key).1 named.named) in
     texts-since l0 l1 l2 c.args.old.now p.same.passes p.stays
     (marks-named (layer_of l1.upper) (layer_of l2.upper) c.args.old.now (n ∷ t) (Some (below (layer_of l1.upper) c.args.old.now)) adds)

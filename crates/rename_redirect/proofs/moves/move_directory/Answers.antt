@@ -29,30 +29,31 @@ move_in_upper-requires-clause-leads c =
     let l = c.args.layers.now in
     let p = c.requires.goes.0 in
     let q = c.requires.goes.1 in
-    let own = c.requires.goes.3.own c.if-top-eq0.true in
-    leads-held l.upper p q c.args.route.now c.args.top.key c.lawful.ensures.tree c.requires.goes.2.route (ap number_of own.directory)
-    (λ e. c.requires.goes.2.route.out [] (c.lawful.ensures.together.one_path _ _ c.args.top.key (ap directory_number (e ∙ own.directory)) (ap directory_number own.directory)))
+    let own = c.requires.goes.2.own c.if-top-eq0.true in
+    leads-held l.upper p q c.args.route.now c.args.top.key c.lawful.ensures.tree c.requires.goes.2.move.route (ap number_of own.directory)
+    (λ e. c.requires.goes.2.move.route.out [] (c.lawful.ensures.together.one_path _ _ c.args.top.key (ap directory_number (e ∙ own.directory)) (ap directory_number own.directory)))
 
 pub mark_in_upper-requires-clause-is_dir : goal.mark_in_upper-requires-clause-is_dir
 mark_in_upper-requires-clause-is_dir c =
-    let own = c.requires.goes.3.own c.if-top-eq0.true in
-    let e = c.in_ok-released.ensures.moved c.requires.goes.0 c.requires.goes.1 c.requires.goes.2.route in
+    let own = c.requires.goes.2.own c.if-top-eq0.true in
+    let e = c.in_ok-released.ensures.moved c.requires.goes.0 c.requires.goes.1 c.requires.goes.2.move.route in
     under-directory c.move_in_upper.new.layers.upper (c.args.route.now.further.now ∷ c.requires.goes.1) c.args.top.key c.lawful-then-top-eq0.ensures.tree
     (record { attributes = own.attributes; opaque = own.opaque; redirect = own.redirect; directory = e.path.inside [] ∙ own.directory })
 
 pub mark_in_upper-requires-clause-not_root : goal.mark_in_upper-requires-clause-not_root
 mark_in_upper-requires-clause-not_root c =
-    let own = c.requires.goes.3.own c.if-top-eq0.true in
+    let own = c.requires.goes.2.own c.if-top-eq0.true in
     not-the-root c.args.layers.now.upper c.lawful.ensures.together c.args.route.now.name.now c.requires.goes.0 c.args.top.key own.attributes own.opaque own.redirect own.directory
 
 pub mark_in_upper-requires-clause-redirect : goal.mark_in_upper-requires-clause-redirect
-mark_in_upper-requires-clause-redirect c = marks-lead c.args.layers.now c.requires.goes.0 c.requires.goes.1 c.args.route.now c.args.top c.args.marks c.lawful.ensures.together c.requires.goes.3
+mark_in_upper-requires-clause-redirect c = marks-lead c.args.layers.now c.requires.goes.0 c.requires.goes.1 c.args.route.now c.args.top c.args.marks c.lawful.ensures.together c.requires.goes.2
 
 pub returns-then-top-eq0-clause-keeps : goal.returns-then-top-eq0-clause-keeps
 returns-then-top-eq0-clause-keeps c = λ h. c.mark_in_upper.ensures.keeps (c.move_in_upper.ensures.keeps h)
 
 pub returns-then-top-eq0-clause-moved : goal.returns-then-top-eq0-clause-moved
-returns-then-top-eq0-clause-moved c = λ p q marked move folder.
+returns-then-top-eq0-clause-moved c = λ p q marked folder.
+    let move = folder.move in
     let l = c.args.layers.now in
     let l1 = c.move_in_upper.new.layers in
     let l2 = c.mark_in_upper.new.layers in
@@ -76,8 +77,8 @@ returns-then-top-eq0-clause-thin c =
     let r = c.args.route.now in
     let p = c.requires.goes.0 in
     let q = c.requires.goes.1 in
-    let move = c.requires.goes.2 in
-    let folder = c.requires.goes.3 in
+    let move = c.requires.goes.2.move in
+    let folder = c.requires.goes.2 in
     let own = folder.own c.if-top-eq0.true in
     let ready = prepared-own l.upper (lowers_of l) false (r.name.now ∷ p) in
     let e = c.in_ok-released.ensures.moved p q move.route in
@@ -94,7 +95,7 @@ insert_and_move-requires-clause-free c =
     let l = c.args.layers.now in
     let p = c.requires.goes.0 in
     let q = c.requires.goes.1 in
-    free-held l.upper p q c.args.route.now c.lawful.ensures.tree c.requires.goes.2.route (lacks l p q c.args.route.now c.args.top c.args.marks c.if-top-eq0.false c.requires.goes.3)
+    free-held l.upper p q c.args.route.now c.lawful.ensures.tree c.requires.goes.2.move.route (lacks l p q c.args.route.now c.args.top c.args.marks c.if-top-eq0.false c.requires.goes.2)
 
 -- the directory that stood ready
 record Placed (l : Layers) (new : Tree) (p q : Path) (r : Route) (key : ℕ) (released : Option ℕ) : Type 0 where
@@ -120,28 +121,29 @@ pub mark_in_upper-requires-2-clause-is_dir : goal.mark_in_upper-requires-2-claus
 mark_in_upper-requires-2-clause-is_dir c =
     let p = c.requires.goes.0 in
     let q = c.requires.goes.1 in
-    let folder = c.requires.goes.3 in
+    let folder = c.requires.goes.2 in
     let x = placed-as c.args.layers.now c.insert_and_move.new.layers.upper p q c.args.route.now c.in_ok-key.key c.in_ok-key.released c.args.top c.args.marks c.if-top-eq0.false folder c.in_ok-attributes.attributes
-    (c.in_ok-attributes.ensures.cases ∙ c.attributes_at.ensures (c.args.route.now.name.now ∷ p) folder.attributes folder.shown) (c.in_ok-key.ensures.moved p q c.requires.goes.2.route) in
+    (c.in_ok-attributes.ensures.cases ∙ c.attributes_at.ensures (c.args.route.now.name.now ∷ p) folder.attributes folder.shown) (c.in_ok-key.ensures.moved p q c.requires.goes.2.move.route) in
     under-directory c.insert_and_move.new.layers.upper (c.args.route.now.further.now ∷ q) c.in_ok-key.key c.lawful-2.ensures.tree (record { attributes = x.attributes; opaque = false; redirect = None; directory = x.m.moves.path.inside [] ∙ x.there })
 
 pub mark_in_upper-requires-2-clause-not_root : goal.mark_in_upper-requires-2-clause-not_root
 mark_in_upper-requires-2-clause-not_root c =
     let p = c.requires.goes.0 in
     let q = c.requires.goes.1 in
-    let folder = c.requires.goes.3 in
+    let folder = c.requires.goes.2 in
     let x = placed-as c.args.layers.now c.insert_and_move.new.layers.upper p q c.args.route.now c.in_ok-key.key c.in_ok-key.released c.args.top c.args.marks c.if-top-eq0.false folder c.in_ok-attributes.attributes
-    (c.in_ok-attributes.ensures.cases ∙ c.attributes_at.ensures (c.args.route.now.name.now ∷ p) folder.attributes folder.shown) (c.in_ok-key.ensures.moved p q c.requires.goes.2.route) in
+    (c.in_ok-attributes.ensures.cases ∙ c.attributes_at.ensures (c.args.route.now.name.now ∷ p) folder.attributes folder.shown) (c.in_ok-key.ensures.moved p q c.requires.goes.2.move.route) in
     not-the-root c.insert_and_move.new.layers.upper c.lawful-2.ensures.together c.args.route.now.further.now q c.in_ok-key.key x.attributes false None (x.m.moves.path.inside [] ∙ x.there)
 
 pub mark_in_upper-requires-2-clause-redirect : goal.mark_in_upper-requires-2-clause-redirect
-mark_in_upper-requires-2-clause-redirect c = marks-lead c.args.layers.now c.requires.goes.0 c.requires.goes.1 c.args.route.now c.args.top c.args.marks c.lawful.ensures.together c.requires.goes.3
+mark_in_upper-requires-2-clause-redirect c = marks-lead c.args.layers.now c.requires.goes.0 c.requires.goes.1 c.args.route.now c.args.top c.args.marks c.lawful.ensures.together c.requires.goes.2
 
 pub returns-clause-keeps : goal.returns-clause-keeps
 returns-clause-keeps c = λ h. c.mark_in_upper-2.ensures.keeps (c.insert_and_move.ensures.keeps h)
 
 pub returns-clause-moved : goal.returns-clause-moved
-returns-clause-moved c = λ p q marked move folder.
+returns-clause-moved c = λ p q marked folder.
+    let move = folder.move in
     let x = placed-as c.args.layers.now c.insert_and_move.new.layers.upper p q c.args.route.now c.in_ok-key.key c.in_ok-key.released c.args.top c.args.marks c.if-top-eq0.false folder c.in_ok-attributes.attributes
     (c.in_ok-attributes.ensures.cases ∙ c.attributes_at.ensures (c.args.route.now.name.now ∷ p) folder.attributes folder.shown) (c.in_ok-key.ensures.moved p q move.route) in
     let l = c.args.layers.now in
@@ -161,9 +163,9 @@ pub returns-clause-thin : goal.returns-clause-thin
 returns-clause-thin c =
     let p = c.requires.goes.0 in
     let q = c.requires.goes.1 in
-    let folder = c.requires.goes.3 in
+    let folder = c.requires.goes.2 in
     let x = placed-as c.args.layers.now c.insert_and_move.new.layers.upper p q c.args.route.now c.in_ok-key.key c.in_ok-key.released c.args.top c.args.marks c.if-top-eq0.false folder c.in_ok-attributes.attributes
-    (c.in_ok-attributes.ensures.cases ∙ c.attributes_at.ensures (c.args.route.now.name.now ∷ p) folder.attributes folder.shown) (c.in_ok-key.ensures.moved p q c.requires.goes.2.route) in
+    (c.in_ok-attributes.ensures.cases ∙ c.attributes_at.ensures (c.args.route.now.name.now ∷ p) folder.attributes folder.shown) (c.in_ok-key.ensures.moved p q c.requires.goes.2.move.route) in
     let l = c.args.layers.now in
     let l1 = c.insert_and_move.new.layers in
     let l2 = c.mark_in_upper-2.new.layers in
@@ -172,7 +174,7 @@ returns-clause-thin c =
     let at = key-of l1.upper (r.further.now ∷ q) c.in_ok-key.key x.attributes false None (e.path.inside [] ∙ x.there) in
     let m = c.mark_in_upper-2.ensures.directory (r.further.now ∷ q) at in
     let low = c.mark_in_upper-2.ensures.lowers ∙ c.insert_and_move.ensures.lowers in
-    thin-directory l l1 l2 x.m.mid p q r c.in_ok-key.released false c.args.top c.args.marks c.requires.goes.2 folder c.lawful.ensures.together low (λ h. c.mark_in_upper-2.ensures.keeps (c.insert_and_move.ensures.keeps h)) (x.ready false) c.in_ok-key.key x.attributes false None x.there e m c.mark_in_upper-2.ensures.sets c.mark_in_upper-2.ensures.nameless
+    thin-directory l l1 l2 x.m.mid p q r c.in_ok-key.released false c.args.top c.args.marks c.requires.goes.2.move folder c.lawful.ensures.together low (λ h. c.mark_in_upper-2.ensures.keeps (c.insert_and_move.ensures.keeps h)) (x.ready false) c.in_ok-key.key x.attributes false None x.there e m c.mark_in_upper-2.ensures.sets c.mark_in_upper-2.ensures.nameless
 
 pub returns-then-top-eq0-clause-texts : goal.returns-then-top-eq0-clause-texts
 returns-then-top-eq0-clause-texts c =
@@ -181,8 +183,8 @@ returns-then-top-eq0-clause-texts c =
     let l2 = c.mark_in_upper.new.layers in
     let q = c.requires.goes.1 in
     let r = c.args.route.now in
-    let own = c.requires.goes.3.own c.if-top-eq0.true in
-    let e = c.in_ok-released.ensures.moved c.requires.goes.0 q c.requires.goes.2.route in
+    let own = c.requires.goes.2.own c.if-top-eq0.true in
+    let e = c.in_ok-released.ensures.moved c.requires.goes.0 q c.requires.goes.2.move.route in
     let at = key-of l1.upper (r.further.now ∷ q) c.args.top.key own.attributes own.opaque own.redirect (e.path.inside [] ∙ own.directory) in
     marks-then (layer_of l.upper) (layer_of l1.upper) (layer_of l2.upper) None
     (marks-moved l.upper l1.upper _ _ _ _ None e)
@@ -196,8 +198,8 @@ returns-clause-texts c =
     let p = c.requires.goes.0 in
     let q = c.requires.goes.1 in
     let r = c.args.route.now in
-    let folder = c.requires.goes.3 in
-    let moves = c.in_ok-key.ensures.moved p q c.requires.goes.2.route in
+    let folder = c.requires.goes.2 in
+    let moves = c.in_ok-key.ensures.moved p q c.requires.goes.2.move.route in
     let x = placed-as l l1.upper p q r c.in_ok-key.key c.in_ok-key.released c.args.top c.args.marks c.if-top-eq0.false folder c.in_ok-attributes.attributes
     (c.in_ok-attributes.ensures.cases ∙ c.attributes_at.ensures (r.name.now ∷ p) folder.attributes folder.shown) moves in
     let at = key-of l1.upper (r.further.now ∷ q) c.in_ok-key.key x.attributes false None (x.m.moves.path.inside [] ∙ x.there) in

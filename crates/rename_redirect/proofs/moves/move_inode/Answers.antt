@@ -21,35 +21,35 @@ use Rattle.rename_redirect.proofs.Texts.{copy-spelled, marks-moved, marks-new}
 use Rattle.rename_redirect.proofs.moves.move_inode.Goals as goal
 
 pub move_in_upper-requires-clause-route : goal.move_in_upper-requires-clause-route
-move_in_upper-requires-clause-route c = (c.requires.goes.0, c.requires.goes.1, c.requires.goes.2.route)
+move_in_upper-requires-clause-route c = (c.requires.goes.0, c.requires.goes.1, c.requires.goes.2.move.route)
 
 pub move_in_upper-requires-clause-leads : goal.move_in_upper-requires-clause-leads
 move_in_upper-requires-clause-leads c =
     let l = c.args.layers.now in
     let p = c.requires.goes.0 in
     let q = c.requires.goes.1 in
-    let move = c.requires.goes.2 in
-    let shown = c.requires.goes.3 in
+    let move = c.requires.goes.2.move in
+    let shown = c.requires.goes.2.shown in
     let named = upper-named l (c.args.route.now.name.now ∷ p) c.args.place shown.inode c.if-place-eq0.true shown.shown in
     leads-held l.upper p q c.args.route.now c.args.place.key c.lawful.ensures.tree move.route (ap number_of named.named)
     (λ e. move.apart (record { number = c.args.place.key; first = named.named; second = e ∙ named.named }))
 
 pub returns-then-place-eq0-clause-moved : goal.returns-then-place-eq0-clause-moved
-returns-then-place-eq0-clause-moved c = λ p q move shown path.
+returns-then-place-eq0-clause-moved c = λ p q leaf.
     let l = c.args.layers.now in
     let r = c.args.route.now in
-    let named = upper-named l (r.name.now ∷ p) c.args.place shown.inode c.if-place-eq0.true shown.shown in
+    let named = upper-named l (r.name.now ∷ p) c.args.place leaf.shown.inode c.if-place-eq0.true leaf.shown.shown in
     let ready = prepared-own l.upper (lowers_of l) c.args.metacopy (r.name.now ∷ p) in
-    let e = c.in_ok-released.ensures.moved p q move.route in (
-      over-inode l c.move_in_upper.new.layers l.upper p q r c.in_ok-released.released c.args.metacopy move c.lawful.ensures.together c.move_in_upper.ensures.lowers c.move_in_upper.ensures.keeps ready c.args.place.key named.named e (ap is_directory shown.shown),
-      replaces-inode l c.move_in_upper.new.layers l.upper p q r c.in_ok-released.released c.args.metacopy move c.lawful.ensures.together c.move_in_upper.ensures.lowers c.move_in_upper.ensures.keeps ready c.args.place.key named.named e,
+    let e = c.in_ok-released.ensures.moved p q leaf.move.route in (
+      over-inode l c.move_in_upper.new.layers l.upper p q r c.in_ok-released.released c.args.metacopy leaf.move c.lawful.ensures.together c.move_in_upper.ensures.lowers c.move_in_upper.ensures.keeps ready c.args.place.key named.named e (ap is_directory leaf.shown.shown),
+      replaces-inode l c.move_in_upper.new.layers l.upper p q r c.in_ok-released.released c.args.metacopy leaf.move c.lawful.ensures.together c.move_in_upper.ensures.lowers c.move_in_upper.ensures.keeps ready c.args.place.key named.named e,
     )
 
 pub returns-then-place-eq0-clause-key : goal.returns-then-place-eq0-clause-key
-returns-then-place-eq0-clause-key c = λ p q move shown path.
+returns-then-place-eq0-clause-key c = λ p q leaf.
     let l = c.args.layers.now in
-    let named = upper-named l (c.args.route.now.name.now ∷ p) c.args.place shown.inode c.if-place-eq0.true shown.shown in
-    (c.in_ok-released.ensures.moved p q move.route).path.inside [] ∙ named.named
+    let named = upper-named l (c.args.route.now.name.now ∷ p) c.args.place leaf.shown.inode c.if-place-eq0.true leaf.shown.shown in
+    (c.in_ok-released.ensures.moved p q leaf.move.route).path.inside [] ∙ named.named
 
 pub returns-then-place-eq0-clause-thin : goal.returns-then-place-eq0-clause-thin
 returns-then-place-eq0-clause-thin c =
@@ -57,22 +57,22 @@ returns-then-place-eq0-clause-thin c =
     let r = c.args.route.now in
     let p = c.requires.goes.0 in
     let q = c.requires.goes.1 in
-    let move = c.requires.goes.2 in
-    let shown = c.requires.goes.3 in
+    let move = c.requires.goes.2.move in
+    let shown = c.requires.goes.2.shown in
     let named = upper-named l (r.name.now ∷ p) c.args.place shown.inode c.if-place-eq0.true shown.shown in
     thin-inode l c.move_in_upper.new.layers l.upper p q r c.in_ok-released.released c.args.metacopy move c.lawful.ensures.together c.move_in_upper.ensures.lowers c.move_in_upper.ensures.keeps (prepared-own l.upper (lowers_of l) c.args.metacopy (r.name.now ∷ p)) c.args.place.key named.named (c.in_ok-released.ensures.moved p q move.route)
 
 pub insert_and_move-requires-clause-route : goal.insert_and_move-requires-clause-route
 insert_and_move-requires-clause-route c =
-    (c.requires.goes.0, c.requires.goes.1, c.requires.goes.2.route)
+    (c.requires.goes.0, c.requires.goes.1, c.requires.goes.2.move.route)
 
 pub insert_and_move-requires-clause-free : goal.insert_and_move-requires-clause-free
 insert_and_move-requires-clause-free c =
     let l = c.args.layers.now in
     let r = c.args.route.now in
     let p = c.requires.goes.0 in
-    let shown = c.requires.goes.3 in
-    free-held l.upper p c.requires.goes.1 r c.lawful.ensures.tree c.requires.goes.2.route
+    let shown = c.requires.goes.2.shown in
+    free-held l.upper p c.requires.goes.1 r c.lawful.ensures.tree c.requires.goes.2.move.route
     (lacked l (r.name.now ∷ p) c.args.place.layer c.args.place.key shown.inode shown.shown (omega (arith, c.if-place-eq0.false)))
 
 -- the copy that stood ready
@@ -113,23 +113,23 @@ copied c p q move path =
     (moved move.route)
 
 pub copy_of-requires-clause-shown : goal.copy_of-requires-clause-shown
-copy_of-requires-clause-shown c = subst (λ (z : Path). ShowsInode c.args.layers.now z c.args.place) (sym c.requires.goes.4) c.requires.goes.3
+copy_of-requires-clause-shown c = subst (λ (z : Path). ShowsInode c.args.layers.now z c.args.place) (sym c.requires.goes.2.path) c.requires.goes.2.shown
 
 pub insert_and_move-requires-clause-redirect : goal.insert_and_move-requires-clause-redirect
 insert_and_move-requires-clause-redirect c = let made = c.in_ok-copy.ensures.2 in leaf-leads c.in_ok-copy.copy (ap is_some made.is)
 
 pub returns-clause-moved : goal.returns-clause-moved
-returns-clause-moved c = λ p q move shown path.
+returns-clause-moved c = λ p q leaf.
     let l = c.args.layers.now in
     let r = c.args.route.now in
-    let x = copied c p q move path in (
-      over-inode l c.insert_and_move.new.layers x.m.mid p q r c.in_ok-key.released c.args.metacopy move c.lawful.ensures.together (left c).0 (left c).1 x.ready c.in_ok-key.key x.there x.m.moves (ap is_directory shown.shown),
-      replaces-inode l c.insert_and_move.new.layers x.m.mid p q r c.in_ok-key.released c.args.metacopy move c.lawful.ensures.together (left c).0 (left c).1 x.ready c.in_ok-key.key x.there x.m.moves,
+    let x = copied c p q leaf.move leaf.path in (
+      over-inode l c.insert_and_move.new.layers x.m.mid p q r c.in_ok-key.released c.args.metacopy leaf.move c.lawful.ensures.together (left c).0 (left c).1 x.ready c.in_ok-key.key x.there x.m.moves (ap is_directory leaf.shown.shown),
+      replaces-inode l c.insert_and_move.new.layers x.m.mid p q r c.in_ok-key.released c.args.metacopy leaf.move c.lawful.ensures.together (left c).0 (left c).1 x.ready c.in_ok-key.key x.there x.m.moves,
     )
 
 pub returns-clause-key : goal.returns-clause-key
-returns-clause-key c = λ p q move shown path.
-    let x = copied c p q move path in
+returns-clause-key c = λ p q leaf.
+    let x = copied c p q leaf.move leaf.path in
     x.m.moves.path.inside [] ∙ x.there
 
 pub returns-clause-thin : goal.returns-clause-thin
@@ -137,15 +137,15 @@ returns-clause-thin c =
     let l = c.args.layers.now in
     let p = c.requires.goes.0 in
     let q = c.requires.goes.1 in
-    let x = copied c p q c.requires.goes.2 c.requires.goes.4 in
-    thin-inode l c.insert_and_move.new.layers x.m.mid p q c.args.route.now c.in_ok-key.released c.args.metacopy c.requires.goes.2 c.lawful.ensures.together (left c).0 (left c).1 x.ready c.in_ok-key.key x.there x.m.moves
+    let x = copied c p q c.requires.goes.2.move c.requires.goes.2.path in
+    thin-inode l c.insert_and_move.new.layers x.m.mid p q c.args.route.now c.in_ok-key.released c.args.metacopy c.requires.goes.2.move c.lawful.ensures.together (left c).0 (left c).1 x.ready c.in_ok-key.key x.there x.m.moves
 
 pub returns-then-place-eq0-clause-texts : goal.returns-then-place-eq0-clause-texts
 returns-then-place-eq0-clause-texts c =
     let l = c.args.layers.now in
     let p = c.requires.goes.0 in
     let q = c.requires.goes.1 in
-    marks-moved l.upper c.move_in_upper.new.layers.upper _ _ _ _ (Some (below (layer_of l.upper) c.args.old.now)) (c.in_ok-released.ensures.moved p q c.requires.goes.2.route)
+    marks-moved l.upper c.move_in_upper.new.layers.upper _ _ _ _ (Some (below (layer_of l.upper) c.args.old.now)) (c.in_ok-released.ensures.moved p q c.requires.goes.2.move.route)
 
 pub returns-clause-texts : goal.returns-clause-texts
 returns-clause-texts c =
@@ -156,4 +156,4 @@ returns-clause-texts c =
     let found = c.in_ok-copy.ensures in
     let moved = c.in_ok-key.ensures.moved p q in
     marks-new l.upper c.insert_and_move.new.layers.upper _ _ c.in_ok-copy.copy _ c.in_ok-key.key _ (Some (below (layer_of l.upper) c.args.old.now))
-    (moved c.requires.goes.2.route) (copy-spelled l c.args.metacopy c.args.old.now found.0 c.in_ok-copy.copy found.2)
+    (moved c.requires.goes.2.move.route) (copy-spelled l c.args.metacopy c.args.old.now found.0 c.in_ok-copy.copy found.2)

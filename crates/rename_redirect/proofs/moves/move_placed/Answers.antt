@@ -31,8 +31,8 @@ move_directory-requires c =
     c.found_in-found.ensures in
     let shown = found-directory l (c.in-Some.name.now ∷ t) c.found_in-found.result
     c.in-Directory.stack c.in-Directory.is at_name in
-    let folder = is-folder l c.args.old.now c.args.new.now t u r c.in-Some.ensures c.in-Some-split_last.ensures c.in-Directory.stack c.top-in-Directory.result c.in_ok-marks-in-Directory.marks shown c.top-in-Directory.ensures c.requires.kind c.in_ok-marks-in-Directory.ensures.when_base c.args.moving.onto.now c.requires.onto c.in_ok-marks-in-Directory.ensures.when_not in
-    record { goes = (t, u, move, folder) }
+    let folder = is-folder l c.args.old.now c.args.new.now t u r c.in-Some.ensures c.in-Some-split_last.ensures move c.in-Directory.stack c.top-in-Directory.result c.in_ok-marks-in-Directory.marks shown c.top-in-Directory.ensures c.requires.kind c.args.moving.onto.now c.requires.onto c.in_ok-marks-in-Directory.ensures in
+    record { goes = (t, u, folder) }
 
 pub move_inode-requires : goal.move_inode-requires
 move_inode-requires c =
@@ -46,7 +46,7 @@ move_inode-requires c =
     c.found_in-found.ensures in
     let shown = found-inode l (c.in-Some.name.now ∷ t) c.found_in-found.result
     c.in-Inode.place c.in-Inode.is at_name in
-    record { goes = (t, u, move, shown, c.in-Some.ensures) }
+    record { goes = (t, u, record { move = move; shown = shown; path = c.in-Some.ensures }) }
 
 pub returns-in_ok-released-in-Directory-clause-does : goal.returns-in_ok-released-in-Directory-clause-does
 returns-in_ok-released-in-Directory-clause-does c =
@@ -60,8 +60,8 @@ returns-in_ok-released-in-Directory-clause-does c =
     c.found_in-found.ensures in
     let shown = found-directory l (c.in-Some.name.now ∷ t) c.found_in-found.result
     c.in-Directory.stack c.in-Directory.is at_name in
-    let folder = is-folder l c.args.old.now c.args.new.now t u r c.in-Some.ensures c.in-Some-split_last.ensures c.in-Directory.stack c.top-in-Directory.result c.in_ok-marks-in-Directory.marks shown c.top-in-Directory.ensures c.requires.kind c.in_ok-marks-in-Directory.ensures.when_base c.args.moving.onto.now c.requires.onto c.in_ok-marks-in-Directory.ensures.when_not in
-    moves-as l c.args.old.now c.args.new.now t u r c.in-Some.ensures c.in-Some-split_last.ensures c.move_directory.new.layers c.args.metacopy true c.in_ok-released-in-Directory.released c.requires.apart (ap is_directory shown.shown) (c.in_ok-released-in-Directory.ensures.moved t u c.args.metacopy move folder)
+    let folder = is-folder l c.args.old.now c.args.new.now t u r c.in-Some.ensures c.in-Some-split_last.ensures move c.in-Directory.stack c.top-in-Directory.result c.in_ok-marks-in-Directory.marks shown c.top-in-Directory.ensures c.requires.kind c.args.moving.onto.now c.requires.onto c.in_ok-marks-in-Directory.ensures in
+    moves-as l c.args.old.now c.args.new.now t u r c.in-Some.ensures c.in-Some-split_last.ensures c.move_directory.new.layers c.args.metacopy true c.in_ok-released-in-Directory.released c.requires.apart (ap is_directory shown.shown) (c.in_ok-released-in-Directory.ensures.moved t u c.args.metacopy folder)
 
 pub returns-in_ok-key-in-Inode-clause-does : goal.returns-in_ok-key-in-Inode-clause-does
 returns-in_ok-key-in-Inode-clause-does c =
@@ -74,9 +74,10 @@ returns-in_ok-key-in-Inode-clause-does c =
     let at_name = subst (λ x. IsFound l x c.found_in-found.result) c.in-Some.ensures
     c.found_in-found.ensures in
     let shown = found-inode l (c.in-Some.name.now ∷ t) c.found_in-found.result
-    c.in-Inode.place c.in-Inode.is at_name in (
-      moves-as l c.args.old.now c.args.new.now t u r c.in-Some.ensures c.in-Some-split_last.ensures c.move_inode.new.layers c.args.metacopy false c.in_ok-key-in-Inode.released c.requires.apart (ap is_directory shown.shown) (c.in_ok-key-in-Inode.ensures.moved t u move shown c.in-Some.ensures),
-      ap (held (layer_of c.move_inode.new.layers.upper)) c.in-Some-split_last.ensures ∙ c.in_ok-key-in-Inode.ensures.key t u move shown c.in-Some.ensures,
+    c.in-Inode.place c.in-Inode.is at_name in
+    let leaf = record { move = move; shown = shown; path = c.in-Some.ensures } in (
+      moves-as l c.args.old.now c.args.new.now t u r c.in-Some.ensures c.in-Some-split_last.ensures c.move_inode.new.layers c.args.metacopy false c.in_ok-key-in-Inode.released c.requires.apart (ap is_directory shown.shown) (c.in_ok-key-in-Inode.ensures.moved t u leaf),
+      ap (held (layer_of c.move_inode.new.layers.upper)) c.in-Some-split_last.ensures ∙ c.in_ok-key-in-Inode.ensures.key t u leaf,
     )
 
 pub returns-in_ok-released-in-Directory-clause-texts : goal.returns-in_ok-released-in-Directory-clause-texts

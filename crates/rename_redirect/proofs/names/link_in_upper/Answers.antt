@@ -35,7 +35,7 @@ returns-clause-keeps c =
     w.keeps c.requires.place.0 (key-of c.args.layers.now.upper c.requires.place.0 c.args.dir at.attributes at.opaque at.redirect at.directory)
 
 pub returns-clause-added : goal.returns-clause-added
-returns-clause-added c = λ p q named at.
+returns-clause-added c = λ q at p named.
     let w = rw (c.upper_mut.ensures.value, c.in_ok-name.ensures.cases) at c.in_ok-link.ensures in
     adds-name c.args.layers.now.upper c.link.new.self c.args.dir c.args.name.now c.args.key w.links q at p named c.lawful.ensures.together
     (w.sets q (key-of c.args.layers.now.upper q c.args.dir at.attributes at.opaque at.redirect at.directory))
