@@ -135,12 +135,16 @@ status_rule = file_rule (codes "status")
 abbrev pub verbose_rule : Rule
 verbose_rule = record (flag_rule (codes "verbose")) { short = Some 118 }
 
--- the subcommand that serves
+-- the subcommand that serves, with its socket and how many of what it has
+abbrev pub serve_within_app : App
+serve_within_app = with_rule (with_rule (with_rule (with_rule (with_rule (app_named (codes "serve"))
+    socket_rule) workers_rule) sessions_rule) history_rule) no_history_rule
+
+-- all of it
 abbrev pub serve_app : App
-serve_app = with_rule (with_rule (with_rule (with_rule (with_rule (with_rule (with_rule (with_rule
-    (with_rule (with_rule (with_rule (with_rule (app_named (codes "serve")) socket_rule) workers_rule)
-    sessions_rule) history_rule) no_history_rule) idle_rule) refuse_rule) unlink_rule) until_eof_rule)
-    save_rule) status_rule) verbose_rule
+serve_app = with_rule (with_rule (with_rule (with_rule (with_rule (with_rule (with_rule
+    serve_within_app idle_rule) refuse_rule) unlink_rule) until_eof_rule) save_rule) status_rule)
+    verbose_rule
 
 -- THE COMMAND LINE: `overlayd show MANIFEST`, `overlayd play MANIFEST`, `overlayd serve MANIFEST
 -- SOCKET`, each with its options, `overlayd --version` or `overlayd --help`

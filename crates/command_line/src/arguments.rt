@@ -2,13 +2,13 @@
 ghost use Rattle.std.specs.Prelude.{◌≡◌, false, codes, [], ◌∷◌, IfErr, IfOk, IfSome, map, option_map};
 ghost use Rattle.clap.specs.Faults.{fault_of};
 ghost use Rattle.clap.specs.Kinds.{FailsBy};
-ghost use Rattle.clap.specs.Simple.{app_of, with_rule, with_subcommand};
+ghost use Rattle.clap.specs.Simple.{app_of, with_subcommand};
 ghost use Rattle.clap.specs.Matches.{found_of};
 ghost use Rattle.clap.specs.Walk.{one_of, rows_of, rule_of};
 ghost use Rattle.clap.specs.declared.builder.command.Command.TheViews.{out-Command};
 ghost use Rattle.command_line.specs.Arguments.{AsksPlay, AsksServe, AsksSource, IsAskedBy, IsLoneWord};
 ghost use Rattle.command_line.specs.Arguments.{IsRefusedBy, Names, Spells, app_named, bare_app};
-ghost use Rattle.command_line.specs.Arguments.{overlayd_app, places_in, play_app, reading_app, serve_app};
+ghost use Rattle.command_line.specs.Arguments.{overlayd_app, places_in, play_app, reading_app, serve_app, serve_within_app};
 ghost use Rattle.command_line.specs.Arguments as options;
 
 use crate::help_texts::{ENDED, GRAMMAR, LINES, PLAYED};
@@ -182,10 +182,7 @@ fn serve<'a>(alloc: Global) -> Result<Command<'a>, AllocError>
 
 // The same subcommand with its manifest, its socket, and how many of what it has.
 fn serve_within<'a>(alloc: Global) -> Result<Command<'a>, AllocError>
-    ensures app { IfOk result (λ command. app_of command
-        ≡ with_rule (with_rule (with_rule (with_rule (with_rule (app_named (codes "serve"))
-        options.socket_rule) options.workers_rule) options.sessions_rule) options.history_rule)
-        options.no_history_rule) }
+    ensures app { IfOk result (λ command. app_of command ≡ serve_within_app) }
     ensures local { IfOk result (λ command. (out-Command command).has_globals ≡ false) }
 {
     bare_serve(alloc)?

@@ -1,7 +1,7 @@
 // The path by which the layers below the upper come to a directory.
 ghost use Rattle.std.specs.Prelude.{◌≡◌, ◌≢◌, ◌<◌, ◌∷◌, ℕ, length, Some, is_some, MatchOption, IfSome};
 ghost use Rattle.ov_base.specs.declared.attributes.Attributes.{Attributes};
-ghost use Rattle.plain_model.specs.Layers as held;
+ghost use Rattle.plain_model.specs.Layers.{Name as NameOf, Directory, held};
 ghost use Rattle.layer_tree.specs.Tree.{Tree, layer_of};
 ghost use Rattle.merged_lookup.specs.Trails.{trail_path, GoesOneOn, IsFurther, goes_on};
 
@@ -18,7 +18,7 @@ pub(crate) struct Trail<'a> {
 impl<'a> Trail<'a> {
     // The last name of a path that is this one and one name more.
     pub(crate) fn one_on<'b>(&self, path: &'b Path) -> Option<&'b Name>
-        ensures { MatchOption result ((n : held.Name) → path.now ≢ n ∷ trail_path self.now) (λ name. path.now ≡ name.now ∷ trail_path self.now) }
+        ensures { MatchOption result ((n : NameOf) → path.now ≢ n ∷ trail_path self.now) (λ name. path.now ≡ name.now ∷ trail_path self.now) }
     {
         let (name, parents) = path.split_last()?;
         let since = parents.strip_prefix(self.redirect)?;
@@ -36,7 +36,7 @@ pub(crate) fn further<'a>(
     place: Place,
     path: &'a Path,
 ) -> Option<&'a Name>
-    ensures { MatchOption result ((n : held.Name) → IsFurther trail.entry index place path.now n → ⊥) (λ name. IsFurther trail.entry index place path.now name.now) }
+    ensures { MatchOption result ((n : NameOf) → IsFurther trail.entry index place path.now n → ⊥) (λ name. IsFurther trail.entry index place path.now name.now) }
 {
     match trail {
         Some(trail) if index == 0 && place.layer == 0 => trail.one_on(path),
@@ -53,8 +53,8 @@ pub(crate) fn trail_past<'a>(
     requires { IfSome trail (λ t. length t.since.now < length walked.now) }
     ensures some { is_some result ≡ goes_on marks.now.opaque marks.now.redirect (is_some trail.entry) }
     ensures trail { (upper : Tree) (k : ℕ) (a : Attributes) →
-        GoesOneOn upper walked.now trail.entry result (λ p. held.held (layer_of upper) p
-        ≡ Some (held.Directory k a marks.now.opaque marks.now.redirect)) }
+        GoesOneOn upper walked.now trail.entry result (λ p. held (layer_of upper) p
+        ≡ Some (Directory k a marks.now.opaque marks.now.redirect)) }
 {
     if marks.opaque {
         return None;

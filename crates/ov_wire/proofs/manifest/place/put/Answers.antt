@@ -17,10 +17,10 @@ returns-in_err-place-clause-places c = λ a before d tells.
     let same : c.from_residual-in_err-place.result ≡ Err c.in_err-place.field-0.0 = search rules in
     subst (λ p. Places {T = Bool} (λ is_set. is_set) (layer_of c.place.new.layer) a (with_entry before p c.args.item) c.from_residual-in_err-place.result) (sym path_is)
     (subst (λ r. Places {T = Bool} (λ is_set. is_set) (layer_of c.place.new.layer) a (with_entry before (c.in-Some.name.now ∷ reverse c.in-Some.parents.now) c.args.item) r) (sym same)
-    (err-same {T = Unit {0}} {U = Bool} (λ _. c.args.root_is_set) (λ is_set. is_set) (layer_of c.place.new.layer) a (with_entry before (c.in-Some.name.now ∷ reverse c.in-Some.parents.now) c.args.item) c.in_err-place.field-0.0 (c.in_err-place.ensures.places a c.args.root_is_set before d tells)))
+    (err-same {T = Unit {0}} {U = Bool} (λ _. c.args.root_is_set) (λ is_set. is_set) (layer_of c.place.new.layer) a (with_entry before (c.in-Some.name.now ∷ reverse c.in-Some.parents.now) c.args.item) c.in_err-place.field-0.0 (c.in_err-place.ensures.places c.args.root_is_set a before d tells)))
 
 pub returns-clause-places : goal.returns-clause-places
 returns-clause-places c = λ a before d tells.
     let path_is : c.args.path.now ≡ c.in-Some.name.now ∷ reverse c.in-Some.parents.now = c.in-Some.ensures in
     subst (λ p. (x : List Entry) × (with_entry before p c.args.item ≡ Ok x) × IsDraft (layer_of c.place.new.layer) a c.args.root_is_set x) (sym path_is)
-    (c.in_ok-place.ensures.places a c.args.root_is_set before d tells)
+    (c.in_ok-place.ensures.places c.args.root_is_set a before d tells)
