@@ -58,7 +58,7 @@ pub record Conversed {D : Type 0} (goes : Goes D) (in_old in_new : Option (List 
 -- all that a conversation leaves: how often the sink failed, what is still held for it, and that the
 -- door takes calls of the session still
 pub record Converses {D S : Type 0} (goes : Goes D) (admits : D → S → Type 0)
-    (in_old in_new : Option (List ℕ)) (old new : Place D) (session : S) (end : Ending) :
+    (in_old in_new : Option (List ℕ)) (end : Ending) (old new : Place D) (session : S) :
     Type 0 where
   pub conversed : Conversed goes in_old in_new old new end
   pub handed_on : HandedOn end new.held
@@ -78,13 +78,13 @@ IsTurn goes bytes o n (Err e) =
 
 -- all that serving bytes leaves
 pub record ServesBytes {D S : Type 0} (goes : Goes D) (admits : D → S → Type 0) (bytes : List ℕ)
-    (old new : Place D) (session : S) (result : Result ℕ Ending) : Type 0 where
+    (result : Result ℕ Ending) (old new : Place D) (session : S) : Type 0 where
   pub turn : IsTurn goes bytes old new result
   pub output : OutputAfter old.failures new.failures result
   pub admitted : admits new.door session
 
 -- so where the answers are handed on
 pub record Turns {D S : Type 0} (goes : Goes D) (admits : D → S → Type 0) (bytes : List ℕ)
-    (old new : Place D) (session : S) (result : Result ℕ Ending) : Type 0 where
-  pub serves : ServesBytes goes admits bytes old new session result
+    (result : Result ℕ Ending) (old new : Place D) (session : S) : Type 0 where
+  pub serves : ServesBytes goes admits bytes result old new session
   pub handed_on : IsHandedOn result new.held

@@ -14,6 +14,7 @@ use Rattle.ov_session.specs.declared.ending.Ending.{Ending}
 use Rattle.ov_session.specs.declared.ending.Ending.TheVariants as ending
 use Rattle.ov_session.specs.declared.exchange.Exchange.{Exchange}
 use Rattle.ov_session.specs.declared.exchange.Exchange.TheVariants.{Departed}
+use Rattle.ov_session.specs.declared.output.SessionOutput.{SessionOutput}
 
 -- how things stand when the client was detached: the answer to that is written where the client
 -- asked for it, and else nothing more
@@ -39,3 +40,10 @@ pub record IsSession {D : Type 0} (goes : Goes D)
   pub written : List ℕ
   pub appended : Appends out_old out_new written
   pub stands : StandsLast in_old in_new end heard written (answer_frame farewell)
+
+-- so by what is known of the session's source and sink
+abbrev pub IsSessionOver : {I K D : Type 0} → (I → Option (List ℕ)) → (K → Option (List ℕ)) → Goes D
+    → I → I → SessionOutput K → SessionOutput K → List Exchange → List Exchange → D → D → Ending
+    → Type 0
+IsSessionOver remaining contents goes input input' output output' =
+    IsSession goes (remaining input) (remaining input') (contents output.sink) (contents output'.sink)

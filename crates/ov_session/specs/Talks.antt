@@ -30,6 +30,13 @@ place contents failures told output session door = record {
   door = door;
 }
 
+-- so between where a session stood and where it stands
+abbrev pub Between : {K S D : Type 0} → (K → Option (List ℕ)) → (K → ℕ) → (S → List Exchange)
+    → (Place D → Place D → S → Type 0) → SessionOutput K → SessionOutput K → S → S → D → D → Type 0
+Between contents failures told Leaves output output' session session' door door' =
+    Leaves (place contents failures told output session door)
+    (place contents failures told output' session' door') session'
+
 -- between two places the output gained these bytes
 abbrev pub Gained : {D : Type 0} → Place D → Place D → List ℕ → Type 0
 Gained old new bytes = Gains old.contents new.contents old.held new.held bytes
@@ -84,8 +91,8 @@ IsServed goes old new rs (Err e) =
 
 -- all that serving requests leaves: how often the sink failed, and that the door takes calls of the
 -- session still
-pub record ServesThem {D S : Type 0} (goes : Goes D) (admits : D → S → Type 0) (old new : Place D)
-    (session : S) (rs : List Request) (result : Result (Unit {0}) Ending) : Type 0 where
+pub record ServesThem {D S : Type 0} (goes : Goes D) (admits : D → S → Type 0) (rs : List Request)
+    (result : Result (Unit {0}) Ending) (old new : Place D) (session : S) : Type 0 where
   pub served : IsServed goes old new rs result
   pub output : OutputAfter old.failures new.failures result
   pub admitted : admits new.door session

@@ -2,7 +2,7 @@
 ghost use Rattle.std.specs.Prelude.{◌≡◌, ◌<◌, ◌∷◌, []};
 ghost use Rattle.ov_session.specs.Conversing.{ServesBytes, Turns};
 ghost use Rattle.ov_session.specs.Devices.{write_failed};
-ghost use Rattle.ov_session.specs.Talks.{ServesThem, place};
+ghost use Rattle.ov_session.specs.Talks.{Between, ServesThem};
 
 use crate::door::{CallOutcome, Door};
 use crate::ending::Ending;
@@ -20,10 +20,9 @@ fn serve_one<K: Sink, D: Door>(
     session: &mut D::Session,
 ) -> Result<(), Ending>
     requires admitted { D.admits door.old session.old }
-    ensures { ServesThem D.goes D.admits
-        (place K.contents K.failures D.told output.old session.old door.old)
-        (place K.contents K.failures D.told output.new session.new door.new)
-        session.new (request ∷ []) result }
+    ensures { Between K.contents K.failures D.told
+        (ServesThem D.goes D.admits (request ∷ []) result)
+        output.old output.new session.old session.new door.old door.new }
 {
     match request.call(alloc) {
         Err(_) => Err(Ending::Memory),
@@ -47,10 +46,9 @@ fn serve_frames<K: Sink, D: Door>(
     session: &mut D::Session,
 ) -> Result<usize, Ending>
     requires admitted { D.admits door.old session.old }
-    ensures { ServesBytes D.goes D.admits bytes.now
-        (place K.contents K.failures D.told output.old session.old door.old)
-        (place K.contents K.failures D.told output.new session.new door.new)
-        session.new result }
+    ensures { Between K.contents K.failures D.told
+        (ServesBytes D.goes D.admits bytes.now result)
+        output.old output.new session.old session.new door.old door.new }
 {
     let mut used = 0;
     'frames: loop {
@@ -88,10 +86,9 @@ fn serve_piece<K: Sink, D: Door>(
     session: &mut D::Session,
 ) -> Result<usize, Ending>
     requires admitted { D.admits door.old session.old }
-    ensures { Turns D.goes D.admits bytes.now
-        (place K.contents K.failures D.told output.old session.old door.old)
-        (place K.contents K.failures D.told output.new session.new door.new)
-        session.new result }
+    ensures { Between K.contents K.failures D.told
+        (Turns D.goes D.admits bytes.now result)
+        output.old output.new session.old session.new door.old door.new }
 {
     let served = serve_frames(alloc, bytes, output, door, session);
     if has_failed(&served) {
@@ -114,10 +111,9 @@ pub(crate) fn take_piece<K: Sink, D: Door>(
 ) -> Result<usize, Ending>
     requires held { output.old.held.items ≡ [] }
     requires admitted { D.admits door.old session.old }
-    ensures { Turns D.goes D.admits bytes.now
-        (place K.contents K.failures D.told output.old session.old door.old)
-        (place K.contents K.failures D.told output.new session.new door.new)
-        session.new result }
+    ensures { Between K.contents K.failures D.told
+        (Turns D.goes D.admits bytes.now result)
+        output.old output.new session.old session.new door.old door.new }
 {
     if bytes.len() < front_end(bytes) {
         return Ok(0);

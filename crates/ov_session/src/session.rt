@@ -3,8 +3,8 @@
 ghost use Rattle.std.specs.Prelude.{◌≡◌, ◌<◌, ◌≤◌, ◌+◌, [], drop, length, take, IfOk};
 ghost use Rattle.ov_session.specs.Conversing.{Converses};
 ghost use Rattle.ov_session.specs.Devices.{InputAt, IsSent, OutputAt};
-ghost use Rattle.ov_session.specs.Sessions.{IsSession};
-ghost use Rattle.ov_session.specs.Talks.{place};
+ghost use Rattle.ov_session.specs.Sessions.{IsSessionOver};
+ghost use Rattle.ov_session.specs.Talks.{Between};
 
 use crate::door::Door;
 use crate::ending::Ending;
@@ -36,11 +36,9 @@ fn converse<S: Source, K: Sink, D: Door>(
 ) -> Ending
     requires held { output.old.held.items ≡ [] }
     requires admitted { D.admits door.old session.old }
-    ensures talk { Converses D.goes D.admits
-        (S.remaining input.old) (S.remaining input.new)
-        (place K.contents K.failures D.told output.old session.old door.old)
-        (place K.contents K.failures D.told output.new session.new door.new)
-        session.new result }
+    ensures talk { Between K.contents K.failures D.told
+        (Converses D.goes D.admits (S.remaining input.old) (S.remaining input.new) result)
+        output.old output.new session.old session.new door.old door.new }
     ensures input { InputAt (S.failures input.old) (S.failures input.new) (S.reads input.new)
         (S.most input.old) result }
     ensures reads { S.reads input.old ≤ S.reads input.new }
@@ -94,11 +92,9 @@ fn pieces_of<S: Source, K: Sink, D: Door>(
     requires room { length bytes.old ≡ 140008 }
     requires held { output.old.held.items ≡ [] }
     requires admitted { D.admits door.old session.old }
-    ensures talk { Converses D.goes D.admits
-        (S.remaining input.old) (S.remaining input.new)
-        (place K.contents K.failures D.told output.old session.old door.old)
-        (place K.contents K.failures D.told output.new session.new door.new)
-        session.new result }
+    ensures talk { Between K.contents K.failures D.told
+        (Converses D.goes D.admits (S.remaining input.old) (S.remaining input.new) result)
+        output.old output.new session.old session.new door.old door.new }
     ensures input { InputAt (S.failures input.old) (S.failures input.new) (S.reads input.new)
         (S.most input.old) result }
     ensures reads { S.reads input.old ≤ S.reads input.new }
@@ -160,8 +156,8 @@ pub fn session_run<S: Source, K: Sink, D: Door>(
 ) -> Ending
     requires held { output.old.held.items ≡ [] }
     requires admitted { D.admits door.old session.old }
-    ensures session { IsSession D.goes (S.remaining input.old) (S.remaining input.new)
-        (K.contents output.old.sink) (K.contents output.new.sink)
+    ensures session { IsSessionOver S.remaining K.contents D.goes
+        input.old input.new output.old output.new
         (D.told session.old) (D.told session.new) door.old door.new result }
     ensures input { InputAt (S.failures input.old) (S.failures input.new) (S.reads input.new)
         (S.most input.old) result }
