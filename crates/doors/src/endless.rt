@@ -3,5 +3,5 @@
 mod door;
 mod running;
 
-pub use door::EndlessDoor;
+pub use door::{Client, EndlessDoor};
 pub use running::{Departure, run_session};

@@ -5,7 +5,7 @@ mod refusals;
 mod running;
 mod session;
 
-pub use door::MountDoor;
+pub use door::{Client, MountDoor};
 pub use refusals::errno_of;
 pub use running::{Departure, run_session};
 pub use session::{ClientSession, Kept};

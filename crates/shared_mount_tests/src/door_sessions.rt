@@ -5,7 +5,7 @@ use crate::devices::Once;
 use crate::gates::Stopping;
 use crate::mounts::{Shut, Silent, attached, detached};
 use crate::opened::{Trial, named_with};
-use doors::shared::{Departure, run_session};
+use doors::shared::{Client, Departure, run_session};
 use locked_history::{Gate, Mount, MountName, Open, Receipt, Session};
 use ov_devices::{CountedReader, CountedWriter};
 use ov_session::{Ending, SessionOutput};
@@ -161,16 +161,12 @@ fn session_over<
     receipts.push_reserved(client.1);
     let mut input = CountedReader::new(reader);
     let mut output = SessionOutput::new(alloc, CountedWriter::new(writer));
-    run_session(
-        rt,
-        alloc,
-        mount,
-        gate,
-        client.0,
+    let client = Client {
+        session: client.0,
         receipts,
-        &mut input,
-        &mut output,
-    )
+        hooks: None,
+    };
+    run_session(rt, alloc, mount, gate, client, &mut input, &mut output)
 }
 
 // A session over bytes, with the gate of this scenario; what is written is what the client is sent.
@@ -224,7 +220,7 @@ fn device_fails<N: MountName, F: Callback + Drop, R: Rule, H: Wait + Abort>(
         writer.device.as_slice() == wanted,
         "what the client is sent",
     );
-    let has_hook = matches!(&left.hooks, Some(hooks) if hooks.len() == 1);
+    let has_hook = matches!(&left.client.hooks, Some(hooks) if hooks.len() == 1);
     holds(rt, has_hook, "its hook");
     left
 }
@@ -238,10 +234,13 @@ fn receipts_of<N: MountName, F: Callback + Drop, R: Rule>(
     let Departure {
         ending,
         calls,
+        client,
+    } = left;
+    let Client {
         session: _,
         receipts,
         hooks,
-    } = left;
+    } = client;
     holds(rt, ending == wanted.ending, "the ending");
     is_number(rt, calls, wanted.calls, "calls");
     counts(rt, receipts.len(), wanted.receipts, "receipts");

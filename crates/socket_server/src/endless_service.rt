@@ -1,13 +1,12 @@
 // The service of a mount whose history is kept nowhere: of all clients together the longest front is
 // kept that one of them has seen.
-ghost use Rattle.std.specs.Prelude.{◌≡◌, ◌≤◌, ℕ, Bool, IfOk, List, is_some, length, true};
-ghost use Rattle.doors.specs.endless.Advancing.{standing};
-ghost use Rattle.socket_server.specs.EndlessClients.{IsClient, IsNew};
+ghost use Rattle.std.specs.Prelude.{◌≤◌, ℕ, IfOk, List, length};
+ghost use Rattle.socket_server.specs.EndlessClients.{IsNew};
 
 use crate::connection::Connection;
 use crate::requests::Requests;
 use crate::service::{Awaits, Ended, Places, Service};
-use doors::endless::{Departure, run_session};
+use doors::endless::{Client, run_session};
 use endless_mount::{BookName, EndlessMount, Front};
 use locked_history::{Gate, Session};
 use ov_base::Errno;
@@ -31,40 +30,6 @@ pub(crate) struct Guest<N: BookName> {
     session: Session,
     place: u64,
     seen: Front<N>,
-}
-
-// Runs the session of a client that was just attached, over its connection.
-fn converse<N: BookName, F: Callback + Copy, R: Rule, G: Gate + Awaits, H: Wait + Clock>(
-    rt: &H,
-    alloc: Global,
-    mount: &EndlessMount<N, F, R>,
-    gate: &G,
-    client: Guest<N>,
-    connection: &Connection,
-) -> Departure<N, F, R>
-    ensures { (tags : List ℕ) (closes : Bool) →
-        ((number step : ℕ) → G.may_stop gate.now number step → closes ≡ true) →
-        IsNew tags client.session.client client.session.number client.place client.seen →
-        IsClient tags closes (is_some result.hooks) client.place
-        (standing result.session result.seen (is_some result.hooks)) }
-{
-    let mut input = CountedReader::of_years(Requests::new(rt, gate, connection));
-    let mut output = SessionOutput::new(alloc, CountedWriter::new(connection));
-    let Guest {
-        session,
-        place: _,
-        seen,
-    } = client;
-    run_session(
-        rt,
-        alloc,
-        mount,
-        gate,
-        session,
-        seen,
-        &mut input,
-        &mut output,
-    )
 }
 
 impl<N: BookName, F: Callback + Copy, R: Rule> Endless<N, F, R> {
@@ -171,12 +136,24 @@ where
         kept: &mut Front<N>,
     ) -> Ended {
         *kept = kept.longer(&client.seen);
-        let left = converse(rt, alloc, &self.mount, gate, client, connection);
-        *kept = kept.longer(&left.seen);
+        let mut input = CountedReader::of_years(Requests::new(rt, gate, connection));
+        let mut output = SessionOutput::new(alloc, CountedWriter::new(connection));
+        let Guest {
+            session,
+            place: _,
+            seen,
+        } = client;
+        let comer = Client {
+            session,
+            seen,
+            hooks: None,
+        };
+        let left = run_session(rt, alloc, &self.mount, gate, comer, &mut input, &mut output);
+        *kept = kept.longer(&left.client.seen);
         Ended {
             ending: left.ending,
             calls: left.calls,
-            detached: left.hooks.is_some(),
+            detached: left.client.hooks.is_some(),
         }
     }
 }

@@ -2,10 +2,9 @@
 ghost use Rattle.std.specs.Prelude.{◌≡◌, ◌≢◌, All, IfOk, List, None, map};
 ghost use mathlib.Core.List.{IsPrefix};
 ghost use Rattle.locked_history.specs.Entries.{history_of};
-ghost use Rattle.locked_history.specs.declared.entry.Entry.{Entry};
 ghost use Rattle.overlay_core.specs.LegalHistories.{Legally, opening_of};
 ghost use Rattle.endless_mount.specs.Names.{IsNamed, blank_core};
-ghost use Rattle.socket_server.specs.Working.{IsHistoryOn, ServesEndless};
+ghost use Rattle.socket_server.specs.Working.{KeepsHistory, ServesEndless};
 
 use crate::endless_service::Endless;
 use crate::keeper::Keeper;
@@ -87,10 +86,8 @@ where
     K: Keeper,
     requires named { IsNamed N.book N.opening blank }
     requires taken { K.takes keeper.old (opening_of (blank_core blank)) }
-    ensures served { IfOk result (λ end. (history : List Entry)
-        × IsHistoryOn (blank_core blank) (history_of history)
-        × K.kept keeper.new (opening_of (blank_core blank)) (history_of history)
-        × ServesEndless (map (λ h. h.tag) hooks.now) options.now history end) }
+    ensures served { IfOk result (λ end. KeepsHistory (blank_core blank) (K.kept keeper.new)
+        (λ history. ServesEndless (map (λ h. h.tag) hooks.now) options.now history end)) }
     ensures stopped { IfOk result (λ end. options.now.closing ≡ None → end ≢ Served.Stopped) }
 {
     let reports = Reports::new(rt, alloc, options.verbose)?.counting(options.counts);
@@ -121,10 +118,8 @@ where
     H: Threads + Wait + Eprint + Clock + Sync,
     K: Keeper,
     requires { K.takes keeper.old (opening_of (blank_core blank)) }
-    ensures served { IfOk result (λ end. (history : List Entry)
-        × IsHistoryOn (blank_core blank) (history_of history)
-        × K.kept keeper.new (opening_of (blank_core blank)) (history_of history)
-        × ServesEndless (map (λ h. h.tag) hooks.now) options.now history end) }
+    ensures served { IfOk result (λ end. KeepsHistory (blank_core blank) (K.kept keeper.new)
+        (λ history. ServesEndless (map (λ h. h.tag) hooks.now) options.now history end)) }
     ensures stopped { IfOk result (λ end. options.now.closing ≡ None → end ≢ Served.Stopped) }
 {
     serve_endless_named::<Brand, F, R, H, K>(rt, alloc, listener, blank, hooks, options, keeper)

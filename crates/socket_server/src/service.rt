@@ -1,5 +1,7 @@
 // What workers serve: a mount to which a client of each connection is attached.
-ghost use Rattle.std.specs.Prelude.{◌≡◌, Bool, IfOk, OnOk, map, true};
+ghost use Rattle.std.specs.Prelude.{Bool, IfOk, OnOk, map};
+ghost use Rattle.socket_server.specs.Clients.{StopsByClosing};
+ghost use Rattle.socket_server.specs.Working.{KeepsOneMore};
 
 use crate::connection::Connection;
 use locked_history::Gate;
@@ -40,7 +42,7 @@ pub(crate) trait Service {
     /// What a worker keeps of the clients that it served.
     type Kept: Drop + Send;
 
-    ghost use Rattle.std.specs.Prelude.{ℕ, ◌+◌, Bool, List, false, true};
+    ghost use Rattle.std.specs.Prelude.{ℕ, Bool, List, false, true};
 
     /// The tag of a hook.
     ghost tag: { Self.Hook → ℕ };
@@ -95,10 +97,9 @@ pub(crate) trait Service {
     ) -> Ended
         requires room { has_room kept.old }
         requires is_new { is_new kept.old client }
-        ensures { (tags : List ℕ) (closes : Bool) (count : ℕ) →
-            ((number step : ℕ) → G.may_stop gate.now number step → closes ≡ true) →
-            comes tags client → keeps tags closes true count kept.old →
-            keeps tags closes result.detached (count + 1) kept.new };
+        ensures { (tags : List ℕ) (closes : Bool) → StopsByClosing (G.may_stop gate.now) closes →
+            comes tags client →
+            KeepsOneMore (keeps tags closes) kept.old kept.new result.detached };
 
     /// What is kept of clients that were detached is kept of clients.
     ghost of_any: { (tags : List ℕ) (closes : Bool) (count : ℕ) (kept : Self.Kept) →

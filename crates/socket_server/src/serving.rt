@@ -1,13 +1,12 @@
 // The server of a mount whose history is kept.
-ghost use Rattle.std.specs.Prelude.{◌≡◌, ◌≢◌, ◌++◌, ◌≤◌, All, IfOk, List, None, OnOk, filter, length, map};
+ghost use Rattle.std.specs.Prelude.{◌≡◌, ◌≢◌, ◌++◌, ◌≤◌, All, IfOk, List, None, OnOk, length, map};
 ghost use Rattle.std.specs.List.{flat_map};
-ghost use Rattle.locked_history.specs.Claims.{Claim, StandsIn, is_past_end, uncounted};
+ghost use Rattle.locked_history.specs.Claims.{Claim};
 ghost use Rattle.locked_history.specs.Entries.{history_of};
-ghost use Rattle.locked_history.specs.declared.entry.Entry.{Entry};
 ghost use Rattle.overlay_core.specs.LegalHistories.{Legally, opening_of};
 ghost use Rattle.locked_history.specs.Names.{IsNamed, blank_core};
 ghost use Rattle.locked_history.specs.Views.{core_past, entries_past};
-ghost use Rattle.socket_server.specs.Working.{IsHistoryOn, Serves, receipts_in};
+ghost use Rattle.socket_server.specs.Working.{KeepsHistory, Serves, ServesOn, receipts_in};
 
 use crate::acceptor::Acceptor;
 use crate::closing::Closing;
@@ -136,10 +135,8 @@ where
         (core_past r.0) ∥₁) }
     ensures past { IfOk result (λ r. All (λ receipt. length (entries_past r.0) ≤ receipt.place)
         r.1.items) }
-    ensures served { IfOk result (λ r. (receipts : List Claim)
-        × Serves (map (λ h. h.tag) hooks.now) options.now receipts r.2
-        × All (StandsIn (entries_past r.0)) receipts
-        × (r.1.items ≡ filter (is_past_end (entries_past r.0)) (map uncounted receipts))) }
+    ensures served { IfOk result (λ r. ServesOn (map (λ h. h.tag) hooks.now) options.now
+        (entries_past r.0) r.1.items r.2) }
     ensures stopped { IfOk result (λ r. options.now.closing ≡ None → r.2 ≢ Served.Stopped) }
 {
     let mount: Mount<N, F, R> = Mount::open(blank);
@@ -167,11 +164,9 @@ where
     K: Keeper,
     requires named { IsNamed N.cells N.name N.parts N.opening blank }
     requires taken { K.takes keeper.old (opening_of (blank_core blank)) }
-    ensures served { IfOk result (λ end. (entries : List Entry) × (receipts : List Claim)
-        × IsHistoryOn (blank_core blank) (history_of entries)
-        × K.kept keeper.new (opening_of (blank_core blank)) (history_of entries)
-        × Serves (map (λ h. h.tag) hooks.now) options.now receipts end
-        × All (StandsIn entries) receipts) }
+    ensures served { IfOk result (λ end. KeepsHistory (blank_core blank) (K.kept keeper.new)
+        (λ entries. (left : List Claim)
+        × ServesOn (map (λ h. h.tag) hooks.now) options.now entries left end)) }
     ensures stopped { IfOk result (λ end. options.now.closing ≡ None → end ≢ Served.Stopped) }
 {
     let reports = Reports::new(rt, alloc, options.verbose)?.counting(options.counts);
@@ -202,11 +197,9 @@ where
     H: Threads + Wait + Eprint + Clock + Sync,
     K: Keeper,
     requires { K.takes keeper.old (opening_of (blank_core blank)) }
-    ensures served { IfOk result (λ end. (entries : List Entry) × (receipts : List Claim)
-        × IsHistoryOn (blank_core blank) (history_of entries)
-        × K.kept keeper.new (opening_of (blank_core blank)) (history_of entries)
-        × Serves (map (λ h. h.tag) hooks.now) options.now receipts end
-        × All (StandsIn entries) receipts) }
+    ensures served { IfOk result (λ end. KeepsHistory (blank_core blank) (K.kept keeper.new)
+        (λ entries. (left : List Claim)
+        × ServesOn (map (λ h. h.tag) hooks.now) options.now entries left end)) }
     ensures stopped { IfOk result (λ end. options.now.closing ≡ None → end ≢ Served.Stopped) }
 {
     serve_named::<Brand, F, R, H, K>(rt, alloc, listener, blank, hooks, options, keeper)

@@ -1,12 +1,11 @@
 // The service of a mount whose history is kept: of each client its receipts are kept.
-ghost use Rattle.std.specs.Prelude.{◌≡◌, ◌<◌, ℕ, Bool, List, is_some, true};
+ghost use Rattle.std.specs.Prelude.{◌<◌};
 ghost use Rattle.std.specs.Vec.{vec_capacity, vec_len};
-ghost use Rattle.socket_server.specs.Clients.{IsClient, IsNew};
 
 use crate::connection::Connection;
 use crate::requests::Requests;
 use crate::service::{Awaits, Ended, Places, Service};
-use doors::shared::{Departure, run_session};
+use doors::shared::{Client, run_session};
 use locked_history::{Gate, Mount, MountName, Receipt, Session};
 use ov_base::Errno;
 use ov_devices::{CountedReader, CountedWriter};
@@ -22,35 +21,6 @@ pub(crate) struct Newcomer<N: MountName> {
     session: Session,
     receipts: Vec<Receipt<N>>,
     ghost room: { vec_len receipts < vec_capacity receipts },
-}
-
-// Runs the session of a client that was just attached, over its connection.
-fn converse<N: MountName, F: Callback + Copy, R: Rule, G: Gate + Awaits, H: Wait + Clock>(
-    rt: &H,
-    alloc: Global,
-    mount: &Mount<N, F, R>,
-    gate: &G,
-    client: Newcomer<N>,
-    connection: &Connection,
-) -> Departure<N, F, R>
-    ensures { (tags : List ℕ) (closes : Bool) →
-        ((number step : ℕ) → G.may_stop gate.now number step → closes ≡ true) →
-        IsNew tags client.session.client client.session.number client.receipts.items →
-        IsClient tags closes (is_some result.hooks) result.receipts.items }
-{
-    let mut input = CountedReader::new(Requests::new(rt, gate, connection));
-    let mut output = SessionOutput::new(alloc, CountedWriter::new(connection));
-    let Newcomer { session, receipts } = client;
-    run_session(
-        rt,
-        alloc,
-        mount,
-        gate,
-        session,
-        receipts,
-        &mut input,
-        &mut output,
-    )
 }
 
 impl<N: MountName, F: Callback, R: Rule> Places for Mount<N, F, R> {
@@ -132,12 +102,20 @@ where
         connection: &Connection,
         kept: &mut Vec<Vec<Receipt<N>>>,
     ) -> Ended {
-        let left = converse(rt, alloc, self, gate, client, connection);
-        kept.push_reserved(left.receipts);
+        let mut input = CountedReader::new(Requests::new(rt, gate, connection));
+        let mut output = SessionOutput::new(alloc, CountedWriter::new(connection));
+        let Newcomer { session, receipts } = client;
+        let comer = Client {
+            session,
+            receipts,
+            hooks: None,
+        };
+        let left = run_session(rt, alloc, self, gate, comer, &mut input, &mut output);
+        kept.push_reserved(left.client.receipts);
         Ended {
             ending: left.ending,
             calls: left.calls,
-            detached: left.hooks.is_some(),
+            detached: left.client.hooks.is_some(),
         }
     }
 }

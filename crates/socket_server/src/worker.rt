@@ -1,7 +1,7 @@
 // A worker: it takes one connection after the other. The client of a connection is attached, its
 // session is run, and it is detached before its stream is closed.
-ghost use Rattle.std.specs.Prelude.{◌≡◌, ◌+◌, ◌<◌, MatchResult, None, false, is_some, map, not, true, ℕ};
-ghost use Rattle.socket_server.specs.Working.{IsWork};
+ghost use Rattle.std.specs.Prelude.{◌≡◌, ◌+◌, ◌<◌, None, false, is_some, map};
+ghost use Rattle.socket_server.specs.Working.{IsWork, KeepsClients, KeepsServed};
 
 use crate::connection::Connection;
 use crate::entrance::Entrance;
@@ -42,12 +42,8 @@ where
     M: Service + Places,
     H: Wait + Eprint + Clock,
     requires { M.has_room kept.old }
-    ensures { (count : ℕ) →
-        M.keeps (map M.tag hooks.now) (is_some guard.now.closing) true count kept.old →
-        MatchResult result
-        (λ detached. M.keeps (map M.tag hooks.now) (is_some guard.now.closing) detached
-        (count + 1) kept.new)
-        (λ _. M.keeps (map M.tag hooks.now) (is_some guard.now.closing) true count kept.new) }
+    ensures { KeepsServed (M.keeps (map M.tag hooks.now) (is_some guard.now.closing))
+        kept.old kept.new result }
 {
     let mount = guard.mount;
     let number = connection.number;
@@ -78,12 +74,8 @@ fn serve<M, H>(
 where
     M: Service + Places,
     H: Wait + Eprint + Clock,
-    ensures { (count : ℕ) →
-        M.keeps (map M.tag hooks.now) (is_some guard.now.closing) true count kept.old →
-        MatchResult result
-        (λ detached. M.keeps (map M.tag hooks.now) (is_some guard.now.closing) detached
-        (count + 1) kept.new)
-        (λ _. M.keeps (map M.tag hooks.now) (is_some guard.now.closing) true count kept.new) }
+    ensures { KeepsServed (M.keeps (map M.tag hooks.now) (is_some guard.now.closing))
+        kept.old kept.new result }
 {
     let Ok(()) = guard.mount.reserve(kept) else {
         return Err(Errno::ENOMEM);
@@ -113,10 +105,8 @@ where
     H: Wait + Eprint + Clock,
     requires well { worked.old.failed ≡ false }
     requires few { worked.old.tally.served + worked.old.tally.refused < 18446744073709551615 }
-    ensures clients { M.keeps (map M.tag hooks.now) (is_some guard.now.closing) (not worked.old.failed)
-        worked.old.tally.served worked.old.kept
-        → M.keeps (map M.tag hooks.now) (is_some guard.now.closing) (not worked.new.failed)
-        worked.new.tally.served worked.new.kept }
+    ensures clients { let keeps = M.keeps (map M.tag hooks.now) (is_some guard.now.closing) in
+        KeepsClients keeps worked.old → KeepsClients keeps worked.new }
     ensures count { worked.new.failed ≡ false → worked.new.stopped ≡ false
         → worked.new.tally.served + worked.new.tally.refused
         ≡ (worked.old.tally.served + worked.old.tally.refused) + 1 }

@@ -1,10 +1,14 @@
 -- What is known of a client of a mount that keeps no history: the beginning of it that it has seen.
-use Rattle.std.specs.Prelude.{◌≡◌, ℕ, Bool, List, Some, slice_get}
+use Rattle.std.specs.Prelude.{◌≡◌, ℕ, Bool, List, Some, slice_get, is_some}
 use mathlib.Core.List.{IsPrefix}
 use Rattle.ov_session.specs.declared.exchange.Exchange.{Exchange}
 use Rattle.locked_history.specs.declared.entry.Deed.{Deed}
 use Rattle.locked_history.specs.declared.entry.Entry.{Entry}
 use Rattle.locked_history.specs.declared.session.Session.{Session}
+use Rattle.endless_mount.specs.declared.book.BookName.{Ghosts as BookName}
+use Rattle.watch_table.specs.declared.hook.Callback.{Ghosts as Callback}
+use Rattle.watch_table.specs.declared.hook.Rule.{Ghosts as Rule}
+use Rattle.doors.specs.declared.endless.door.Client.{Client}
 use Rattle.doors.specs.shared.GoingOn.{GoesOn, MayHold, Ways}
 
 -- where a client stands: the number of its next entry, the beginning of the history that it has
@@ -22,6 +26,11 @@ standing session seen detached = record {
   seen = seen;
   detached = detached;
 }
+
+-- where this client stands
+abbrev pub stand : {N F G : Type 0} {name : BookName N} {asks : Callback F} {rule : Rule G}
+    → Client N F G name asks rule → Standing
+stand client = standing client.session client.seen (is_some client.hooks)
 
 -- what a client did stands at this place of what it has seen then, under the number of its next
 -- entry; and the number is this one then

@@ -1,9 +1,13 @@
 -- What is known of a client of a mount that keeps its history: the receipts of what it did.
-use Rattle.std.specs.Prelude.{◌≡◌, ℕ, Bool, List, [], ◌∷◌, ◌++◌}
+use Rattle.std.specs.Prelude.{◌≡◌, ℕ, Bool, List, [], ◌∷◌, ◌++◌, is_some}
 use Rattle.ov_session.specs.declared.exchange.Exchange.{Exchange}
 use Rattle.locked_history.specs.Claims.{Claim}
 use Rattle.locked_history.specs.declared.entry.Deed.{Deed}
 use Rattle.locked_history.specs.declared.session.Session.{Session}
+use Rattle.locked_history.specs.declared.mount_name.MountName.{Ghosts as MountName}
+use Rattle.watch_table.specs.declared.hook.Callback.{Ghosts as Callback}
+use Rattle.watch_table.specs.declared.hook.Rule.{Ghosts as Rule}
+use Rattle.doors.specs.declared.shared.door.Client.{Client}
 use Rattle.doors.specs.shared.Claiming.{Claims}
 use Rattle.doors.specs.shared.GoingOn.{GoesOn, MayHold, Ways}
 
@@ -22,6 +26,11 @@ standing session receipts detached = record {
   receipts = receipts;
   detached = detached;
 }
+
+-- where this client stands
+abbrev pub stand : {N F G : Type 0} {name : MountName N} {asks : Callback F} {rule : Rule G}
+    → Client N F G name asks rule → Standing
+stand client = standing client.session client.receipts.items (is_some client.hooks)
 
 -- one receipt more
 abbrev pub and_receipt : Standing → ℕ → Claim → Bool → Standing

@@ -1,7 +1,7 @@
 // A door whose calls are those of one client of a mount.
-ghost use Rattle.std.specs.Prelude.{◌≡◌, ◌∷◌, [], None, is_some};
+ghost use Rattle.std.specs.Prelude.{◌≡◌, ◌∷◌, [], None};
 ghost use Rattle.ov_session.specs.declared.exchange.Exchange.TheVariants.{Departed};
-ghost use Rattle.doors.specs.endless.Advancing.{Advances, standing};
+ghost use Rattle.doors.specs.endless.Advancing.{Advances, stand};
 
 use crate::shared::{ClientSession, errno_of};
 use endless_mount::{BookName, EndlessMount, Front};
@@ -13,17 +13,23 @@ use std::snapshot::Snapshot;
 use std::sync::Wait;
 use watch_table::{Callback, Hook, Rule};
 
-/// A mount that many threads share, and a client of it that makes the calls of a session, with the
-/// front of the history that it has seen. The gate is asked before each step of a call, and ends the
+/// A client of a mount: its session, the front of the history that it has seen, and its hooks where it
+/// was detached.
+#[derive(Drop)]
+pub struct Client<N: BookName, F: Callback, R: Rule> {
+    pub session: Session,
+    pub seen: Front<N>,
+    pub hooks: Option<Vec<Hook<F, R>>>,
+}
+
+/// A mount that many threads share, and a client of it that makes the calls of a session. The gate is asked before each step of a call, and ends the
 /// session where it says so.
 #[derive(Drop)]
 pub struct EndlessDoor<'m, N: BookName, F: Callback, R: Rule, G: Gate, H: Wait> {
     pub(crate) rt: &'m H,
     pub(crate) mount: &'m EndlessMount<N, F, R>,
     pub(crate) gate: &'m G,
-    pub(crate) session: Session,
-    pub(crate) seen: Front<N>,
-    pub(crate) hooks: Option<Vec<Hook<F, R>>>,
+    pub(crate) client: Client<N, F, R>,
 }
 
 impl<'m, N: BookName, F: Callback + Drop, R: Rule, G: Gate, H: Wait> EndlessDoor<
@@ -34,40 +40,34 @@ impl<'m, N: BookName, F: Callback + Drop, R: Rule, G: Gate, H: Wait> EndlessDoor
     G,
     H,
 > {
-    /// A door to this mount, by this gate, for a client that was just attached and has this front.
+    /// A door to this mount, by this gate, for a client.
     pub fn new(
         rt: &'m H,
         mount: &'m EndlessMount<N, F, R>,
         gate: &'m G,
-        session: Session,
-        seen: Front<N>,
+        client: Client<N, F, R>,
     ) -> EndlessDoor<'m, N, F, R, G, H>
-        ensures client { (result.session ≡ session) × (result.seen ≡ seen) }
-        ensures attached { result.hooks ≡ None }
+        ensures client { result.client ≡ client }
         ensures gate { result.gate.now ≡ gate.now }
     {
         EndlessDoor {
             rt,
             mount,
             gate,
-            session,
-            seen,
-            hooks: None,
+            client,
         }
     }
 
     // Detaches the client, and keeps the hooks.
     fn leave(&mut self) -> Answer
-        requires { self.old.hooks ≡ None }
-        ensures goes { Advances (G.may_stop self.old.gate.now)
-            (standing self.old.session self.old.seen (is_some self.old.hooks))
-            (Departed result ∷ [])
-            (standing self.new.session self.new.seen (is_some self.new.hooks)) }
+        requires { self.old.client.hooks ≡ None }
+        ensures goes { Advances (G.may_stop self.old.gate.now) (stand self.old.client)
+            (Departed result ∷ []) (stand self.new.client) }
         ensures gate { self.new.gate.now ≡ self.old.gate.now }
     {
-        match self.mount.detach(self.rt, self.session, &mut self.seen) {
+        match self.mount.detach(self.rt, self.client.session, &mut self.client.seen) {
             Ok((hooks, place)) => {
-                self.hooks = Some(hooks);
+                self.client.hooks = Some(hooks);
                 Answer::Replied {
                     place,
                     reply: Reply::Done,
@@ -82,34 +82,31 @@ impl<'m, N: BookName, F: Callback + Drop, R: Rule, G: Gate, H: Wait> Door
     for EndlessDoor<'m, N, F, R, G, H> {
     type Session = ClientSession<Answer>;
 
-    ghost use Rattle.std.specs.Prelude.{◌≡◌, None, is_some, refl};
+    ghost use Rattle.std.specs.Prelude.{◌≡◌, None, refl};
     ghost use Rattle.doors.specs.shared.Exchanges.{told_in};
     ghost use Rattle.doors.specs.shared.GoingOn.{goes_by_one_gate, stays_there};
-    ghost use Rattle.doors.specs.endless.Advancing.{Advances, standing, ways};
+    ghost use Rattle.doors.specs.endless.Advancing.{Advances, stand, ways};
 
     ghost told = { told_in (λ answer. answer) };
 
     ghost goes = { λ d told e. (e.gate.now ≡ d.gate.now)
-        × Advances (G.may_stop d.gate.now)
-        (standing d.session d.seen (is_some d.hooks)) told
-        (standing e.session e.seen (is_some e.hooks)) };
+        × Advances (G.may_stop d.gate.now) (stand d.client) told (stand e.client) };
 
-    ghost admits = { λ d s. d.hooks ≡ None };
+    ghost admits = { λ d s. d.client.hooks ≡ None };
 
     ghost stays = { λ d. (
       refl,
-      stays_there (ways (G.may_stop d.gate.now))
-          (standing d.session d.seen (is_some d.hooks)),
+      stays_there (ways (G.may_stop d.gate.now)) (stand d.client),
     ) };
 
     ghost joins = { λ a b c xs ys. goes_by_one_gate (λ gate. ways (G.may_stop gate))
-        a.gate.now b.gate.now c.gate.now (standing a.session a.seen (is_some a.hooks))
-        (standing b.session b.seen (is_some b.hooks)) (standing c.session c.seen (is_some c.hooks))
-        xs ys };
+        a.gate.now b.gate.now c.gate.now
+        (stand a.client) (stand b.client) (stand c.client) xs ys };
 
     fn call(&mut self, session: &mut ClientSession<Answer>, call: Call) -> CallOutcome {
         let asked = Snapshot::of(&call);
-        match self.mount.call(self.rt, &mut self.session, &mut self.seen, call, self.gate) {
+        let client = &mut self.client;
+        match self.mount.call(self.rt, &mut client.session, &mut client.seen, call, self.gate) {
             Ok((place, reply)) => {
                 session.tell(asked, Answer::Replied { place, reply });
                 CallOutcome::Answered

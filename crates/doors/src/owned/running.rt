@@ -3,7 +3,7 @@ ghost use Rattle.std.specs.Prelude.{◌≡◌, ◌+◌, ◌<◌, ◌≤◌, ◌^
 ghost use Rattle.std.specs.Vec.{vec_capacity};
 ghost use Rattle.overlay_core.specs.Views.{CoreKeeps, core_finished, has_client};
 ghost use Rattle.ov_session.specs.Devices.{InputAt, OutputAt};
-ghost use Rattle.ov_session.specs.Sessions.{IsSession};
+ghost use Rattle.ov_session.specs.Sessions.{IsSessionOver};
 ghost use Rattle.doors.specs.owned.Rooms.{IsServed};
 
 use super::door::CoreDoor;
@@ -35,9 +35,8 @@ where
     requires bound { core_finished core + 1 < 2 ^ 63 }
     requires room { vec_len session.exchanges < vec_capacity session.exchanges }
     requires held { output.old.held.items ≡ [] }
-    ensures session { IsSession (IsServed client)
-        (S.remaining input.old) (S.remaining input.new)
-        (K.contents output.old.sink) (K.contents output.new.sink)
+    ensures session { IsSessionOver S.remaining K.contents (IsServed client)
+        input.old input.new output.old output.new
         session.exchanges.items result.1.exchanges.items core result.2 result.0 }
     ensures detached { has_client result.2 client ≡ false }
     ensures kept { CoreKeeps core result.2 }

@@ -1,34 +1,28 @@
 // A whole session of a mount's client.
-ghost use Rattle.std.specs.Prelude.{◌≡◌, ◌+◌, ◌<◌, ◌≤◌, ◌↔◌, IsSome, List, [], false, is_some};
+ghost use Rattle.std.specs.Prelude.{◌≡◌, ◌+◌, ◌<◌, ◌≤◌, [], None};
 ghost use Rattle.std.specs.Vec.{vec_capacity, vec_len};
 ghost use Rattle.ov_session.specs.Devices.{InputAt, OutputAt};
-ghost use Rattle.ov_session.specs.Sessions.{IsSession};
-ghost use Rattle.ov_session.specs.declared.exchange.Exchange.{Exchange};
-ghost use Rattle.doors.specs.shared.Advancing.{Advances, standing};
-ghost use Rattle.doors.specs.shared.GoingOn.{IsReply};
+ghost use Rattle.doors.specs.shared.Advancing.{stand, ways};
+ghost use Rattle.doors.specs.shared.GoingOn.{IsClientSession};
 
-use super::door::MountDoor;
+use super::door::{Client, MountDoor};
 use super::session::ClientSession;
-use locked_history::{Gate, Mount, MountName, Receipt, Session};
+use locked_history::{Gate, Mount, MountName};
 use ov_devices::{Sink, Source};
 use ov_session::{Ending, SessionOutput, session_run};
 use std::alloc::Global;
 use std::sync::Wait;
-use watch_table::{Callback, Hook, Rule};
+use watch_table::{Callback, Rule};
 
-/// What a session leaves: how it ended and how many calls were answered, its client, the receipts of
-/// what that did, and its hooks where it was detached.
+/// What a session leaves: how it ended and how many calls were answered, and its client.
 #[derive(Drop)]
 pub struct Departure<N: MountName, F: Callback, R: Rule> {
     pub ending: Ending,
     pub calls: u64,
-    pub session: Session,
-    pub receipts: Vec<Receipt<N>>,
-    pub hooks: Option<Vec<Hook<F, R>>>,
+    pub client: Client<N, F, R>,
 }
 
-/// Runs the session of a client that was just attached, whose receipts go behind these. What it
-/// wrote is the frames of the answers to what it read, and a receipt claims that each reply among
+/// Runs the session of a client, whose receipts go behind those that it has. What it wrote is the frames of the answers to what it read, and a receipt claims that each reply among
 /// them stands in the history of the mount. A call is held back only where the gate may stop it, and
 /// the client is detached, so that its hooks are handed back, unless the mount refused that.
 pub fn run_session<N, F, R, G, H, S, K>(
@@ -36,8 +30,7 @@ pub fn run_session<N, F, R, G, H, S, K>(
     alloc: Global,
     mount: &Mount<N, F, R>,
     gate: &G,
-    session: Session,
-    receipts: Vec<Receipt<N>>,
+    client: Client<N, F, R>,
     input: &mut S,
     output: &mut SessionOutput<K>,
 ) -> Departure<N, F, R>
@@ -50,14 +43,11 @@ where
     S: Source,
     K: Sink,
     requires held { output.old.held.items ≡ [] }
-    requires room { vec_len receipts < vec_capacity receipts }
-    ensures session { (told : List Exchange)
-        × (s : IsSession (Advances (G.may_stop gate.now))
-        (S.remaining input.old) (S.remaining input.new)
-        (K.contents output.old.sink) (K.contents output.new.sink)
-        [] told (standing session receipts.items false)
-        (standing result.session result.receipts.items (is_some result.hooks)) result.ending)
-        × (IsSome result.hooks ↔ IsReply s.farewell) }
+    requires room { vec_len client.receipts < vec_capacity client.receipts }
+    requires attached { client.hooks ≡ None }
+    ensures session { IsClientSession S.remaining K.contents (ways (G.may_stop gate.now))
+        input.old input.new output.old output.new
+        (stand client) (stand result.client) result.ending }
     ensures input { InputAt (S.failures input.old) (S.failures input.new) (S.reads input.new)
         (S.most input.old) result.ending }
     ensures reads { (S.reads input.old ≤ S.reads input.new)
@@ -67,21 +57,17 @@ where
         result.ending }
 {
     let mut told = ClientSession::new();
-    let mut door = MountDoor::new(rt, mount, gate, session, receipts);
+    let mut door = MountDoor::new(rt, mount, gate, client);
     let ending = session_run(alloc, input, output, &mut door, &mut told);
     let MountDoor {
         rt: _,
         mount: _,
         gate: _,
-        session,
-        receipts,
-        hooks,
+        client,
     } = door;
     Departure {
         ending,
         calls: told.calls(),
-        session,
-        receipts,
-        hooks,
+        client,
     }
 }

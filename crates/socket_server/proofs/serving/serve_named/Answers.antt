@@ -17,15 +17,12 @@ keep-requires g c = (
 pub returns-clause-served : goal.returns-clause-served
 returns-clause-served g c =
     let past = c.in_ok-past.past in
-    let legal = c.in_ok-past.ensures.legal in
-    let served = c.in_ok-past.ensures.served in (
+    let legal = c.in_ok-past.ensures.legal in (
       entries_past past,
-      served.0,
       record { last = core_past past; legal = named_legal _ _ _ _ _ c.requires.named.opening refl legal },
       c.keep.ensures (opening_of (blank_core c.args.blank)) (history_of (entries_past past)) c.requires.taken
           (named_legal _ _ _ _ _ c.requires.named.opening c.core.ensures legal),
-      served.1,
-      served.2,
+      (_, c.in_ok-past.ensures.served),
     )
 
 pub returns-clause-stopped : goal.returns-clause-stopped

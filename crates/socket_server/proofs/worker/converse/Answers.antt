@@ -3,5 +3,5 @@ use Rattle.socket_server.proofs.worker.converse.Goals as goal
 
 pub returns : goal.returns
 returns g c count h =
-    c.run-ending.ensures (map g.M.Service.tag c.args.hooks.now) (is_some c.args.guard.now.closing) count
-    (λ number step may. may) c.in_ok-client.ensures.comes h
+    c.run-ending.ensures (map g.M.Service.tag c.args.hooks.now) (is_some c.args.guard.now.closing)
+    (λ client step may. may) c.in_ok-client.ensures.comes count h
