@@ -21,7 +21,7 @@ pub use commands::has_layer;
 pub use devices::Output;
 pub use fault::{DeviceFault, Fault};
 pub use joining::going_on;
-pub use play::{core_of, play_run, play_run_keeping};
+pub use play::{LookUps, core_of, play_run, play_run_keeping};
 pub use print_tree::write_layer;
 pub use program_hooks::{ByTag, ProgramRule, hooks_by_slot};
 pub use saving::{LeftOut, save_upper};

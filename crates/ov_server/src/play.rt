@@ -47,30 +47,32 @@ pub fn play_run<S: Source, K: Sink, F: Callback + Copy, H: Rule>(
     ensures well { OnOk result ((S.failures input.new ≡ S.failures input.old) × (K.failures output.new.sink ≡ K.failures output.old.sink)) }
     ensures manifest { AnswersManifest blobs.items (table_view manifest) result }
 {
-    play_run_keeping(
-        alloc,
+    let look_ups = LookUps {
         keys,
-        LOOK_UPS_KEPT,
-        manifest,
-        blobs,
-        hooks,
-        input,
-        output,
-    )
+        kept: LOOK_UPS_KEPT,
+    };
+    play_run_keeping(alloc, look_ups, manifest, blobs, hooks, input, output)
 }
 
-/// `play_run` on a mount that keeps at most so many look-ups in the lower layers, or with 0 none.
+/// How a mount looks names up: by which keys it hashes them, and how many look-ups in the lower layers
+/// it keeps at most, with 0 none.
+#[derive(Clone, Copy)]
+pub struct LookUps {
+    pub keys: RandomState,
+    pub kept: usize,
+}
+
+/// `play_run` on a mount that looks names up so.
 pub fn play_run_keeping<S: Source, K: Sink, F: Callback + Copy, H: Rule>(
     alloc: Global,
-    keys: RandomState,
-    look_ups: usize,
+    look_ups: LookUps,
     manifest: Table,
     blobs: Vec<Blob>,
     hooks: &[Hook<F, H>],
     input: &mut S,
     output: &mut Output<K>,
 ) -> Result<(), Fault>
-    requires { look_ups ≤ 65536 }
+    requires { look_ups.kept ≤ 65536 }
     ensures ok { OnOk result (IfSome (S.remaining input.old) (IsGoodScript (layering_of (table_view manifest)))) }
     ensures err { IfErr result (IsRunFault (S.remaining input.old) (layering_of (table_view manifest))) }
     ensures stream { IfErr result (IsStreamFault (S.failures input.new) (S.reads input.new) (S.most input.new) (K.failures output.new.sink)) }
@@ -78,7 +80,7 @@ pub fn play_run_keeping<S: Source, K: Sink, F: Callback + Copy, H: Rule>(
     ensures well { OnOk result ((S.failures input.new ≡ S.failures input.old) × (K.failures output.new.sink ≡ K.failures output.old.sink)) }
     ensures manifest { AnswersManifest blobs.items (table_view manifest) result }
 {
-    let core = core_keeping(alloc, keys, look_ups, &manifest, blobs.as_slice(), None);
+    let core = core_keeping(alloc, look_ups, &manifest, blobs.as_slice(), None);
     drop((manifest, blobs));
     let outcome = play_on(alloc, core?, hooks, input, output);
     output.flush()?;
@@ -131,19 +133,22 @@ pub fn core_of<F: Callback + Drop, H: Rule>(
     ensures finished { IfOk result (λ core. core_finished core ≡ 0) }
     ensures places { IfOk result HasPlaces }
 {
-    core_keeping(alloc, keys, LOOK_UPS_KEPT, manifest, blobs, history)
+    let look_ups = LookUps {
+        keys,
+        kept: LOOK_UPS_KEPT,
+    };
+    core_keeping(alloc, look_ups, manifest, blobs, history)
 }
 
-// The same, which keeps at most so many look-ups in the lower layers.
+// The same, which looks names up so.
 fn core_keeping<F: Callback + Drop, H: Rule>(
     alloc: Global,
-    keys: RandomState,
-    look_ups: usize,
+    look_ups: LookUps,
     manifest: &Table,
     blobs: &[Blob],
     history: Option<HistoryLength>,
 ) -> Result<Core<F, H>, Fault>
-    requires { look_ups ≤ 65536 }
+    requires { look_ups.kept ≤ 65536 }
     ensures manifest { AnswersManifest blobs.now (table_view manifest.now) result }
     ensures err { IfErr result IsManifestFault }
     ensures mount { IfOk result (IsMountOf blobs.now (table_view manifest.now) history) }
@@ -152,9 +157,10 @@ fn core_keeping<F: Callback + Drop, H: Rule>(
     ensures finished { IfOk result (λ core. core_finished core ≡ 0) }
     ensures places { IfOk result HasPlaces }
 {
+    let LookUps { keys, kept } = look_ups;
     let (upper, lowers, told) = layers_of(alloc, keys, manifest, blobs)?;
     let options = lasting(history, told);
-    match Core::mount_keeping(alloc, keys, upper, lowers, options, look_ups) {
+    match Core::mount_keeping(alloc, keys, upper, lowers, options, kept) {
         Ok(core) => Ok(core),
         Err(Unmounted { fault: None, .. }) => Err(Fault::Memory),
         Err(Unmounted { fault: Some(_), .. }) => unreachable!(),

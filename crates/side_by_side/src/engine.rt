@@ -3,7 +3,7 @@ ghost use Rattle.std.specs.Prelude.{◌≤◌};
 
 use crate::blobs::all_blobs;
 use ov_devices::{CountedReader, CountedWriter};
-use ov_server::{Fault, Output, hooks_by_slot, play_run_keeping, show_run};
+use ov_server::{Fault, LookUps, Output, hooks_by_slot, play_run_keeping, show_run};
 use ov_wire::table_of;
 use overlay_core::LOOK_UPS_KEPT;
 use std::alloc::Global;
@@ -114,18 +114,22 @@ fn play(
 ) -> Result<(), Fault>
     requires { look_ups ≤ 65536 }
 {
+    let look_ups = LookUps {
+        keys,
+        kept: look_ups,
+    };
     let hooks = hooks_by_slot(alloc)?;
     let blobs = all_blobs(alloc)?;
     let table = table_of(alloc, manifest)?;
     let mut input = CountedReader::new(script);
     let mut output = Output::new(alloc, CountedWriter::new(text));
+    let hooks = hooks.as_slice();
     play_run_keeping(
         alloc,
-        keys,
         look_ups,
         table,
         blobs,
-        hooks.as_slice(),
+        hooks,
         &mut input,
         &mut output,
     )

@@ -20,6 +20,15 @@ use std::thread;
 use std::thread::Threads;
 use std::time::Clock;
 
+// What the workers serve with which hooks, and where they tell of it.
+#[derive(Drop)]
+struct Duty<'a, 'r, M: Service, H: Eprint + Wait> {
+    mount: &'a M,
+    hooks: &'a [M::Hook],
+    reports: &'a Reports<'r, H>,
+    options: &'a ServeOptions<'r>,
+}
+
 // Whether one of the workers could not go on.
 fn has_failed<K: Drop>(workers: &[Worked<K>]) -> bool
     ensures { result ≡ list_any (λ worked. worked.failed) workers.now }
@@ -52,17 +61,21 @@ fn work_all<M, H>(
     rt: &H,
     alloc: Global,
     entrance: &Entrance<'_>,
-    mount: &M,
-    hooks: &[M::Hook],
-    reports: &Reports<'_, H>,
-    options: &ServeOptions<'_>,
+    duty: &Duty<'_, '_, M, H>,
 ) -> Result<Vec<Worked<M::Kept>>, AllocError>
 where
     M: Service + Places + Sync,
     H: Threads + Wait + Eprint + Clock + Sync,
     ensures { IfOk result (λ left.
-        HaveWorked (M.keeps (map M.tag hooks.now) (closes options.now)) options.now left.items) }
+        HaveWorked (M.keeps (map M.tag duty.now.hooks.now) (closes duty.now.options.now))
+        duty.now.options.now left.items) }
 {
+    let Duty {
+        mount,
+        hooks,
+        reports,
+        options,
+    } = *duty;
     let left = thread::map_indices(
         rt,
         alloc,
@@ -81,21 +94,19 @@ fn work_or_tell<M, H>(
     rt: &H,
     alloc: Global,
     entrance: &Entrance<'_>,
-    mount: &M,
-    hooks: &[M::Hook],
-    reports: &Reports<'_, H>,
-    options: &ServeOptions<'_>,
+    duty: &Duty<'_, '_, M, H>,
 ) -> Result<Vec<Worked<M::Kept>>, AllocError>
 where
     M: Service + Places + Sync,
     H: Threads + Wait + Eprint + Clock + Sync,
     ensures { thread ≡ 1 → IfOk result (λ left.
-        HaveWorked (M.keeps (map M.tag hooks.now) (closes options.now)) options.now left.items) }
+        HaveWorked (M.keeps (map M.tag duty.now.hooks.now) (closes duty.now.options.now))
+        duty.now.options.now left.items) }
 {
     if thread == 1 {
-        work_all(rt, alloc, entrance, mount, hooks, reports, options)
+        work_all(rt, alloc, entrance, duty)
     } else {
-        reports.tell_all();
+        duty.reports.tell_all();
         Ok(Vec::new(alloc))
     }
 }
@@ -105,22 +116,20 @@ fn work_and_tell<M, H>(
     rt: &H,
     alloc: Global,
     entrance: &Entrance<'_>,
-    mount: &M,
-    hooks: &[M::Hook],
-    reports: &Reports<'_, H>,
-    options: &ServeOptions<'_>,
+    duty: &Duty<'_, '_, M, H>,
 ) -> Result<Vec<Worked<M::Kept>>, AllocError>
 where
     M: Service + Places + Sync,
     H: Threads + Wait + Eprint + Clock + Sync,
     ensures { IfOk result (λ left.
-        HaveWorked (M.keeps (map M.tag hooks.now) (closes options.now)) options.now left.items) }
+        HaveWorked (M.keeps (map M.tag duty.now.hooks.now) (closes duty.now.options.now))
+        duty.now.options.now left.items) }
 {
     let mut left = thread::map_indices(
         rt,
         alloc,
         2,
-        &|thread| work_or_tell(thread, rt, alloc, entrance, mount, hooks, reports, options),
+        &|thread| work_or_tell(thread, rt, alloc, entrance, duty),
     )?;
     left.swap_remove(1)
 }
@@ -148,33 +157,31 @@ fn work_behind<M, H>(
     alloc: Global,
     listener: &UnixListener,
     acceptor: &Acceptor,
-    mount: &M,
-    hooks: &[M::Hook],
-    reports: &Reports<'_, H>,
-    options: &ServeOptions<'_>,
+    duty: &Duty<'_, '_, M, H>,
 ) -> Result<Vec<Worked<M::Kept>>, AllocError>
 where
     M: Service + Places + Sync,
     H: Threads + Wait + Eprint + Clock + Sync,
     ensures { IfOk result (λ left.
-        HaveWorked (M.keeps (map M.tag hooks.now) (closes options.now)) options.now left.items) }
+        HaveWorked (M.keeps (map M.tag duty.now.hooks.now) (closes duty.now.options.now))
+        duty.now.options.now left.items) }
 {
     thread::scope(
         thread::scope_env(),
         rt,
         |scope| -> Result<Vec<Worked<M::Kept>>, AllocError>
-            ensures { IfOk result (λ left. HaveWorked (M.keeps (map M.tag hooks.entry.now)
-                (closes options.entry.now)) options.entry.now left.items) }
+            ensures { IfOk result (λ left. HaveWorked (M.keeps (map M.tag duty.entry.now.hooks.now)
+                (closes duty.entry.now.options.now)) duty.entry.now.options.now left.items) }
         {
             let accepts = scope
-                .spawn(move || acceptor.accept_all(rt, listener, reports))
+                .spawn(move || acceptor.accept_all(rt, listener, duty.reports))
                 .is_ok();
             let acceptor_if_any = if accepts { Some(acceptor) } else { None };
             let entrance = Entrance {
                 listener,
                 acceptor: acceptor_if_any,
             };
-            let left = work_and_tell(rt, alloc, &entrance, mount, hooks, reports, options);
+            let left = work_and_tell(rt, alloc, &entrance, duty);
             acceptor.close(rt);
             left
         },
@@ -186,27 +193,23 @@ fn work_or_turn_away<M, H>(
     rt: &H,
     alloc: Global,
     listener: &UnixListener,
-    mount: &M,
-    hooks: &[M::Hook],
-    reports: &Reports<'_, H>,
-    options: &ServeOptions<'_>,
+    duty: &Duty<'_, '_, M, H>,
 ) -> Result<Vec<Worked<M::Kept>>, AllocError>
 where
     M: Service + Places + Sync,
     H: Threads + Wait + Eprint + Clock + Sync,
     ensures { IfOk result (λ left.
-        HaveWorked (M.keeps (map M.tag hooks.now) (closes options.now)) options.now left.items) }
+        HaveWorked (M.keeps (map M.tag duty.now.hooks.now) (closes duty.now.options.now))
+        duty.now.options.now left.items) }
 {
-    match options.acceptor {
-        Some(acceptor) => work_behind(
-            rt, alloc, listener, acceptor, mount, hooks, reports, options,
-        ),
+    match duty.options.acceptor {
+        Some(acceptor) => work_behind(rt, alloc, listener, acceptor, duty),
         None => {
             let entrance = Entrance {
                 listener,
                 acceptor: None,
             };
-            work_and_tell(rt, alloc, &entrance, mount, hooks, reports, options)
+            work_and_tell(rt, alloc, &entrance, duty)
         }
     }
 }
@@ -231,7 +234,13 @@ where
 {
     reports.listens(options.socket, options.workers);
     tell_of_threads(rt, reports, options.workers);
-    let workers = work_or_turn_away(rt, alloc, listener, mount, hooks, reports, options)?;
+    let duty = Duty {
+        mount,
+        hooks,
+        reports,
+        options,
+    };
+    let workers = work_or_turn_away(rt, alloc, listener, &duty)?;
     let failed = has_failed(workers.as_slice());
     let stopped = was_stopped(workers.as_slice());
     Ok((workers, end_of(failed, stopped)))

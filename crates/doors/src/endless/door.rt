@@ -65,7 +65,10 @@ impl<'m, N: BookName, F: Callback + Drop, R: Rule, G: Gate, H: Wait> EndlessDoor
             (Departed result ∷ []) (stand self.new.client) }
         ensures gate { self.new.gate.now ≡ self.old.gate.now }
     {
-        match self.mount.detach(self.rt, self.client.session, &mut self.client.seen) {
+        match self
+            .mount
+            .detach(self.rt, self.client.session, &mut self.client.seen)
+        {
             Ok((hooks, place)) => {
                 self.client.hooks = Some(hooks);
                 Answer::Replied {
@@ -106,7 +109,13 @@ impl<'m, N: BookName, F: Callback + Drop, R: Rule, G: Gate, H: Wait> Door
     fn call(&mut self, session: &mut ClientSession<Answer>, call: Call) -> CallOutcome {
         let asked = Snapshot::of(&call);
         let client = &mut self.client;
-        match self.mount.call(self.rt, &mut client.session, &mut client.seen, call, self.gate) {
+        match self.mount.call(
+            self.rt,
+            &mut client.session,
+            &mut client.seen,
+            call,
+            self.gate,
+        ) {
             Ok((place, reply)) => {
                 session.tell(asked, Answer::Replied { place, reply });
                 CallOutcome::Answered

@@ -86,8 +86,7 @@ impl<'m, N: MountName, F: Callback + Drop, R: Rule, G: Gate, H: Wait> MountDoor<
         call: Snapshot<Call>,
         receipt: Receipt<N>,
     )
-        requires room {
-            vec_len self.old.client.receipts + 1 < vec_capacity self.old.client.receipts }
+        requires room { vec_len self.old.client.receipts + 1 < vec_capacity self.old.client.receipts }
         requires client { next.client ≡ self.old.client.session.client }
         requires number { next.number ≡ self.old.client.session.number + 1 }
         requires call { IsCallOf receipt.entry self.old.client.session.client
