@@ -4,7 +4,8 @@ use Rattle.std.specs.Global.{Box}
 use Rattle.slab.specs.Slab.{get}
 use Rattle.ov_base.specs.declared.attributes.Attributes.{Attributes}
 use Rattle.ov_base.specs.declared.bytes.Content.{Content}
-use Rattle.plain_model.specs.Layers.{Path, Inode, Named, Layer, held, below, fill, is_file, AreLayers}
+use Rattle.plain_model.specs.Layers.{Path, Inode, Named, Layer, AreLayers}
+use Rattle.plain_model.specs.Layers.{held, below, fill, is_file}
 use Rattle.mount_laws.specs.Altered.{Alters}
 use Rattle.layer_tree.specs.Tree.{layer_of, new_inode}
 use Rattle.layer_tree.specs.declared.node.Object.{Object}

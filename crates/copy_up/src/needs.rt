@@ -3,7 +3,8 @@ ghost use Rattle.std.specs.Prelude.{◌≡◌, ◌∷◌, Some, None, true, reve
 ghost use Rattle.plain_model.specs.Layers.{Path as Names, held, shows, is_directory, holds_directory};
 ghost use Rattle.layer_tree.specs.Tree.{layer_of, key_at, SameObjects};
 ghost use Rattle.merged_lookup.specs.Merged.{layers_of, parents_fault, way_fault, IsStackOf};
-ghost use Rattle.copy_up.specs.Showing.{HoldsNoDirectory, ShowsSame, GainsParent, GainsParents, Stays};
+ghost use Rattle.copy_up.specs.Showing.{HoldsNoDirectory, ShowsSame, Stays};
+ghost use Rattle.copy_up.specs.Showing.{GainsParent, GainsParents};
 ghost use Rattle.copy_up.specs.Needs.{IsNeed, first_names};
 
 use crate::parents::{directory_in, place_parent};

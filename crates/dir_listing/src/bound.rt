@@ -4,7 +4,8 @@ ghost use Rattle.ov_base.specs.declared.place.Place as stack;
 ghost use Rattle.std.specs.List.Sorted.{IsStrictlySortedBy};
 ghost use Rattle.merged_lookup.specs.Merged.{trees};
 ghost use Rattle.merged_lookup.specs.Descent.{topmost_in};
-ghost use Rattle.dir_listing.specs.Bound.{bound_of, by_name, found, shows_or, first_over, AreThere, TellsShown};
+ghost use Rattle.dir_listing.specs.Bound.{bound_of, by_name, found, shows_or, first_over};
+ghost use Rattle.dir_listing.specs.Bound.{AreThere, TellsShown};
 
 use crate::merge::{keep_topmost, merged};
 use indexmap::map::Slice;

@@ -51,8 +51,8 @@ pub record Unnames (old new : Layers) (p : Path) (released : Option ℕ) : Type 
   pub handed_back : released ≡ last_named old.upper (held (layer_of old.upper) p)
   pub nameless : (key : ℕ) → released ≡ Some key → IsNameless new.upper key
 
--- every state of the machine whose mount has the old layers goes on to one with the new layers by this
--- call, which removes the name
+-- every state of the machine whose mount has the old layers goes on to one with the new layers by
+-- this call, which removes the name
 abbrev pub RemovalSteps : Layers → Layers → Path → Call → Type 0
 RemovalSteps old new p removal =
     (s : State) → IsMountOf (upper_of old) (lowers_of old) s → (c : ℕ) →

@@ -27,8 +27,8 @@ LeadsOn ts s (Some r) = (k : ℕ) (ds : List Place) → s ≡ record { layer = 0
 abbrev pub IsUppers : Tree → Path → Place → Type 0
 IsUppers upper p d = d.layer ≡ 0 → (a : Attributes) × (o : Bool) × (r : Option Redirect) × (held (layer_of upper) p ≡ Some (Directory d.key a o r))
 
--- where this holds of the path of all names that were walked, a trail that is right for those before
--- the last one goes on to one that is right for all
+-- where this holds of the path of all names that were walked, a trail that is right for those
+-- before the last one goes on to one that is right for all
 abbrev pub GoesOneOn : Tree → List Name → Option Trail → Option Trail → (Path → Type 0) → Type 0
 GoesOneOn upper walked old new P =
     (before : List Name) (n : Name) → walked ≡ before ++ n ∷ [] → P (n ∷ reverse before) →

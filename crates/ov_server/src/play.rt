@@ -54,8 +54,8 @@ pub fn play_run<S: Source, K: Sink, F: Callback + Copy, H: Rule>(
     play_run_keeping(alloc, look_ups, manifest, blobs, hooks, input, output)
 }
 
-/// How a mount looks names up: by which keys it hashes them, and how many look-ups in the lower layers
-/// it keeps at most, with 0 none.
+/// How a mount looks names up: by which keys it hashes them, and how many look-ups in the lower
+/// layers it keeps at most, with 0 none.
 #[derive(Clone, Copy)]
 pub struct LookUps {
     pub keys: RandomState,

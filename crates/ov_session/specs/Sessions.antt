@@ -46,4 +46,5 @@ abbrev pub IsSessionOver : {I K D : Type 0} → (I → Option (List ℕ)) → (K
     → I → I → SessionOutput K → SessionOutput K → List Exchange → List Exchange → D → D → Ending
     → Type 0
 IsSessionOver remaining contents goes input input' output output' =
-    IsSession goes (remaining input) (remaining input') (contents output.sink) (contents output'.sink)
+    IsSession goes (remaining input) (remaining input')
+    (contents output.sink) (contents output'.sink)

@@ -60,7 +60,9 @@ module _ (l : Layers) (old new t u : Path) (r : Route) (is_old : old ≡ r.name.
     shown = shown.shown ∙ ap (λ (d : Place). Some (Folder d.layer d.key shown.attributes)) (sym is_top);
     own = λ e. top-under l (r.name.now ∷ t) s top.key (record { places = shown.places }) (sym (ap (λ (d : Place). d.layer) is_top) ∙ e) (ap (λ (d : Place). d.key) is_top);
     unnamed = subst (NamesNoInode (layer_of l.upper)) is_new (kind (ap (λ x. is_directory (shows 0 (layers_of l) x)) is_old ∙ ap is_directory shown.shown));
-    asks = subst (λ x. AsksFor l x (r.further.now ∷ u) marks) is_old (asks u (subst (λ x. IsStackOf l (parent x) onto) is_new at));
+    asks =
+        subst (λ x. AsksFor l x (r.further.now ∷ u) marks) is_old
+        (asks u (subst (λ x. IsStackOf l (parent x) onto) is_new at));
   }
 
   -- what moved so is what rename moves

@@ -3,7 +3,8 @@ use Rattle.std.specs.Prelude.{◌≡◌, ◌≢◌, ◌⊎◌, ◌∷◌, ℕ, B
 use Rattle.slab.specs.Slab.{get}
 use Rattle.ov_base.specs.declared.attributes.Attributes.{Attributes}
 use Rattle.ov_base.specs.declared.redirect.Redirect.{Redirect}
-use Rattle.plain_model.specs.Layers.{Name, Path, Directory, Inode, Layer, held, fill, IsLayer, AreLayers}
+use Rattle.plain_model.specs.Layers.{Name, Path, Directory, Inode, Layer, held, fill}
+use Rattle.plain_model.specs.Layers.{IsLayer, AreLayers}
 use Rattle.plain_model.specs.Machine.{State}
 use Rattle.mount_laws.specs.Leaves.{PlacesLeaf}
 use Rattle.mount_laws.specs.Linking.{AddsName, GainsName, MakesName}

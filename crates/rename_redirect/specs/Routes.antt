@@ -89,8 +89,8 @@ pub record IsMove (l : Layers) (p q : Path) (r : Route) : Type 0 where
   pub empty : ShowsNoName (layers_of l) (r.further.now ∷ q)
   pub covered : r.covered ≡ is_some (under (layer_of l.upper) (lowers_of l) r.name.now p)
 
--- The marks that a directory of p is to have at q: a base one gets the path by which the layers below
--- have it as its redirect, and any other is opaque where they show a directory there.
+-- The marks that the directory of p is to have at q: a base one has the path by which the layers
+-- below have it as its redirect, and any other is opaque exactly where they show a directory there.
 pub record AsksFor (l : Layers) (p q : Path) (marks : Marks) : Type 0 where
   pub when_base :
       base (layer_of l.upper) (lowers_of l) p ≡ true →

@@ -123,13 +123,12 @@ fn play(
     let table = table_of(alloc, manifest)?;
     let mut input = CountedReader::new(script);
     let mut output = Output::new(alloc, CountedWriter::new(text));
-    let hooks = hooks.as_slice();
     play_run_keeping(
         alloc,
         look_ups,
         table,
         blobs,
-        hooks,
+        hooks.as_slice(),
         &mut input,
         &mut output,
     )

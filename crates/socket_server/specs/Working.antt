@@ -93,8 +93,8 @@ pub record Serves (tags : List ℕ) (options : ServeOptions) (receipts : List Cl
   pub work : AreWorkers (AreClients tags (closes options)) options workers served
   pub all : receipts ≡ flat_map receipts_in workers
 
--- so where these are the entries of their history: each receipt stands there, or it is left over since
--- its place is past the end
+-- so where these are the entries of their history: each receipt stands there, or it is left over
+-- since its place is past the end
 abbrev pub ServesOn : List ℕ → ServeOptions → List Entry → List Claim → Served → Type 0
 ServesOn tags options entries left served =
     (receipts : List Claim) × Serves tags options receipts served × All (StandsIn entries) receipts

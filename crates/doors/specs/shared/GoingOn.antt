@@ -1,7 +1,7 @@
 -- How a client of a mount that threads share goes on, exchange by exchange. It holds of any such mount:
 -- what is known of where a client stands, and of what it did there, is the mount's own.
-use Rattle.std.proofs.Common.{◌≡◌, ◌↔◌, ◌∙◌, ℕ, ◌+◌, ◌≤◌, Bool, true, false, List, [], ◌∷◌, ◌++◌, Option, refl}
-use Rattle.std.proofs.Common.{subst}
+use Rattle.std.proofs.Common.{◌≡◌, ◌∙◌, ℕ, ◌+◌, ◌≤◌, Bool, true, false, List, [], ◌∷◌, ◌++◌, refl}
+use Rattle.std.proofs.Common.{◌↔◌, Option, subst}
 use Rattle.ov_base.specs.declared.errno.Errno.{Errno}
 use Rattle.ov_base.specs.declared.errno.Errno.TheVariants.{EINVAL, ENOMEM, ENOSPC}
 use Rattle.ov_base.specs.declared.reply.Reply.TheVariants.{Done}
@@ -76,11 +76,12 @@ GoesOn {S} ways old (exchange ∷ told) new =
 
 -- A WHOLE SESSION OF A CLIENT, by what is known of its source and sink: the client goes on as its
 -- exchanges tell, and is detached exactly where that is answered by a reply
-abbrev pub IsClientSession : {I K S : Type 0} → (I → Option (List ℕ)) → (K → Option (List ℕ)) → Ways S
-    → I → I → SessionOutput K → SessionOutput K → S → S → Ending → Type 0
+abbrev pub IsClientSession : {I K S : Type 0} → (I → Option (List ℕ)) → (K → Option (List ℕ))
+    → Ways S → I → I → SessionOutput K → SessionOutput K → S → S → Ending → Type 0
 IsClientSession remaining contents ways input input' output output' old new end =
     (told : List Exchange)
-    × (s : IsSessionOver remaining contents (GoesOn ways) input input' output output' [] told old new end)
+    × (s : IsSessionOver remaining contents (GoesOn ways)
+    input input' output output' [] told old new end)
     × ((ways.detached new ≡ true) ↔ IsReply s.farewell)
 
 module _ {S : Type 0} (ways : Ways S) where

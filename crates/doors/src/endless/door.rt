@@ -22,8 +22,8 @@ pub struct Client<N: BookName, F: Callback, R: Rule> {
     pub hooks: Option<Vec<Hook<F, R>>>,
 }
 
-/// A mount that many threads share, and a client of it that makes the calls of a session. The gate is asked before each step of a call, and ends the
-/// session where it says so.
+/// A mount that many threads share, and a client of it that makes the calls of a session. The gate
+/// is asked before each step of a call, and ends the session where it says so.
 #[derive(Drop)]
 pub struct EndlessDoor<'m, N: BookName, F: Callback, R: Rule, G: Gate, H: Wait> {
     pub(crate) rt: &'m H,
@@ -65,12 +65,10 @@ impl<'m, N: BookName, F: Callback + Drop, R: Rule, G: Gate, H: Wait> EndlessDoor
             (Departed result ∷ []) (stand self.new.client) }
         ensures gate { self.new.gate.now ≡ self.old.gate.now }
     {
-        match self
-            .mount
-            .detach(self.rt, self.client.session, &mut self.client.seen)
-        {
+        let client = &mut self.client;
+        match self.mount.detach(self.rt, client.session, &mut client.seen) {
             Ok((hooks, place)) => {
-                self.client.hooks = Some(hooks);
+                client.hooks = Some(hooks);
                 Answer::Replied {
                     place,
                     reply: Reply::Done,

@@ -22,10 +22,10 @@ pub struct Departure<N: BookName, F: Callback, R: Rule> {
     pub client: Client<N, F, R>,
 }
 
-/// Runs the session of a client. What it wrote is the frames of the answers to what it read, and each reply among them stands in the history of the
-/// mount, at the place that is told, as the front that is left has it. A call is held back only where
-/// the gate may stop it, and the client is detached, so that its hooks are handed back, unless the
-/// mount refused that.
+/// Runs the session of a client. What it wrote is the frames of the answers to what it read, and
+/// each reply among them stands in the history of the mount, at the place that is told, as the front
+/// that is left has it. A call is held back only where the gate may stop it, and the client is
+/// detached, so that its hooks are handed back, unless the mount refused that.
 pub fn run_session<N, F, R, G, H, S, K>(
     rt: &H,
     alloc: Global,

@@ -86,7 +86,8 @@ impl<'m, N: MountName, F: Callback + Drop, R: Rule, G: Gate, H: Wait> MountDoor<
         call: Snapshot<Call>,
         receipt: Receipt<N>,
     )
-        requires room { vec_len self.old.client.receipts + 1 < vec_capacity self.old.client.receipts }
+        requires room { let receipts = self.old.client.receipts in
+            vec_len receipts + 1 < vec_capacity receipts }
         requires client { next.client ≡ self.old.client.session.client }
         requires number { next.number ≡ self.old.client.session.number + 1 }
         requires call { IsCallOf receipt.entry self.old.client.session.client

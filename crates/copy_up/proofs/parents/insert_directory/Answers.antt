@@ -14,7 +14,9 @@ returns-clause-sets c = λ p h.
     rw c.in_ok-name.ensures.cases at (w.sets p (key-of c.args.layers.now.upper p c.args.dir h.attributes h.opaque h.redirect h.directory))
 
 pub returns-clause-vacant : goal.returns-clause-vacant
-returns-clause-vacant c = let w = rw c.upper_mut.ensures.value at c.in_ok-key.ensures in w.inserts.fresh
+returns-clause-vacant c =
+    let w = rw c.upper_mut.ensures.value at c.in_ok-key.ensures in
+    w.inserts.fresh
 
 pub returns-clause-keeps : goal.returns-clause-keeps
 returns-clause-keeps c =

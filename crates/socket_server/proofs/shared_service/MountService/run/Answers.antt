@@ -25,7 +25,8 @@ returns g c tags closes may new count =
       went = goes_with_more IsClaimed (λ (s : Standing). s.number) (λ (s : Standing). s.detached)
           (λ (s : Standing). MayHold stop s.client) (λ (s : Standing). MayHold (MayStop closes) s.client)
           (λ s h. (h.0, h.1, may s.client h.0 h.2))
-          (beginning c.args.client.session.client new.came) (stand left) (before ++ Departed s.farewell ∷ []) went;
+          (beginning c.args.client.session.client new.came) (stand left)
+          (before ++ Departed s.farewell ∷ []) went;
       detached = c.run_session-left.ensures.session.2.0;
       all = refl;
     } in
