@@ -1,11 +1,9 @@
 // What the directories of a merged directory have at their names.
-ghost use Rattle.std.specs.Prelude.{◌≡◌, List, ℕ, Option, Some, IsSome, IfOk, map, is_some, slice_get};
-ghost use Rattle.ov_base.specs.declared.place.Place as stack;
+ghost use Rattle.std.specs.Prelude.{◌≡◌, Some, IsSome, IfOk, map, slice_get};
 ghost use Rattle.std.specs.List.Sorted.{IsStrictlySortedBy};
 ghost use Rattle.merged_lookup.specs.Merged.{trees};
 ghost use Rattle.merged_lookup.specs.Descent.{topmost_in};
-ghost use Rattle.dir_listing.specs.Bound.{bound_of, by_name, found, shows_or, first_over};
-ghost use Rattle.dir_listing.specs.Bound.{AreThere, TellsShown};
+ghost use Rattle.dir_listing.specs.Bound.{bound_of, by_name, first_over, AreThere, TellsShown};
 
 use crate::merge::{keep_topmost, merged};
 use indexmap::map::Slice;
@@ -67,7 +65,7 @@ fn bounds_in<'a>(
     layer: &'a Layer,
     place: Place,
 ) -> Result<Vec<Bound<'a>>, AllocError>
-    ensures { IfOk result (λ v. (n : List ℕ) (below : Option stack.Place) → is_some (topmost_in (Some layer.now) place n below) ≡ shows_or (found n v.items) (is_some below)) }
+    ensures { IfOk result (λ v. TellsShown v.items (topmost_in (Some layer.now) place)) }
 {
     layer.lawful();
     collected(alloc, layer.entries(place.key))

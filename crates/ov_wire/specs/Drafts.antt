@@ -1,5 +1,5 @@
 -- A layer on its way while its entries are placed.
-use Rattle.std.specs.Prelude.{◌≡◌, ◌≢◌, codes, ℕ, Bool, true, false, not, ◌&&◌, ◌||◌, List, [], ◌∷◌, Option, Some, None, is_some, option_map, Result, Ok, Err, if◌then◌else◌}
+use Rattle.std.specs.Prelude.{◌≡◌, ◌≢◌, codes, ℕ, Bool, true, false, not, ◌&&◌, List, [], ◌∷◌, Option, Some, None, is_some, option_map, Result, Ok, Err, if◌then◌else◌}
 use Rattle.std.specs.List.{list_any}
 use Rattle.std.specs.Option.{option_and_then, option_map_or, unwrap_or}
 use Rattle.std.specs.Result.{result_ok}
@@ -9,8 +9,9 @@ use Rattle.ov_base.specs.declared.attributes.Attributes.{Attributes}
 use Rattle.ov_base.specs.Paths.{path_of_text}
 use Rattle.plain_model.specs.Layers.{Layer, Path, Object, Named, Inode, IsLayer, held}
 use Rattle.layer_tree.specs.Link.{with_more}
+use Rattle.layer_tree.specs.Tree.{Tree, layer_of}
 use Rattle.ov_wire.specs.ManifestEntries.{text_at, attributes_of}
-use Rattle.ov_wire.specs.ManifestLayers.{Entry, put_at, with_entry, root_of, is_inode, is_further, further_names, Stands, HoldsEntries, HoldsApart, LeadOn}
+use Rattle.ov_wire.specs.ManifestLayers.{Entry, put_at, root_of, is_inode, is_further, further_names, Stands, HoldsEntries, HoldsApart, LeadOn}
 use Rattle.ov_wire.specs.declared.manifest.entry.Item.{Item}
 use Rattle.ov_wire.specs.declared.manifest.entry.Item.TheVariants as put
 use Rattle.ov_wire.specs.declared.manifest.fault.EntryFault.{EntryFault}
@@ -42,11 +43,11 @@ Places root_is_set L a wanted (Err (error.Fault f)) = wanted ≡ Err f
 Places root_is_set L a wanted (Err (error.Memory e)) = Unit {0}
 
 -- so of a layer that is the draft of some entries, of which this holds
-abbrev pub PlacesNext : {T : Type 0} → (T → Bool) → Layer → Layer → Bool → (List Entry → Type 0)
+abbrev pub PlacesNext : {T : Type 0} → (T → Bool) → Tree → Tree → Bool → (List Entry → Type 0)
     → (List Entry → Result (List Entry) EntryFault) → Result T EntryError → Type 0
 PlacesNext root_is_set old new was_set Meets wanted result =
-    (a : Attributes) (before : List Entry) → IsDraft old a was_set before → Meets before →
-    Places root_is_set new a (wanted before) result
+    (a : Attributes) (before : List Entry) → IsDraft (layer_of old) a was_set before →
+    Meets before → Places root_is_set (layer_of new) a (wanted before) result
 
 -- whether an object of a layer is a name of an inode
 abbrev pub is_named : Option Object → Bool
@@ -68,13 +69,6 @@ LeadsTo L to_further (Some to) key = (to_further ≡ false) × (held L to ≡ So
 abbrev pub Tells : List Entry → Item → Bool → Type 0
 Tells before (put.Link (Some to)) to_further = to_further ≡ is_further (put_at before to)
 Tells before _ to_further = Unit {0}
-
--- an item is put at a path of the draft, and we know whether what it leads to is a further name
-abbrev pub PlacesItem : {T : Type 0} → (T → Bool) → Layer → Layer → Bool → Path → Item → Bool
-    → Result T EntryError → Type 0
-PlacesItem root_is_set old new was_set path item to_further result =
-    PlacesNext root_is_set old new was_set (λ before. Tells before item to_further)
-    (λ before. with_entry before path item) result
 
 -- the layer has this at the path, in a new inode if it is a file or symbolic link, and at every other path what it had; no inode is lost
 pub record Puts (old new : Layer) (path : Path) (i : Item) : Type 0 where
@@ -108,11 +102,6 @@ Plants old new path to_further i (Err (error.Memory e)) = Unit {0}
 -- whether a text is among these
 abbrev pub has_text : List (List ℕ) → List ℕ → Bool
 has_text texts text = list_any (bytes_eq text) texts
-
--- this text is among them too then
-abbrev pub AddsText : List (List ℕ) → List (List ℕ) → List ℕ → Type 0
-AddsText old new text =
-    (other : List ℕ) → has_text new other ≡ (bytes_eq other text || has_text old other)
 
 -- the texts are those of the paths of further names
 abbrev pub Lists : List (List ℕ) → List Entry → Type 0

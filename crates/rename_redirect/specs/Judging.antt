@@ -39,10 +39,6 @@ fit_fault l redirects p q full =
 abbrev pub IsFaultOf : Layers → Path → (Bool → Option Errno) → Errno → Type 0
 IsFaultOf l q fault e = (full : Bool) → (full ≡ false → ShowsNoName (layers_of l) q) → fault full ≡ Some e
 
--- what p shows is not moved to q, for this reason
-abbrev pub IsUnfit : Layers → Bool → Path → Path → Errno → Type 0
-IsUnfit l redirects p q e = IsFaultOf l q (fit_fault l redirects p q) e
-
 -- what p shows may take the place of what q shows
 pub record Fits (l : Layers) (redirects : Bool) (p q : Path) : Type 0 where
   pub fine : fit_fault l redirects p q false ≡ None

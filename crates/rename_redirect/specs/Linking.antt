@@ -1,10 +1,9 @@
 -- What link leaves of the upper (link(2); overlayfs.rst, "Non-directories": a file of a lower layer is copied up first).
-use Rattle.std.specs.Prelude.{◌≡◌, ◌≢◌, ◌⊎◌, ◌∷◌, ℕ, Bool, Option, Some, IsSome, is_some, true}
+use Rattle.std.specs.Prelude.{◌≡◌, ◌≢◌, ◌⊎◌, ℕ, Bool, Option, Some, IsSome, is_some, true}
 use Rattle.slab.specs.Slab.{get}
 use Rattle.ov_base.specs.declared.attributes.Attributes.{Attributes}
 use Rattle.ov_base.specs.declared.redirect.Redirect.{Redirect}
-use Rattle.plain_model.specs.Layers.{Name, Path, Directory, Inode, Layer, held, fill}
-use Rattle.plain_model.specs.Layers.{IsLayer, AreLayers}
+use Rattle.plain_model.specs.Layers.{Path, Directory, Inode, Layer, held, fill, IsLayer, AreLayers}
 use Rattle.plain_model.specs.Machine.{State}
 use Rattle.mount_laws.specs.Leaves.{PlacesLeaf}
 use Rattle.mount_laws.specs.Linking.{AddsName, GainsName, MakesName}
@@ -16,7 +15,7 @@ use Rattle.layer_tree.specs.Nameless.{IsNameless}
 use Rattle.merged_lookup.specs.declared.layers.Layers.{Layers}
 use Rattle.merged_lookup.specs.Merged.{upper_of, layers_of, lowers_of}
 use Rattle.copy_up.specs.Leaves.{copy_mark}
-use Rattle.copy_up.specs.Showing.{GainsParents, HasPlace, KeepsPath, ShowsSame}
+use Rattle.copy_up.specs.Showing.{GainsParents, KeepsPath, ShowsSame}
 
 -- every state of the machine with this option whose mount has the old layers goes on to one with the new layers by link
 abbrev pub LinkSteps : Layers → Layers → Bool → Path → Path → Type 0
@@ -64,12 +63,3 @@ pub record CopiesName (U V : Layer) (p q : Path) (i : Inode) : Type 0 where
   pub leaf : PlacesLeaf U copied p number i
   pub lawful : IsLayer U → IsLayer copied
   pub further : AddsName copied V p q
-
--- so it is of the upper before and after, at each two paths, not one, at which the names have their
--- places
-abbrev pub AtTwoPlaces :
-    Layers → Layers → ℕ → Name → ℕ → Name → (Layer → Layer → Path → Path → Type 0) → Type 0
-AtTwoPlaces old new from name to further P =
-    (p q : Path) → HasPlace (layer_of old.upper) from name p →
-    HasPlace (layer_of old.upper) to further q → further ∷ q ≢ name ∷ p →
-    P (layer_of old.upper) (layer_of new.upper) (name ∷ p) (further ∷ q)

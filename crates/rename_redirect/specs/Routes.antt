@@ -69,17 +69,11 @@ pub record MovesNew
     pub layer : IsLayer (layer_of old) → IsLayer (layer_of mid)
     pub moves : MovesEntry mid new p q left released
 
--- what stands at the route's first name moves to its last, along each two paths of the route
-abbrev pub MovesAlong : Tree → Tree → Route → Option ℕ → Type 0
-MovesAlong old new r released =
-    (p q : Path) → IsRoute (layer_of old) p q r →
-    MovesEntry old new (r.name.now ∷ p) (r.further.now ∷ q) (left_object r.covered) released
-
--- so of a new object
-abbrev pub MovesNewAlong : Tree → Tree → Route → Object → ℕ → Option ℕ → Type 0
-MovesNewAlong old new r o key released =
-    (p q : Path) → IsRoute (layer_of old) p q r →
-    MovesNew old new (r.name.now ∷ p) (r.further.now ∷ q) o (left_object r.covered) key released
+-- so it is of each two paths at which the route begins and ends, and of what is left at the first
+abbrev pub AlongRoute : Tree → Route → (Path → Path → Option layers.Object → Type 0) → Type 0
+AlongRoute t r P =
+    (p q : Path) → IsRoute (layer_of t) p q r →
+    P (r.name.now ∷ p) (r.further.now ∷ q) (left_object r.covered)
 
 -- The route is that of a move in the mount, from what is shown at its first name to where no name is shown below its last: the names are
 -- not of one inode, and the first is covered exactly where the lower layers show something there.

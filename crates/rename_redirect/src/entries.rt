@@ -4,7 +4,7 @@ ghost use Rattle.plain_model.specs.Layers.{Path as Names, IsLayer};
 ghost use Rattle.layer_tree.specs.Nameless.{IsNameless, KeepsObjects};
 ghost use Rattle.layer_tree.specs.MarkChange.{MarksDirectory, SetsMarks};
 ghost use Rattle.layer_tree.specs.Tree.{ROOT, layer_of, key_at, child, leads, leads_on, names_room, seen_object, IsDirectory, SameObjects};
-ghost use Rattle.rename_redirect.specs.Routes.{IsRoute, Leads, MovesAlong, MovesNewAlong};
+ghost use Rattle.rename_redirect.specs.Routes.{AlongRoute, IsRoute, Leads, MovesEntry, MovesNew};
 
 use crate::names::room_for_both;
 use layer_tree::{Layer, Marks, Object};
@@ -32,7 +32,8 @@ pub(crate) fn move_in_upper(
     requires route { (p q : Names) × IsRoute (layer_of layers.old.upper) p q route.now }
     requires leads { Leads layers.old.upper route.now }
     ensures lowers { layers.new.lowers ≡ layers.old.lowers }
-    ensures moved { IfOk result (MovesAlong layers.old.upper layers.new.upper route.now) }
+    ensures moved { IfOk result (λ released. AlongRoute layers.old.upper route.now (λ p q left.
+        MovesEntry layers.old.upper layers.new.upper p q left released)) }
     ensures unchanged { OnErr result (SameObjects (layer_of layers.old.upper) (layer_of layers.new.upper)) }
     ensures same { OnErr result (KeepsObjects layers.old.upper layers.new.upper None) }
     ensures keeps { IsLayer (layer_of layers.old.upper) → IsLayer (layer_of layers.new.upper) }
@@ -49,7 +50,8 @@ fn move_reserved(upper: &mut Layer, route: &Route<'_>, further: Name) -> Option<
     requires leads { Leads upper.old route.now }
     requires further { further ≡ route.now.further.now }
     requires room { 0 < names_room upper.old route.now.to }
-    ensures moved { MovesAlong upper.old upper.new route.now result }
+    ensures moved { AlongRoute upper.old route.now (λ p q left.
+        MovesEntry upper.old upper.new p q left result) }
     ensures keeps { IsLayer (layer_of upper.old) → IsLayer (layer_of upper.new) }
 {
     upper.lawful();
@@ -69,8 +71,8 @@ pub(crate) fn insert_and_move(
     requires free { child layers.old.upper route.now.from route.now.name.now ≡ None }
     requires redirect { IsTrue (leads_on (Some (seen_object 0 object))) }
     ensures lowers { layers.new.lowers ≡ layers.old.lowers }
-    ensures moved { IfOk result (λ keys.
-        MovesNewAlong layers.old.upper layers.new.upper route.now object keys.0 keys.1) }
+    ensures moved { IfOk result (λ keys. AlongRoute layers.old.upper route.now (λ p q left.
+        MovesNew layers.old.upper layers.new.upper p q object left keys.0 keys.1)) }
     ensures unchanged { OnErr result (SameObjects (layer_of layers.old.upper) (layer_of layers.new.upper)) }
     ensures same { OnErr result (KeepsObjects layers.old.upper layers.new.upper None) }
     ensures keeps { IsLayer (layer_of layers.old.upper) → IsLayer (layer_of layers.new.upper) }

@@ -6,7 +6,7 @@ ghost use Rattle.mount_laws.specs.Linking.{AddsName};
 ghost use Rattle.layer_tree.specs.Nameless.{KeepsObjects};
 ghost use Rattle.layer_tree.specs.Tree.{layer_of, new_inode, names_room, IsDirectory, SameObjects, SameTree};
 ghost use Rattle.copy_up.specs.Showing.{AtPlace, HasPlace};
-ghost use Rattle.rename_redirect.specs.Linking.{AtTwoPlaces, CopiesName, KeepsDirectories};
+ghost use Rattle.rename_redirect.specs.Linking.{CopiesName, KeepsDirectories};
 
 use layer_tree::{Layer, Object};
 use merged_lookup::Layers;
@@ -50,10 +50,12 @@ pub(crate) fn insert_in_upper(
     requires places { (p q : Names) × HasPlace (layer_of layers.old.upper) from name.now p × HasPlace (layer_of layers.old.upper) to further.now q × (further.now ∷ q ≢ name.now ∷ p) }
     requires leaf { (i : Inode) × (new_inode object ≡ Some i) }
     ensures lowers { layers.new.lowers ≡ layers.old.lowers }
-    ensures key { IfOk result (λ key. AtTwoPlaces layers.old layers.new from name.now to
-        further.now (λ U V x y. held V x ≡ Some (Named key))) }
-    ensures copied { OnOk result (AtTwoPlaces layers.old layers.new from name.now to further.now
-        (λ U V x y. (i : Inode) → new_inode object ≡ Some i → CopiesName U V x y i)) }
+    ensures key { IfOk result (λ key. let P = AtPlace layers.old layers.new in
+        P from name.now (λ U V x. P to further.now (λ U V y.
+        y ≢ x → held V x ≡ Some (Named key)))) }
+    ensures copied { OnOk result (let P = AtPlace layers.old layers.new in
+        P from name.now (λ U V x. P to further.now (λ U V y. (i : Inode) →
+        y ≢ x → new_inode object ≡ Some i → CopiesName U V x y i))) }
     ensures directories { OnOk result (KeepsDirectories (layer_of layers.old.upper) (layer_of layers.new.upper)) }
     ensures objects { OnOk result ((key : ℕ) × KeepsObjects layers.old.upper layers.new.upper (Some key)) }
     ensures unchanged { OnErr result (SameObjects (layer_of layers.old.upper) (layer_of layers.new.upper)) }

@@ -9,7 +9,7 @@ ghost use Rattle.merged_lookup.specs.Merged.{upper_of, layers_of, lowers_of, IsF
 ghost use Rattle.copy_up.specs.Showing.{ChangesNoSight, StaysLayers, StaysThin};
 ghost use Rattle.copy_up.specs.Texts.{KeepsTexts};
 ghost use Rattle.rename_redirect.specs.Linking.{GainsBoth};
-ghost use Rattle.rename_redirect.specs.Judging.{IsSeen, named_key, IsFaultOf, IsUnfit, Fits, MayMove};
+ghost use Rattle.rename_redirect.specs.Judging.{IsSeen, named_key, fit_fault, IsFaultOf, Fits, MayMove};
 ghost use Rattle.rename_redirect.specs.Renaming.{is_one, rename_fault, DoesRename, RenameSteps};
 
 use crate::moves::{move_placed, place_ways};
@@ -171,7 +171,8 @@ fn fits(
     redirects: bool,
 ) -> Result<(), Errno>
     ensures refused { IfErr result (λ e. (p q : Names) → IsFound layers.now p found.now →
-        IsAnswer layers.now q target.now → IsUnfit layers.now redirects p q e) }
+        IsAnswer layers.now q target.now →
+        IsFaultOf layers.now q (fit_fault layers.now redirects p q) e) }
     ensures fits { OnOk result ((p q : Names) → IsFound layers.now p found.now → IsAnswer layers.now q target.now → Fits layers.now redirects p q) }
 {
     match found {
@@ -195,9 +196,9 @@ fn directory_fits(
     target: &Option<Found>,
     redirects: bool,
 ) -> Result<(), Errno>
-    ensures refused { IfErr result (λ e. (p q : Names) →
-        ShowsDirectory layers.now p stack.now.places.items →
-        IsAnswer layers.now q target.now → IsUnfit layers.now redirects p q e) }
+    ensures refused { IfErr result (λ e. let l = layers.now in (p q : Names) →
+        ShowsDirectory l p stack.now.places.items → IsAnswer l q target.now →
+        IsFaultOf l q (fit_fault l redirects p q) e) }
     ensures fits { OnOk result ((p q : Names) → ShowsDirectory layers.now p stack.now.places.items → IsAnswer layers.now q target.now → Fits layers.now redirects p q) }
 {
     let redirected = needs_redirect(stack, redirects);

@@ -13,11 +13,6 @@ use Rattle.doors.specs.shared.GoingOn.{IsReply}
 abbrev pub MayStop : Bool → ℕ → ℕ → Type 0
 MayStop closes client step = closes ≡ true
 
--- a gate stops a call only there
-abbrev pub StopsByClosing : (ℕ → ℕ → Type 0) → Bool → Type 0
-StopsByClosing may_stop closes =
-    (client step : ℕ) → may_stop client step → MayStop closes client step
-
 -- where a client stands that was just attached
 abbrev pub beginning : ℕ → Claim → Standing
 beginning client came = record {

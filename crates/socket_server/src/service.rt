@@ -1,6 +1,5 @@
 // What workers serve: a mount to which a client of each connection is attached.
-ghost use Rattle.std.specs.Prelude.{Bool, IfOk, OnOk, map};
-ghost use Rattle.socket_server.specs.Clients.{StopsByClosing};
+ghost use Rattle.std.specs.Prelude.{◌≡◌, Bool, IfOk, OnOk, map, true};
 ghost use Rattle.socket_server.specs.Working.{KeepsOneMore};
 
 use crate::connection::Connection;
@@ -97,7 +96,8 @@ pub(crate) trait Service {
     ) -> Ended
         requires room { has_room kept.old }
         requires is_new { is_new kept.old client }
-        ensures { (tags : List ℕ) (closes : Bool) → StopsByClosing (G.may_stop gate.now) closes →
+        ensures { (tags : List ℕ) (closes : Bool) →
+            ((n step : ℕ) → G.may_stop gate.now n step → closes ≡ true) →
             comes tags client →
             KeepsOneMore (keeps tags closes) kept.old kept.new result.detached };
 

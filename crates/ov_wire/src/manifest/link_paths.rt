@@ -1,6 +1,6 @@
 // The paths at which the entries of kind `link` of a layer stand.
-ghost use Rattle.std.specs.Prelude.{◌≡◌, [], OnOk};
-ghost use Rattle.ov_wire.specs.Drafts.{AddsText, has_text};
+ghost use Rattle.std.specs.Prelude.{◌≡◌, ℕ, List, [], ◌||◌, OnOk, OnErr, bytes_eq};
+ghost use Rattle.ov_wire.specs.Drafts.{has_text};
 
 use ov_base::Bytes;
 use std::alloc::{AllocError, Global};
@@ -38,7 +38,7 @@ impl LinkPaths {
     }
 
     pub(super) fn add(&mut self, text: Bytes) -> Result<(), AllocError>
-        ensures { OnOk result (AddsText self.old self.new text) }
+        ensures { OnOk result ((other : List ℕ) → has_text self.new other ≡ (bytes_eq other text || has_text self.old other)) }
     {
         self.texts.insert(text)?;
         Ok(())

@@ -1,14 +1,14 @@
 // A layer from its entries, each placed in turn.
-ghost use Rattle.std.specs.Prelude.{◌≡◌, ◌∷◌, codes, ℕ, List, Bool, false, Some, None, Ok, Err, IfSome, IfNone, IfErr, IfOk, OnOk, IsTrue, IsSome, ◌↔◌, true, reverse, is_some, not, ◌&&◌, if◌then◌else◌};
+ghost use Rattle.std.specs.Prelude.{◌≡◌, ◌∷◌, ◌||◌, codes, bytes_eq, ℕ, List, Bool, false, Some, None, Ok, Err, IfSome, IfNone, IfErr, IfOk, OnOk, IsTrue, IsSome, ◌↔◌, true, reverse, is_some, not, ◌&&◌, if◌then◌else◌};
 ghost use Rattle.std.specs.Option.{option_map_or};
 ghost use Rattle.toml.specs.View.{view, table_view, items_view};
 ghost use Rattle.plain_model.specs.Layers.{IsLayer, Named, held, holds_directory};
 ghost use Rattle.layer_tree.specs.Tree.{IsDirectory, layer_of, key_at, entry, inode_at as inode_under};
 ghost use Rattle.ov_wire.specs.ManifestEntries.{IsPlaceable, text_at as spelled_at};
-ghost use Rattle.ov_wire.specs.ManifestLayers.{HasNoMark, ReadsLayer, with_spelled, is_directory, is_further};
+ghost use Rattle.ov_wire.specs.ManifestLayers.{HasNoMark, ReadsLayer, with_entry, with_spelled, is_directory, is_further};
 ghost use Rattle.ov_wire.specs.ManifestLayers.{Entry as PutEntry};
 ghost use Rattle.ov_wire.specs.Drafts as draft;
-ghost use Rattle.ov_wire.specs.Drafts.{AddsText, Lists, PlacesItem, PlacesNext, Plants, LeadsTo, is_named, leads_in, has_text};
+ghost use Rattle.ov_wire.specs.Drafts.{Lists, Tells, PlacesNext, Plants, LeadsTo, is_named, leads_in, has_text};
 ghost use Rattle.ov_wire.specs.declared.manifest.entry.Item.TheVariants as PutItem;
 ghost use Rattle.ov_wire.specs.Manifests.{IsOfEntry};
 
@@ -108,9 +108,8 @@ fn read_entry(
 ) -> Result<bool, EntryError>
     ensures keeps { IsLayer (layer_of layer.old) → IsLayer (layer_of layer.new) }
     ensures unmarked { HasNoMark (layer_of layer.old) → HasNoMark (layer_of layer.new) }
-    ensures places { PlacesNext (λ is_set. is_set) (layer_of layer.old) (layer_of layer.new)
-        root_is_set (Lists links.old)
-        (λ before. with_spelled limit blobs.now before (view entry.now)) result }
+    ensures places { PlacesNext (λ is_set. is_set) layer.old layer.new root_is_set
+        (Lists links.old) (λ before. with_spelled limit blobs.now before (view entry.now)) result }
     ensures lists { OnOk result ((before after : List PutEntry) → Lists links.old before → with_spelled limit blobs.now before (view entry.now) ≡ Ok after → Lists links.new after) }
 {
     let Some(entry) = entry.as_table() else {
@@ -145,7 +144,8 @@ fn is_listed(alloc: Global, links: &LinkPaths, entry: &Table) -> Result<bool, Al
 // Adds the path of an entry.
 fn list(alloc: Global, links: &mut LinkPaths, entry: &Table) -> Result<(), AllocError>
     ensures { OnOk result ((text : List ℕ) → spelled_at (codes "path") (table_view entry.now)
-        ≡ Some text → AddsText links.old links.new text) }
+        ≡ Some text → (x : List ℕ) →
+        has_text links.new x ≡ (bytes_eq x text || has_text links.old x)) }
 {
     if let Some(path) = text_at(entry, "path") {
         links.add(Bytes::from_slice(alloc, path.as_bytes())?)?;
@@ -164,8 +164,8 @@ fn put(
     requires { IsPlaceable item }
     ensures keeps { IsLayer (layer_of layer.old) → IsLayer (layer_of layer.new) }
     ensures unmarked { HasNoMark (layer_of layer.old) → HasNoMark (layer_of layer.new) }
-    ensures places { PlacesItem (λ is_set. is_set) (layer_of layer.old) (layer_of layer.new)
-        root_is_set path.now item to_further result }
+    ensures places { PlacesNext (λ is_set. is_set) layer.old layer.new root_is_set
+        (λ before. Tells before item to_further) (λ before. with_entry before path.now item) result }
 {
     let Some((name, parents)) = path.split_last() else {
         check_root(root_is_set, &item)?;
@@ -196,8 +196,9 @@ fn place(
     requires { IsPlaceable item }
     ensures keeps { IsLayer (layer_of layer.old) → IsLayer (layer_of layer.new) }
     ensures unmarked { HasNoMark (layer_of layer.old) → HasNoMark (layer_of layer.new) }
-    ensures places { (set : Bool) → PlacesItem (λ _. set) (layer_of layer.old)
-        (layer_of layer.new) set (name.now ∷ reverse parents.now) item to_further result }
+    ensures places { (set : Bool) → PlacesNext (λ _. set) layer.old layer.new set
+        (λ before. Tells before item to_further)
+        (λ before. with_entry before (name.now ∷ reverse parents.now) item) result }
 {
     layer.lawful();
     let Some(parent) = directory_at(layer, parents) else {

@@ -10,5 +10,6 @@ use Rattle.dir_listing.proofs.bound.bounds_in.Goals as goal
 pub returns : goal.returns
 returns c =
     IfOk-weaker c.collected.result _ _ (λ v is n below.
-    entry-decides c.args.layer.now c.lawful.ensures.tree c.args.place.key c.args.place.layer n below
-    ∙ ap (λ e. shows_or e (is_some below)) (sym (ap (λ (es : List (List ℕ × Entry)). lookup (bytes_eq n) es) is ∙ c.entries.ensures.entries n))) c.collected.ensures
+    ap (λ e. shows_or e (is_some below))
+    (ap (λ (es : List (List ℕ × Entry)). lookup (bytes_eq n) es) is ∙ c.entries.ensures.entries n)
+    ∙ sym (entry-decides c.args.layer.now c.lawful.ensures.tree c.args.place.key c.args.place.layer n below)) c.collected.ensures

@@ -70,7 +70,7 @@ returns-clause-linked c =
     let shown = sym (ap (shows 0 (layers_of l1)) c.in-Some.ensures) ∙ c.place_both.ensures.shown (Some i) found.1 ∙ ap (λ j. Some (Contents j c.args.found.2.key (Some i))) s.1 in
     let absent = same.absent (m ∷ u) (sym (ap (shows 0 (layers_of l0)) c.in-Some-split_last.ensures) ∙ c.requires.may.absent) in
     let made = found.2 in
-    let copy = c.in_ok-key.ensures.copied t u from onto (λ e. out [] e) made.copy made.is in
+    let copy = c.in_ok-key.ensures.copied t from u onto made.copy (λ e. out [] e) made.is in
     let marks = ap is_some made.mark ∙ marks-file c.args.metacopy (layer_of l0.upper) c.args.old.now i.content in
     let content = ap (λ (Ls : List Layer). content_over Ls made.copy.mark made.copy.content) (lowers-same l0 l1 same.lowers) ∙ made.content in
     let objects = c.in_ok-key.ensures.objects in
@@ -103,7 +103,7 @@ returns-clause-sound c =
     let shown = sym (ap (shows 0 (layers_of l1)) c.in-Some.ensures) ∙ c.place_both.ensures.shown (Some i) found.1 ∙ ap (λ j. Some (Contents j c.args.found.2.key (Some i))) s.1 in
     let absent = same.absent (m ∷ u) (sym (ap (shows 0 (layers_of l0)) c.in-Some-split_last.ensures) ∙ c.requires.may.absent) in
     let made = found.2 in
-    let copy = c.in_ok-key.ensures.copied t u from onto (λ e. out [] e) made.copy made.is in
+    let copy = c.in_ok-key.ensures.copied t from u onto made.copy (λ e. out [] e) made.is in
     let marks = ap is_some made.mark ∙ marks-file c.args.metacopy (layer_of l0.upper) c.args.old.now i.content in
     let content = ap (λ (Ls : List Layer). content_over Ls made.copy.mark made.copy.content) (lowers-same l0 l1 same.lowers) ∙ made.content in
     record {
@@ -120,7 +120,7 @@ returns-clause-key c =
     let from = c.in_ok-from.ensures.from n t c.in-Some.ensures in
     let onto = c.in_ok-from.ensures.onto m u c.in-Some-split_last.ensures in
     let out = outside-split c.args.layers.now c.args.old.now c.args.new.now n t m u c.in-Some.ensures c.in-Some-split_last.ensures c.args.found.2.layer c.args.found.2.key c.requires.may.shown.inode c.requires.may.parents c.requires.may.absent c.requires.may.shown.shown in
-    ap (held (layer_of c.insert_in_upper.new.layers.upper)) c.in-Some.ensures ∙ c.in_ok-key.ensures.key t u from onto (λ e. out [] e)
+    ap (held (layer_of c.insert_in_upper.new.layers.upper)) c.in-Some.ensures ∙ c.in_ok-key.ensures.key t from u onto (λ e. out [] e)
 
 pub returns-in_err-key-clause-sound : goal.returns-in_err-key-clause-sound
 returns-in_err-key-clause-sound c =
@@ -143,7 +143,7 @@ returns-clause-texts c =
     let out = outside-split c.args.layers.now c.args.old.now c.args.new.now n t m u c.in-Some.ensures c.in-Some-split_last.ensures c.args.found.2.layer c.args.found.2.key c.requires.may.shown.inode c.requires.may.parents c.requires.may.absent c.requires.may.shown.shown in
     let found = c.in_ok-copy.ensures in
     let made = found.2 in
-    let copy = c.in_ok-key.ensures.copied t u from onto (λ e. out [] e) made.copy made.is in
+    let copy = c.in_ok-key.ensures.copied t from u onto made.copy (λ e. out [] e) made.is in
     let text = below (layer_of l0.upper) c.args.old.now in
     marks-then (layer_of l0.upper) (layer_of l1.upper) (layer_of l2.upper) (Some text)
     (marks-same (layer_of l0.upper) (layer_of l1.upper) (Some text) stays.inodes)

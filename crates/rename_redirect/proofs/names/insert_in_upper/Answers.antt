@@ -39,7 +39,7 @@ link-requires-clause-no_object c =
     w.inserts w.sets c.requires.places.0 c.requires.places.2 c.args.to c.args.further.now c.requires.places.1 c.requires.places.3 c.requires.places.4))
 
 pub returns-clause-copied : goal.returns-clause-copied
-returns-clause-copied c = λ p q f g off i is.
+returns-clause-copied c = λ p f q g i off is.
     let r = rw c.upper_mut.ensures.value at c.room_for_both.ensures in
     let w = rw (c.upper_mut-2.ensures.value, c.in_ok-name.ensures.cases) at c.insert_reserved-key.ensures in
     let k = rw (c.upper_mut-3.ensures.value, c.in_ok-further.ensures.cases) at c.in_ok-link.ensures in
@@ -69,7 +69,7 @@ returns-clause-objects c =
     )
 
 pub returns-clause-key : goal.returns-clause-key
-returns-clause-key c = λ p q f g off.
+returns-clause-key c = λ p f q g off.
     let r = rw c.upper_mut.ensures.value at c.room_for_both.ensures in
     let w = rw (c.upper_mut-2.ensures.value, c.in_ok-name.ensures.cases) at c.insert_reserved-key.ensures in
     let k = rw (c.upper_mut-3.ensures.value, c.in_ok-further.ensures.cases) at c.in_ok-link.ensures in

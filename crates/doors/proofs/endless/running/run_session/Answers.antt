@@ -1,4 +1,4 @@
-use Rattle.std.proofs.Common.{◌∙◌, false, List, [], ◌∷◌, ◌++◌, ap, is_some}
+use Rattle.std.proofs.Common.{◌∙◌, List, [], ◌∷◌, ◌++◌, ap}
 use Rattle.ov_session.specs.declared.exchange.Exchange.{Exchange}
 use Rattle.ov_session.specs.declared.exchange.Exchange.TheVariants.{Departed}
 use Rattle.doors.specs.shared.Exchanges.{told_in}

@@ -1,4 +1,4 @@
-use Rattle.std.proofs.Common.{◌≡◌, ◌∙◌, ap, is_some, refl}
+use Rattle.std.proofs.Common.{◌∙◌, ap, is_some, refl}
 use Rattle.ov_base.specs.declared.errno.Errno.TheVariants.{ENOMEM}
 use Rattle.ov_frames.specs.declared.answer.Answer.TheVariants.{NotTaken}
 use Rattle.locked_history.specs.declared.session.Refused.TheVariants.{Memory}
