@@ -5,10 +5,11 @@ use Rattle.ov_base.specs.declared.attributes.Attributes.{Attributes}
 use Rattle.ov_base.specs.declared.redirect.Redirect.{Redirect}
 use Rattle.plain_model.specs.Laws.{Placed, IsOutside}
 use Rattle.plain_model.specs.Machine.{State}
-use Rattle.plain_model.specs.Layers.{AreLayers, Folder, Name, Path, Object, Directory, Named, Layer, held, holds_directory, below, cuts, shows}
+use Rattle.plain_model.specs.Layers.{IsLayer, AreLayers, Folder, Name, Path, Object, Directory, Named}
+use Rattle.plain_model.specs.Layers.{Layer, held, holds_directory, below, cuts, shows}
 use Rattle.plain_model.specs.Tree.{Sight, merged, IsThin}
 use Rattle.mount_laws.specs.Looks.{IsMountOf}
-use Rattle.layer_tree.specs.Tree.{layer_of, inode_at}
+use Rattle.layer_tree.specs.Tree.{layer_of, inode_at, SameObjects}
 use Rattle.layer_tree.specs.Nameless.{KeepsObjects}
 use Rattle.merged_lookup.specs.declared.layers.Layers.{Layers}
 use Rattle.merged_lookup.specs.Merged.{upper_of, layers_of, lowers_of}
@@ -92,6 +93,14 @@ AtPlace old new dir n P =
 -- the upper holds no directory at the path
 abbrev pub HoldsNoDirectory : Layers → Path → Type 0
 HoldsNoDirectory l p = holds_directory (held (layer_of l.upper) p) ≡ false
+
+-- the upper holds the same at every path
+abbrev pub HoldsSame : Layers → Layers → Type 0
+HoldsSame old new = SameObjects (layer_of old.upper) (layer_of new.upper)
+
+-- an upper that is a layer stays one
+abbrev pub StaysLayer : Layers → Layers → Type 0
+StaysLayer old new = IsLayer (layer_of old.upper) → IsLayer (layer_of new.upper)
 
 -- layers that are layers stay so
 abbrev pub StaysLayers : Layers → Layers → Type 0

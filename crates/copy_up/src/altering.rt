@@ -3,13 +3,13 @@ ghost use Rattle.std.specs.Prelude.{◌≡◌, ◌≢◌, ◌<◌, ◌∷◌, �
 ghost use Rattle.slab.specs.Slab.{get};
 ghost use Rattle.ov_base.specs.AttributeChanges.{changed};
 ghost use Rattle.ov_base.specs.declared.attributes.Attributes.{Attributes as AttributesOf};
-ghost use Rattle.plain_model.specs.Layers.{Name, Path as Names, Inode, Folder, held, shows, is_directory, IsLayer, AreLayers};
+ghost use Rattle.plain_model.specs.Layers.{Name, Path as Names, Inode, Folder, held, shows, is_directory, AreLayers};
 ghost use Rattle.mount_laws.specs.Altered.{Alters};
 ghost use Rattle.layer_tree.specs.AttributeChange.{ChangesAttributes, SetsAttributes, SetsInode, SetsDirectory};
 ghost use Rattle.layer_tree.specs.Nameless.{IsNameless};
 ghost use Rattle.layer_tree.specs.Tree.{layer_of, key_at, inode_at, IsDirectory};
 ghost use Rattle.merged_lookup.specs.Merged.{upper_of, layers_of, lowers_of, parent, parents_fault, way_fault, top_of, IsStackOf, IsTopmost, ShowsAs, ShowsInode};
-ghost use Rattle.copy_up.specs.Showing.{number_of, ShowsSame, ChangesNoSight, GainsParents, Stays, StaysSound};
+ghost use Rattle.copy_up.specs.Showing.{number_of, ShowsSame, ChangesNoSight, GainsParents, Stays, StaysSound, StaysLayer};
 ghost use Rattle.copy_up.specs.Leaves.{CopiesShown, IsCopyMark};
 ghost use Rattle.copy_up.specs.Altering.{AltersObject, AltersAs, AltersObjectAs};
 ghost use Rattle.copy_up.specs.Texts.{KeepsTexts};
@@ -248,7 +248,7 @@ fn alter_upper(
     ensures changes { OnOk result
         (ChangesAttributes layers.old.upper layers.new.upper key change) }
     ensures unchanged { OnErr result (layers.new.upper ≡ layers.old.upper) }
-    ensures keeps { IsLayer (layer_of layers.old.upper) → IsLayer (layer_of layers.new.upper) }
+    ensures keeps { StaysLayer layers.old layers.new }
     ensures nameless { (k : ℕ) → IsNameless layers.old.upper k → IsNameless layers.new.upper k }
 {
     layers.upper_mut().alter(key, change)?;
@@ -262,7 +262,7 @@ fn set_attributes(layers: &mut Layers, key: usize, attributes: Attributes)
     ensures sets { SetsAttributes layers.old.upper layers.new.upper key attributes }
     ensures inode { (i : Inode) → inode_at layers.old.upper key ≡ Some i → SetsInode (layer_of layers.old.upper) (layer_of layers.new.upper) key attributes }
     ensures directory { (p : Names) → key_at layers.old.upper p ≡ Some key → IsDirectory layers.old.upper key → SetsDirectory (layer_of layers.old.upper) (layer_of layers.new.upper) p key attributes }
-    ensures keeps { IsLayer (layer_of layers.old.upper) → IsLayer (layer_of layers.new.upper) }
+    ensures keeps { StaysLayer layers.old layers.new }
     ensures nameless { (k : ℕ) → IsNameless layers.old.upper k → IsNameless layers.new.upper k }
 {
     layers.upper_mut().set_attributes(key, attributes);

@@ -1,14 +1,14 @@
 // Marked files of the upper that get bytes of their own.
 ghost use Rattle.std.specs.Prelude.{◌≡◌, ℕ, List, Some, None, IsSome, IfOk, OnOk, OnErr};
-ghost use Rattle.plain_model.specs.Layers.{Path, Inode, shows, IsLayer};
+ghost use Rattle.plain_model.specs.Layers.{Path, Inode, shows};
 ghost use Rattle.ov_base.specs.declared.bytes.Content.TheVariants.{File};
 ghost use Rattle.mount_laws.specs.OpenFiles.{ChangesFile};
 ghost use Rattle.layer_tree.specs.ContentChange.{SetsBytes};
 ghost use Rattle.layer_tree.specs.Nameless.{IsNameless};
-ghost use Rattle.layer_tree.specs.Tree.{layer_of, bytes_at, own_at, mark_at, SameObjects};
+ghost use Rattle.layer_tree.specs.Tree.{layer_of, bytes_at, own_at, mark_at};
 ghost use Rattle.merged_lookup.specs.Marking.{file_place};
 ghost use Rattle.merged_lookup.specs.Merged.{upper_of, lowers_of};
-ghost use Rattle.copy_up.specs.Showing.{StaysSound};
+ghost use Rattle.copy_up.specs.Showing.{StaysSound, HoldsSame, StaysLayer};
 ghost use Rattle.copy_up.specs.Texts.{KeepsTexts};
 
 use layer_tree::{Layer, Node};
@@ -30,7 +30,7 @@ pub fn fill(layers: &mut Layers, key: usize, source: Option<Place>) -> Result<()
     ensures own { OnOk result (IsSome (own_at layers.new.upper key)) }
     ensures texts { KeepsTexts layers.old layers.new None }
     ensures lowers { layers.new.lowers ≡ layers.old.lowers }
-    ensures objects { SameObjects (layer_of layers.old.upper) (layer_of layers.new.upper) }
+    ensures objects { HoldsSame layers.old layers.new }
     ensures nameless { (k : ℕ) → IsNameless layers.old.upper k → IsNameless layers.new.upper k }
     ensures sound { StaysSound layers.old layers.new }
     ensures no_memory { OnErr result (layers.new ≡ layers.old) }
@@ -77,7 +77,7 @@ fn set_bytes(layers: &mut Layers, key: usize, bytes: FileBytes)
     requires { IsSome (bytes_at layers.old.upper key) }
     ensures lowers { layers.new.lowers ≡ layers.old.lowers }
     ensures sets { SetsBytes (layer_of layers.old.upper) (layer_of layers.new.upper) key bytes }
-    ensures keeps { IsLayer (layer_of layers.old.upper) → IsLayer (layer_of layers.new.upper) }
+    ensures keeps { StaysLayer layers.old layers.new }
     ensures nameless { (k : ℕ) → IsNameless layers.old.upper k → IsNameless layers.new.upper k }
 {
     layers.upper_mut().fill(key, bytes);

@@ -1,12 +1,12 @@
 // Files and symbolic links in the upper: new ones, and those of lower layers copied up.
 ghost use Rattle.std.specs.Prelude.{◌≡◌, ◌<◌, ◌∷◌, Some, None, IsSome, true, reverse, IfOk, OnErr};
 ghost use Rattle.slab.specs.Slab.{get};
-ghost use Rattle.plain_model.specs.Layers.{Path as Names, Inode, below, is_file, IsLayer};
+ghost use Rattle.plain_model.specs.Layers.{Path as Names, Inode, below, is_file};
 ghost use Rattle.mount_laws.specs.Leaves.{PlacesLeaf};
 ghost use Rattle.layer_tree.specs.Nameless.{KeepsObjects};
-ghost use Rattle.layer_tree.specs.Tree.{layer_of, new_inode, SameObjects};
+ghost use Rattle.layer_tree.specs.Tree.{layer_of, new_inode};
 ghost use Rattle.merged_lookup.specs.Merged.{layers_of, way_fault, IsStackOf, ShowsAs, ShowsInode};
-ghost use Rattle.copy_up.specs.Showing.{AtPlace, ChangesNoSight, HasPlace, GainsParents, StaysSound};
+ghost use Rattle.copy_up.specs.Showing.{AtPlace, ChangesNoSight, HasPlace, GainsParents, StaysSound, HoldsSame, StaysLayer};
 ghost use Rattle.copy_up.specs.Leaves.{CopiesBy, CopiesShown, IsCopyMark};
 
 use crate::parents::{place_parents, placed_or};
@@ -138,11 +138,11 @@ pub fn insert_leaf(
     ensures lowers { layers.new.lowers ≡ layers.old.lowers }
     ensures placed { IfOk result (λ key. AtPlace layers.old layers.new dir name.now (λ U V x.
         (i : Inode) → new_inode object ≡ Some i → PlacesLeaf U V x key i)) }
-    ensures unchanged { OnErr result (SameObjects (layer_of layers.old.upper) (layer_of layers.new.upper)) }
+    ensures unchanged { OnErr result (HoldsSame layers.old layers.new) }
     ensures vacant { IfOk result (λ key. get layers.old.upper key ≡ None) }
     ensures objects { IfOk result (λ key. KeepsObjects layers.old.upper layers.new.upper (Some key)) }
     ensures same { OnErr result (KeepsObjects layers.old.upper layers.new.upper None) }
-    ensures keeps { IsLayer (layer_of layers.old.upper) → IsLayer (layer_of layers.new.upper) }
+    ensures keeps { StaysLayer layers.old layers.new }
 {
     layers.lawful();
     let name = name.clone()?;

@@ -1,9 +1,9 @@
 // Which parents of a path the upper lacks, and placing them one at a time.
 ghost use Rattle.std.specs.Prelude.{◌≡◌, ◌∷◌, Some, None, true, reverse, IfSome, OnSome, OnOk, OnErr};
 ghost use Rattle.plain_model.specs.Layers.{Path as Names, held, shows, is_directory, holds_directory};
-ghost use Rattle.layer_tree.specs.Tree.{layer_of, key_at, SameObjects};
+ghost use Rattle.layer_tree.specs.Tree.{layer_of, key_at};
 ghost use Rattle.merged_lookup.specs.Merged.{layers_of, parents_fault, way_fault, IsStackOf};
-ghost use Rattle.copy_up.specs.Showing.{HoldsNoDirectory, ShowsSame, Stays};
+ghost use Rattle.copy_up.specs.Showing.{HoldsNoDirectory, ShowsSame, Stays, HoldsSame};
 ghost use Rattle.copy_up.specs.Showing.{GainsParent, GainsParents};
 ghost use Rattle.copy_up.specs.Needs.{IsNeed, first_names};
 
@@ -67,7 +67,7 @@ pub fn place_dir(layers: &mut Layers, path: &Path, count: usize) -> Result<(), A
     requires needed { IsNeed (layer_of layers.old.upper) path.now (Need.Directory count) }
     ensures same { ShowsSame layers.old layers.new }
     ensures placed { OnOk result (GainsParent layers.old layers.new (first_names count path.now)) }
-    ensures unchanged { OnErr result (SameObjects (layer_of layers.old.upper) (layer_of layers.new.upper)) }
+    ensures unchanged { OnErr result (HoldsSame layers.old layers.new) }
     ensures gains { GainsParents layers.old layers.new path.now }
     ensures stays { Stays layers.old layers.new }
 {

@@ -2,12 +2,12 @@
 ghost use Rattle.std.specs.Prelude.{◌≡◌, ◌∷◌, ℕ, Some, None, true, reverse, unwrap_or, IfOk, OnOk, OnErr};
 ghost use Rattle.ov_base.specs.declared.attributes.Attributes.{Attributes};
 ghost use Rattle.plain_model.specs.Layers as held;
-ghost use Rattle.plain_model.specs.Layers.{Path, shows, is_directory, IsLayer};
+ghost use Rattle.plain_model.specs.Layers.{Path, shows, is_directory};
 ghost use Rattle.slab.specs.Slab.{get};
 ghost use Rattle.layer_tree.specs.Nameless.{KeepsObjects};
-ghost use Rattle.layer_tree.specs.Tree.{layer_of, inode_at, SetsPath, SameObjects};
+ghost use Rattle.layer_tree.specs.Tree.{layer_of, inode_at, SetsPath};
 ghost use Rattle.merged_lookup.specs.Merged.{layers_of, way_fault, top_of, IsStackOf, ShowsDirectory};
-ghost use Rattle.copy_up.specs.Showing.{AtPlace, HoldsNoDirectory, ShowsSame, HasPlace, GainsParent, IsParent, GainsParents, Stays};
+ghost use Rattle.copy_up.specs.Showing.{AtPlace, HoldsNoDirectory, ShowsSame, HasPlace, GainsParent, IsParent, GainsParents, Stays, HoldsSame, StaysLayer};
 
 use layer_tree::{Marks, Object};
 use merged_lookup::{Found, Layers, Stack};
@@ -84,7 +84,7 @@ pub(crate) fn place_parent(
     ensures placed { OnOk result ((p : Path) → IsStackOf layers.old p parent.now →
         HoldsNoDirectory layers.old (name.now ∷ p) →
         GainsParent layers.old layers.new (name.now ∷ p)) }
-    ensures unchanged { OnErr result (SameObjects (layer_of layers.old.upper) (layer_of layers.new.upper)) }
+    ensures unchanged { OnErr result (HoldsSame layers.old layers.new) }
     ensures gains { (p t : Path) → IsStackOf layers.old p parent.now → IsParent (name.now ∷ p) t → GainsParents layers.old layers.new t }
 {
     let mut found = directory_in(layers, parent, name);
@@ -124,8 +124,8 @@ pub fn insert_directory(
     ensures sets { IfOk result (λ key. AtPlace layers.old layers.new dir name.now (λ U V x.
         SetsPath U V x (held.Directory key attributes opaque None))) }
     ensures vacant { IfOk result (λ key. get layers.old.upper key ≡ None) }
-    ensures unchanged { OnErr result (SameObjects (layer_of layers.old.upper) (layer_of layers.new.upper)) }
-    ensures keeps { IsLayer (layer_of layers.old.upper) → IsLayer (layer_of layers.new.upper) }
+    ensures unchanged { OnErr result (HoldsSame layers.old layers.new) }
+    ensures keeps { StaysLayer layers.old layers.new }
     ensures inodes { (key : ℕ) → inode_at layers.new.upper key ≡ inode_at layers.old.upper key }
     ensures objects { KeepsObjects layers.old.upper layers.new.upper None }
 {

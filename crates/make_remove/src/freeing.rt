@@ -1,8 +1,8 @@
 // Freeing what has no name any more.
 ghost use Rattle.std.specs.Prelude.{◌≢◌, ℕ, None};
-ghost use Rattle.layer_tree.specs.Tree.{layer_of, Frees, SameObjects};
+ghost use Rattle.layer_tree.specs.Tree.{Frees};
 ghost use Rattle.layer_tree.specs.Nameless.{IsNameless};
-ghost use Rattle.copy_up.specs.Showing.{ShowsSame, StaysMount, StaysSound};
+ghost use Rattle.copy_up.specs.Showing.{ShowsSame, StaysMount, StaysSound, HoldsSame};
 ghost use Rattle.copy_up.specs.Texts.{KeepsTexts};
 
 use merged_lookup::Layers;
@@ -11,7 +11,7 @@ use merged_lookup::Layers;
 pub fn free(layers: &mut Layers, key: usize)
     requires { IsNameless layers.old.upper key }
     ensures frees { Frees layers.old.upper layers.new.upper key }
-    ensures held { SameObjects (layer_of layers.old.upper) (layer_of layers.new.upper) }
+    ensures held { HoldsSame layers.old layers.new }
     ensures same { ShowsSame layers.old layers.new }
     ensures mounts { StaysMount layers.old layers.new }
     ensures sound { StaysSound layers.old layers.new }

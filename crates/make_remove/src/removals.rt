@@ -12,7 +12,7 @@ ghost use Rattle.layer_tree.specs.Table.{object_key};
 ghost use Rattle.layer_tree.specs.Tree.{layer_of, inode_at, with_less, entry, child, key_at, IsDirectory, HoldsNoObjects, ReplacesPath, Unbinds, SameTree, SameObjects};
 ghost use Rattle.merged_lookup.specs.declared.layers.Layers.{Layers as LayersOf};
 ghost use Rattle.merged_lookup.specs.Merged.{upper_of, layers_of, lowers_of, parent, way_fault, IsStackOf, ShowsInode};
-ghost use Rattle.copy_up.specs.Showing.{ChangesNoSight, GainsParents, StaysSound};
+ghost use Rattle.copy_up.specs.Showing.{ChangesNoSight, GainsParents, StaysSound, HoldsSame};
 ghost use Rattle.make_remove.specs.Sights.{IsSeen};
 ghost use Rattle.make_remove.specs.Removing.{unlink_fault, rmdir_fault, ShowsNoName, TakesAway, RemovalSteps, TellsNames, TakesName, Unnames, released_by, has_more};
 
@@ -181,7 +181,7 @@ fn remove_name(
     ensures released { IfOk result (λ released. released ≡ released_by layers.new.upper (child layers.old.upper dir name.now)) }
     ensures nameless { IfOk result (λ released. (key : ℕ) → released ≡ Some key → IsNameless layers.new.upper key) }
     ensures keeps { (p : List (List ℕ)) → key_at layers.old.upper p ≡ Some dir → IsLayer (layer_of layers.old.upper) → IsLayer (layer_of layers.new.upper) }
-    ensures unchanged { OnErr result (SameObjects (layer_of layers.old.upper) (layer_of layers.new.upper)) }
+    ensures unchanged { OnErr result (HoldsSame layers.old layers.new) }
     ensures same { OnErr result (KeepsObjects layers.old.upper layers.new.upper None) }
     ensures lowers { layers.new.lowers ≡ layers.old.lowers }
 {

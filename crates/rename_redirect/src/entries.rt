@@ -3,7 +3,8 @@ ghost use Rattle.std.specs.Prelude.{◌≡◌, ◌≢◌, ◌<◌, ℕ, Some, No
 ghost use Rattle.plain_model.specs.Layers.{Path as Names, IsLayer};
 ghost use Rattle.layer_tree.specs.Nameless.{IsNameless, KeepsObjects};
 ghost use Rattle.layer_tree.specs.MarkChange.{MarksDirectory, SetsMarks};
-ghost use Rattle.layer_tree.specs.Tree.{ROOT, layer_of, key_at, child, leads, leads_on, names_room, seen_object, IsDirectory, SameObjects};
+ghost use Rattle.layer_tree.specs.Tree.{ROOT, layer_of, key_at, child, leads, leads_on, names_room, seen_object, IsDirectory};
+ghost use Rattle.copy_up.specs.Showing.{HoldsSame, StaysLayer};
 ghost use Rattle.rename_redirect.specs.Routes.{AlongRoute, IsRoute, Leads, MovesEntry, MovesNew};
 
 use crate::names::room_for_both;
@@ -34,9 +35,9 @@ pub(crate) fn move_in_upper(
     ensures lowers { layers.new.lowers ≡ layers.old.lowers }
     ensures moved { IfOk result (λ released. AlongRoute layers.old.upper route.now (λ p q left.
         MovesEntry layers.old.upper layers.new.upper p q left released)) }
-    ensures unchanged { OnErr result (SameObjects (layer_of layers.old.upper) (layer_of layers.new.upper)) }
+    ensures unchanged { OnErr result (HoldsSame layers.old layers.new) }
     ensures same { OnErr result (KeepsObjects layers.old.upper layers.new.upper None) }
-    ensures keeps { IsLayer (layer_of layers.old.upper) → IsLayer (layer_of layers.new.upper) }
+    ensures keeps { StaysLayer layers.old layers.new }
 {
     layers.lawful();
     let further = route.further.clone()?;
@@ -73,9 +74,9 @@ pub(crate) fn insert_and_move(
     ensures lowers { layers.new.lowers ≡ layers.old.lowers }
     ensures moved { IfOk result (λ keys. AlongRoute layers.old.upper route.now (λ p q left.
         MovesNew layers.old.upper layers.new.upper p q object left keys.0 keys.1)) }
-    ensures unchanged { OnErr result (SameObjects (layer_of layers.old.upper) (layer_of layers.new.upper)) }
+    ensures unchanged { OnErr result (HoldsSame layers.old layers.new) }
     ensures same { OnErr result (KeepsObjects layers.old.upper layers.new.upper None) }
-    ensures keeps { IsLayer (layer_of layers.old.upper) → IsLayer (layer_of layers.new.upper) }
+    ensures keeps { StaysLayer layers.old layers.new }
 {
     layers.lawful();
     let name = route.name.clone()?;
@@ -94,7 +95,7 @@ pub(crate) fn mark_in_upper(layers: &mut Layers, key: usize, marks: Marks)
     ensures lowers { layers.new.lowers ≡ layers.old.lowers }
     ensures sets { SetsMarks layers.old.upper layers.new.upper key marks }
     ensures directory { (path : Names) → key_at layers.old.upper path ≡ Some key → MarksDirectory (layer_of layers.old.upper) (layer_of layers.new.upper) path key marks.opaque marks.redirect }
-    ensures keeps { IsLayer (layer_of layers.old.upper) → IsLayer (layer_of layers.new.upper) }
+    ensures keeps { StaysLayer layers.old layers.new }
     ensures nameless { (k : ℕ) → IsNameless layers.old.upper k → IsNameless layers.new.upper k }
 {
     layers.upper_mut().set_marks(key, marks);

@@ -1,14 +1,14 @@
 // What a path shows moves to another path.
 ghost use Rattle.std.specs.Prelude.{◌≡◌, ◌∷◌, Bool, true, false, Some, None, IfOk, OnOk, OnErr, unwrap_or};
-ghost use Rattle.plain_model.specs.Layers.{Path as Names, Named, held, shows, is_directory, IsLayer, AreLayers};
+ghost use Rattle.plain_model.specs.Layers.{Path as Names, Named, held, shows, is_directory, AreLayers};
 ghost use Rattle.plain_model.specs.Laws.{IsOutside};
 ghost use Rattle.mount_laws.specs.Removals.{ShowsNoName};
 ghost use Rattle.mount_laws.specs.Moving.{NamesNoInode};
 ghost use Rattle.mount_laws.specs.Renaming.{is_one};
 ghost use Rattle.layer_tree.specs.Nameless.{KeepsObjects};
-ghost use Rattle.layer_tree.specs.Tree.{layer_of, SameObjects};
+ghost use Rattle.layer_tree.specs.Tree.{layer_of};
 ghost use Rattle.merged_lookup.specs.Merged.{layers_of, parents_fault, parent, top_of, IsStackOf, IsTopmost};
-ghost use Rattle.copy_up.specs.Showing.{ShowsSame, Stays, StaysThin};
+ghost use Rattle.copy_up.specs.Showing.{ShowsSame, Stays, StaysThin, HoldsSame, StaysLayer};
 ghost use Rattle.copy_up.specs.Texts.{KeepsTexts};
 ghost use Rattle.rename_redirect.specs.Linking.{GainsBoth};
 ghost use Rattle.rename_redirect.specs.Renaming.{DoesRename};
@@ -126,9 +126,9 @@ pub(crate) fn move_placed(
     ensures does { IfOk result (λ r. DoesRename layers.old layers.new metacopy old.now new.now r) }
     ensures lowers { layers.new.lowers ≡ layers.old.lowers }
     ensures texts { OnOk result (KeepsTexts layers.old layers.new (Some old.now)) }
-    ensures unchanged { OnErr result (SameObjects (layer_of layers.old.upper) (layer_of layers.new.upper)) }
+    ensures unchanged { OnErr result (HoldsSame layers.old layers.new) }
     ensures same { OnErr result (KeepsObjects layers.old.upper layers.new.upper None) }
-    ensures keeps { IsLayer (layer_of layers.old.upper) → IsLayer (layer_of layers.new.upper) }
+    ensures keeps { StaysLayer layers.old layers.new }
     ensures thin { OnOk result (AreLayers (layers_of layers.old) → StaysThin layers.old layers.new) }
 {
     let Some((name, _)) = old.split_last() else {
@@ -203,9 +203,9 @@ fn move_directory(
         IsFolderMove layers.old p q route.now top marks →
         MovesRoute layers.old layers.new low route.now p q released) }
     ensures texts { OnOk result (KeepsTexts layers.old layers.new None) }
-    ensures unchanged { OnErr result (SameObjects (layer_of layers.old.upper) (layer_of layers.new.upper)) }
+    ensures unchanged { OnErr result (HoldsSame layers.old layers.new) }
     ensures same { OnErr result (KeepsObjects layers.old.upper layers.new.upper None) }
-    ensures keeps { IsLayer (layer_of layers.old.upper) → IsLayer (layer_of layers.new.upper) }
+    ensures keeps { StaysLayer layers.old layers.new }
     ensures thin { OnOk result (AreLayers (layers_of layers.old) → StaysThin layers.old layers.new) }
 {
     layers.lawful();
@@ -245,9 +245,9 @@ fn move_inode(
         IsLeafMove layers.old p q route.now old.now place →
         held (layer_of layers.new.upper) (route.now.further.now ∷ q) ≡ Some (Named keys.0)) }
     ensures texts { OnOk result (KeepsTexts layers.old layers.new (Some old.now)) }
-    ensures unchanged { OnErr result (SameObjects (layer_of layers.old.upper) (layer_of layers.new.upper)) }
+    ensures unchanged { OnErr result (HoldsSame layers.old layers.new) }
     ensures same { OnErr result (KeepsObjects layers.old.upper layers.new.upper None) }
-    ensures keeps { IsLayer (layer_of layers.old.upper) → IsLayer (layer_of layers.new.upper) }
+    ensures keeps { StaysLayer layers.old layers.new }
     ensures thin { OnOk result (AreLayers (layers_of layers.old) → StaysThin layers.old layers.new) }
 {
     layers.lawful();

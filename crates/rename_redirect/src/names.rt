@@ -5,7 +5,7 @@ ghost use Rattle.plain_model.specs.Layers.{Path as Names, Inode, Named, held, Is
 ghost use Rattle.mount_laws.specs.Linking.{AddsName};
 ghost use Rattle.layer_tree.specs.Nameless.{KeepsObjects};
 ghost use Rattle.layer_tree.specs.Tree.{layer_of, new_inode, names_room, IsDirectory, SameObjects, SameTree};
-ghost use Rattle.copy_up.specs.Showing.{AtPlace, HasPlace};
+ghost use Rattle.copy_up.specs.Showing.{AtPlace, HasPlace, HoldsSame, StaysLayer};
 ghost use Rattle.rename_redirect.specs.Linking.{CopiesName, KeepsDirectories};
 
 use layer_tree::{Layer, Object};
@@ -27,9 +27,9 @@ pub(crate) fn link_in_upper(
         (p : Names) → held U p ≡ Some (Named key) → AddsName U V p y)) }
     ensures directories { OnOk result (KeepsDirectories (layer_of layers.old.upper) (layer_of layers.new.upper)) }
     ensures objects { OnOk result (KeepsObjects layers.old.upper layers.new.upper (Some key)) }
-    ensures unchanged { OnErr result (SameObjects (layer_of layers.old.upper) (layer_of layers.new.upper)) }
+    ensures unchanged { OnErr result (HoldsSame layers.old layers.new) }
     ensures same { OnErr result (KeepsObjects layers.old.upper layers.new.upper None) }
-    ensures keeps { IsLayer (layer_of layers.old.upper) → IsLayer (layer_of layers.new.upper) }
+    ensures keeps { StaysLayer layers.old layers.new }
 {
     layers.lawful();
     let name = name.clone()?;
@@ -58,9 +58,9 @@ pub(crate) fn insert_in_upper(
         y ≢ x → new_inode object ≡ Some i → CopiesName U V x y i))) }
     ensures directories { OnOk result (KeepsDirectories (layer_of layers.old.upper) (layer_of layers.new.upper)) }
     ensures objects { OnOk result ((key : ℕ) × KeepsObjects layers.old.upper layers.new.upper (Some key)) }
-    ensures unchanged { OnErr result (SameObjects (layer_of layers.old.upper) (layer_of layers.new.upper)) }
+    ensures unchanged { OnErr result (HoldsSame layers.old layers.new) }
     ensures same { OnErr result (KeepsObjects layers.old.upper layers.new.upper None) }
-    ensures keeps { IsLayer (layer_of layers.old.upper) → IsLayer (layer_of layers.new.upper) }
+    ensures keeps { StaysLayer layers.old layers.new }
 {
     layers.lawful();
     let name = name.clone()?;

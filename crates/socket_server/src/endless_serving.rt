@@ -1,5 +1,5 @@
 // The server of a mount whose history is kept nowhere.
-ghost use Rattle.std.specs.Prelude.{◌≡◌, ◌≢◌, All, IfOk, List, None, map};
+ghost use Rattle.std.specs.Prelude.{◌≡◌, ◌≢◌, All, IfOk, None, map};
 ghost use mathlib.Core.List.{IsPrefix};
 ghost use Rattle.locked_history.specs.Entries.{history_of};
 ghost use Rattle.overlay_core.specs.LegalHistories.{Legally, opening_of};
