@@ -29,11 +29,6 @@ seen-table j None = refl
 seen-table j (Some (node.Directory d)) = refl
 seen-table j (Some (node.Inode i)) = refl
 
--- a name that goes is bound to no object
-pub no-object : (covered : Bool) → option_and_then object_key (cond covered (Some bound.Whiteout) None) ≡ None
-no-object true = refl
-no-object false = refl
-
 -- what is handed back is what the name led to, and has no links
 pub released-key : (t : Tree) (x : Option ℕ) (k : ℕ) → released_by t x ≡ Some k → (x ≡ Some k) × (has_more 0 (inode_at t k) ≡ false)
 released-key t None k h = absurd (cc)

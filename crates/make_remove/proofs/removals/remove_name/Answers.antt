@@ -1,10 +1,11 @@
 use Rattle.std.proofs.Common.{sym, ap, ◌∙◌}
 use Rattle.std.specs.Option.{option_and_then}
 use Rattle.layer_tree.specs.Table.{object_key}
+use Rattle.layer_tree.proofs.Moving.{no_object_left}
 use Rattle.layer_tree.proofs.Nameless.{keeps_same, keeps_unbound}
 use Rattle.copy_up.proofs.Keeping.{on-err}
 use Rattle.make_remove.specs.Removing.{released_by}
-use Rattle.make_remove.proofs.Unnaming.{no-object, released-key, nameless-left, inside-bare, takes}
+use Rattle.make_remove.proofs.Unnaming.{released-key, nameless-left, inside-bare, takes}
 use Rattle.make_remove.proofs.removals.remove_name.Goals as goal
 
 pub unbind-requires : goal.unbind-requires
@@ -18,7 +19,7 @@ returns-clause-takes c = λ p at.
 pub returns-clause-objects : goal.returns-clause-objects
 returns-clause-objects c =
     let w = rw c.upper_mut.ensures.value at c.in_ok-was.ensures in
-    keeps_unbound c.args.layers.now.upper c.unbind.new.upper c.args.dir c.args.name.now _ (no-object c.args.covered) w.unbinds
+    keeps_unbound c.args.layers.now.upper c.unbind.new.upper c.args.dir c.args.name.now _ (no_object_left c.args.covered) w.unbinds
 
 pub returns-clause-fewer : goal.returns-clause-fewer
 returns-clause-fewer c = let w = rw c.upper_mut.ensures.value at c.in_ok-was.ensures in w.unbinds.unlinked
