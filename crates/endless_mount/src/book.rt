@@ -65,19 +65,11 @@ pub trait BookName {
 }
 
 impl BookName for Brand {
-    ghost use Rattle.std.specs.Prelude.{[], None, false};
+    ghost use Rattle.locked_history.specs.Openings.{bare_opening};
 
     ghost book = { record { number = 0; log_name = 0; cells_name = 0 } };
 
-    ghost opening = { record {
-      upper = record {
-        root = record { mode = 0; uid = 0; gid = 0; user = [] };
-        objects = λ _. None;
-        inodes = λ _. None;
-      };
-      lowers = [];
-      options = record { redirects = false; metacopy = false; read_only = false; file_limit = 0 };
-    } };
+    ghost opening = { bare_opening };
 }
 
 /// A book with an empty history, which has no name yet.

@@ -4,3 +4,4 @@ pub mod Holding
 pub mod Steps
 pub mod Views
 pub mod Names
+pub mod Openings

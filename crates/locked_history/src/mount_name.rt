@@ -1,5 +1,6 @@
 // What names a mount.
-ghost use Rattle.std.specs.Prelude.{[], None, false};
+ghost use Rattle.std.specs.Prelude.{[]};
+ghost use Rattle.locked_history.specs.Openings.{bare_opening};
 
 use std::marker::Brand;
 use std::sync::ledger::Ledger;
@@ -17,13 +18,5 @@ pub trait MountName: Ledger {
 impl MountName for Brand {
     ghost cells = { [] };
 
-    ghost opening = { record {
-      upper = record {
-        root = record { mode = 0; uid = 0; gid = 0; user = [] };
-        objects = λ _. None;
-        inodes = λ _. None;
-      };
-      lowers = [];
-      options = record { redirects = false; metacopy = false; read_only = false; file_limit = 0 };
-    } };
+    ghost opening = { bare_opening };
 }
