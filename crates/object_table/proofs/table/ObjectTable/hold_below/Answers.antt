@@ -1,4 +1,4 @@
-use Rattle.std.proofs.Common.{◌≡◌, ◌∷◌, ℕ, Some, refl, sym, subst}
+use Rattle.std.proofs.Common.{◌≡◌, ◌∷◌, Some, refl, sym, subst}
 use Rattle.std.specs.Prelude.{IfOk, OnErr}
 use Rattle.plain_model.specs.Layers.{Path}
 use Rattle.object_table.specs.Objects.{At, Objects, Holds, SameSpots, spot_of}

@@ -1,4 +1,4 @@
-use Rattle.std.proofs.Common.{◌≡◌, ℕ, Some, None, refl, subst}
+use Rattle.std.proofs.Common.{◌≡◌, Some, None, refl, subst}
 use Rattle.std.specs.Prelude.{IfOk, OnErr}
 use Rattle.object_table.specs.declared.dentry.Unlisted.TheVariants as unlisted
 use Rattle.object_table.specs.Objects.{Nowhere, Objects, SetsSpot, SameSpots, spot_of}

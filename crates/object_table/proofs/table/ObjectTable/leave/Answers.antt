@@ -1,6 +1,5 @@
 use Rattle.std.proofs.Common.{◌≡◌, ◌≢◌, ℕ, Some, IsSome, refl, sym, subst}
-use Rattle.object_table.specs.Opened as tree
-use Rattle.object_table.specs.Objects.{Spot, Upper, Nowhere, Objects, IsBare, SetsSpot, spot_at, spot_of, holders_of}
+use Rattle.object_table.specs.Objects.{Upper, Nowhere, Objects, IsBare, SetsSpot, spot_of, holders_of}
 use Rattle.object_table.proofs.Spots as spots
 use Rattle.object_table.proofs.Spots.{objects_by}
 use Rattle.object_table.proofs.table.ObjectTable.leave.Goals as goal
