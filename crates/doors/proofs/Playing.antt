@@ -6,7 +6,7 @@ use Rattle.ov_base.specs.declared.reply.Reply.{Reply}
 use Rattle.ov_base.specs.declared.reply.Reply.TheVariants.{Done}
 use Rattle.plain_model.specs.Runs.{Does, Detached}
 use Rattle.plain_model.specs.Runs as deeds
-use Rattle.mount_calls.specs.Attaching.{Detaches, KeepsAttached}
+use Rattle.open_handles.specs.Attaching.{Detaches, KeepsAttached}
 use Rattle.mount_calls.specs.Keeping.{takes_no_memory}
 use Rattle.ov_frames.specs.declared.answer.Answer.TheVariants.{Replied, NotTaken}
 use Rattle.ov_session.specs.declared.exchange.Exchange.{Exchange}

@@ -10,8 +10,8 @@ use Rattle.std.proofs.lemmas.List.{append-nil}
 use Rattle.std.proofs.lemmas.List.Elements.{filter-append}
 use Rattle.std.proofs.lemmas.List.Sums.{length-filter, sum_by-append}
 use Rattle.plain_model.specs.Runs.{Attached, Deed, Detached, Entry, IsNext, is_attach, is_detach, is_of}
-use Rattle.mount_calls.specs.declared.clients.Clients.{Clients}
-use Rattle.mount_calls.specs.Attaching.{Attaches, Detaches, KeepsAttached, is_attached}
+use Rattle.open_handles.specs.declared.clients.Clients.{Clients}
+use Rattle.open_handles.specs.Attaching.{Attaches, Detaches, KeepsAttached, is_attached}
 use Rattle.overlay_core.specs.LegalHistories.{IsNumber}
 use Rattle.overlay_core.proofs.LegalHistories.{nobody_yet}
 use Rattle.overlay_core.proofs.Numbering.{gone_is_other, others_attached}

@@ -1,8 +1,8 @@
 -- The numbers of the attached clients' next entries.
 use Rattle.std.specs.Prelude.{◌≡◌, ℕ, suc, ◌≤◌, List, [], Option, Some, None, cond, true, count_by, filter}
 use Rattle.plain_model.specs.Runs.{Entry, is_of}
-use Rattle.mount_calls.specs.declared.clients.Clients.{Clients}
-use Rattle.mount_calls.specs.Attaching.{is_attached}
+use Rattle.open_handles.specs.declared.clients.Clients.{Clients}
+use Rattle.open_handles.specs.Attaching.{is_attached}
 use Rattle.overlay_core.specs.LegalHistories.{IsNumber}
 
 -- the number of a client's next entry, as its entries give it

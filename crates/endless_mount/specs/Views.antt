@@ -1,7 +1,7 @@
 -- What stands under the lock, and what a guarded step does to it.
 use Rattle.std.specs.Prelude.{◌≡◌, ℕ, List, [], ◌∷◌, ◌++◌, length}
 use Rattle.overlay_core.specs.Views.{CoreGoes, CoreStays, core_clients, core_finished}
-use Rattle.mount_calls.specs.Attaching.{KeepsAttached}
+use Rattle.open_handles.specs.Attaching.{KeepsAttached}
 use Rattle.overlay_core.specs.declared.mounted.Core.{Core}
 use Rattle.locked_history.specs.declared.entry.Entry.{Entry}
 use Rattle.locked_history.specs.Entries.{told}

@@ -1,6 +1,6 @@
 -- What the lock keeps of a core on which nothing was done yet.
 use Rattle.std.proofs.Common.{arith, ◌≡◌, List, [], ◌∷◌, Option, refl, length}
-use Rattle.mount_calls.specs.declared.clients.Clients.{Clients}
+use Rattle.open_handles.specs.declared.clients.Clients.{Clients}
 use Rattle.overlay_core.proofs.LegalHistories.{nobody_yet}
 use Rattle.locked_history.specs.Holding.{HasBoxes}
 

@@ -1,7 +1,7 @@
 -- What the lock keeps beside a core and its history.
 use Rattle.std.specs.Prelude.{◌≡◌, ℕ, List, true, slice_get, Option, None, Some, Bool, false}
-use Rattle.mount_calls.specs.declared.clients.Clients.{Clients}
-use Rattle.mount_calls.specs.Attaching.{is_attached}
+use Rattle.open_handles.specs.declared.clients.Clients.{Clients}
+use Rattle.open_handles.specs.Attaching.{is_attached}
 
 -- whether a box is kept at a place
 abbrev pub has_box : {A : Type 0} → Option (Option A) → Bool

@@ -1,7 +1,7 @@
 -- What a locked core and a past show, and what a guarded step does.
 use Rattle.std.specs.Prelude.{◌≡◌, true, List, [], ◌∷◌, ◌++◌, length, map}
 use Rattle.overlay_core.specs.Views.{CoreGoes, CoreStays, core_clients, core_finished}
-use Rattle.mount_calls.specs.Attaching.{KeepsAttached}
+use Rattle.open_handles.specs.Attaching.{KeepsAttached}
 use Rattle.overlay_core.specs.declared.mounted.Core.{Core}
 use Rattle.locked_history.specs.declared.entry.Entry.{Entry}
 use Rattle.locked_history.specs.declared.locked.Locked.{Locked}

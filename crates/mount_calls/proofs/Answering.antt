@@ -16,9 +16,9 @@ use Rattle.mount_laws.proofs.Removed.{law_of_list_removed}
 use Rattle.object_table.specs.declared.dentry.Unlisted.TheVariants as unlisted
 use Rattle.object_table.specs.Opened.{path_in}
 use Rattle.open_handles.specs.declared.handle.Handle as handles
-use Rattle.mount_calls.specs.declared.clients.Clients.{Clients}
+use Rattle.open_handles.specs.declared.clients.Clients.{Clients}
 use Rattle.mount_calls.specs.declared.mount.Mount.{Mount}
-use Rattle.mount_calls.specs.Attaching.{opened_by, path_of, ChangesClient}
+use Rattle.open_handles.specs.Attaching.{opened_by, path_of, ChangesClient}
 use Rattle.mount_calls.specs.Opening.{list_fault}
 use Rattle.mount_calls.specs.Status.{stat_at, stat_shown, unless_refused}
 use Rattle.mount_calls.specs.States.{IsLeft, Stands, IsHandle, IsStateOf, StaysState, Serves, AreNamesIn, AreLeft, Pages}
@@ -134,7 +134,7 @@ module _ (m : Mount) (s : State) (st : IsStateOf m s) (c : ℕ) where
       o : OpenDirectory
       o = pages.directory
 
-      x : (h : Handle) × (handle_of s.tables c d ≡ Some h) × IsHandle s.tree m.clients.directories o h
+      x : (h : Handle) × (handle_of s.tables c d ≡ Some h) × IsHandle s.tree m.clients.objects.tree o h
       x = directory-at m s st c d o pages.was
 
       h : Handle
@@ -144,7 +144,7 @@ module _ (m : Mount) (s : State) (st : IsStateOf m s) (c : ℕ) where
       now = listing s.tree h
 
       law : Turns s c d h
-      law = turns (the_upper m) (the_lowers m) s st.layers c d m.clients.directories o h x.1 x.2
+      law = turns (the_upper m) (the_lowers m) s st.layers c d m.clients.objects.tree o h x.1 x.2
 
       -- the names of the directory are those of a new listing
       alone : (l : Location) → Stands s.tree l h.node → h.listed ≡ None → (names : List Name) → AreNamesIn (the_layers m) (path_in l) names → names ≡ now

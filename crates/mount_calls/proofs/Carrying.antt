@@ -8,9 +8,9 @@ use Rattle.plain_model.proofs.OwnBytes.{OwnsAlso, law_of_own}
 use Rattle.mount_laws.proofs.Handles.{held-by}
 use Rattle.copy_up.proofs.Keeping.{lowers-same}
 use Rattle.open_handles.specs.declared.handle.Handle as handles
-use Rattle.mount_calls.specs.declared.clients.Clients.{Clients}
+use Rattle.open_handles.specs.declared.clients.Clients.{Clients}
 use Rattle.mount_calls.specs.declared.mount.Mount.{Mount}
-use Rattle.mount_calls.specs.Attaching.{opened_by}
+use Rattle.open_handles.specs.Attaching.{opened_by}
 use Rattle.mount_calls.specs.Files.{is_leaf, IsFile, HasFile}
 use Rattle.mount_calls.specs.Living.{StaysLive, KeepsLive, KeepsHeldFrom}
 use Rattle.mount_calls.specs.States.{IsHandle, IsOpenAs, IsSlot, AreTables, IsStateOf}
@@ -64,20 +64,20 @@ module _ (old new : Layers) where
   V = upper_of new
 
   -- tables over other layers and another tree, where the lower layers are the same
-  pub tables-on : (t u : Tree) (clients : Clients) (ks : List Table) → new.lowers ≡ old.lowers → AreTables (IsOpenAs U (lowers_of old) t clients.directories) clients ks → (es : Dentries) → ((c fd : ℕ) (o : OpenDirectory) (h : Handle) → handle_of ks c fd ≡ Some h → IsHandle t clients.directories o h → IsHandle u es o h) → CarriesFiles U V t u clients ks → AreTables (IsOpenAs V (lowers_of new) u es) clients ks
+  pub tables-on : (t u : Tree) (clients : Clients) (ks : List Table) → new.lowers ≡ old.lowers → AreTables (IsOpenAs U (lowers_of old) t clients.objects.tree) clients ks → (es : Dentries) → ((c fd : ℕ) (o : OpenDirectory) (h : Handle) → handle_of ks c fd ≡ Some h → IsHandle t clients.objects.tree o h → IsHandle u es o h) → CarriesFiles U V t u clients ks → AreTables (IsOpenAs V (lowers_of new) u es) clients ks
   tables-on t u clients ks lowers tables es directories files = record {
     attached = tables.attached;
     room = tables.room;
     slots = λ c fd. slot-on c fd (opened_by clients c fd) refl (handle_of ks c fd) refl (tables.slots c fd);
   }
     where
-      slot-on : (c fd : ℕ) (o : Option handles.Handle) → opened_by clients c fd ≡ o → (x : Option Handle) → handle_of ks c fd ≡ x → IsSlot (IsOpenAs U (lowers_of old) t clients.directories) o x → IsSlot (IsOpenAs V (lowers_of new) u es) o x
+      slot-on : (c fd : ℕ) (o : Option handles.Handle) → opened_by clients c fd ≡ o → (x : Option Handle) → handle_of ks c fd ≡ x → IsSlot (IsOpenAs U (lowers_of old) t clients.objects.tree) o x → IsSlot (IsOpenAs V (lowers_of new) u es) o x
       slot-on c fd None e None g s = tt
       slot-on c fd None e (Some h) g s = absurd s
       slot-on c fd (Some o) e None g s = absurd s
       slot-on c fd (Some o) e (Some h) g s =
           subst (λ (Ls : List Layer). IsOpenAs V Ls u es o h) (sym (lowers-same old new lowers))
-          (open-on U V (lowers_of old) t u clients.directories es o h
+          (open-on U V (lowers_of old) t u clients.objects.tree es o h
           (λ d is. directories c fd d h g)
           (λ f is file. file-on U V (lowers_of old) t u f h file (λ k key. files.live c fd f h k (e ∙ ap Some is) g key) (files.leaves c fd h g) (files.owns h.node))
           s)
@@ -105,10 +105,10 @@ module _ (old new : Layers) where
 
 module _ (m : Mount) (s : State) (st : IsStateOf m s) (new : Layers) (low : new.lowers ≡ m.layers.lowers) where
   -- other layers and another tree, in which what is open is what it was
-  pub state-on : (t : Tree) (serial : ℕ) → IsMountOf (upper_of new) (lowers_of new) (record s { tree = t; serial = serial }) → ((o : OpenDirectory) (h : Handle) → IsHandle s.tree m.clients.directories o h → IsHandle t m.clients.directories o h) → CarriesFiles (upper_of m.layers) (upper_of new) s.tree t m.clients s.tables → IsStateOf (record m { layers = new }) (record s { tree = t; serial = serial })
+  pub state-on : (t : Tree) (serial : ℕ) → IsMountOf (upper_of new) (lowers_of new) (record s { tree = t; serial = serial }) → ((o : OpenDirectory) (h : Handle) → IsHandle s.tree m.clients.objects.tree o h → IsHandle t m.clients.objects.tree o h) → CarriesFiles (upper_of m.layers) (upper_of new) s.tree t m.clients s.tables → IsStateOf (record m { layers = new }) (record s { tree = t; serial = serial })
   state-on t serial mounts directories files = record {
     layers = mounts;
-    tables = tables-on m.layers new s.tree t m.clients s.tables low st.tables m.clients.directories (λ c fd o h on. directories o h) files;
+    tables = tables-on m.layers new s.tree t m.clients s.tables low st.tables m.clients.objects.tree (λ c fd o h on. directories o h) files;
     one = st.one;
     arrived = st.arrived;
     redirects = st.redirects;

@@ -18,7 +18,7 @@ use Rattle.mount_laws.specs.Altered.{AltersState}
 use Rattle.mount_laws.proofs.Linked.{law_of_link}
 use Rattle.mount_laws.proofs.Looks.{law_of_mkdir}
 use Rattle.mount_laws.proofs.Refusing.{law_of_symlink, law_of_unlink, law_of_rmdir}
-use Rattle.mount_calls.specs.declared.clients.Clients.{Clients}
+use Rattle.open_handles.specs.declared.clients.Clients.{Clients}
 use Rattle.open_handles.specs.Descriptors.{opened}
 use Rattle.object_table.specs.declared.dentry.Unlisted.TheVariants as unlisted
 use Rattle.object_table.specs.Opened as places
@@ -143,17 +143,17 @@ stands-at t ds o h k q is on at = grind arith
 
 -- each directory that is open has a handle
 abbrev pub AreHeld : Clients → Type 0
-AreHeld clients = (k : ℕ) → IsSome (places.opened clients.directories k) → 0 < handles_below (get nat_cmp clients.attached) clients.next k
+AreHeld clients = (k : ℕ) → IsSome (places.opened clients.objects.tree k) → 0 < handles_below (get nat_cmp clients.attached) clients.next k
 
 -- a directory that is open at a path is there in the tree
 pub open-there :
-    (m : Mount) (s : State) → IsStateOf m s → AreHeld m.clients → (k : ℕ) (p : Path) → places.opened m.clients.directories k ≡ Some (At p) →
+    (m : Mount) (s : State) → IsStateOf m s → AreHeld m.clients → (k : ℕ) (p : Path) → places.opened m.clients.objects.tree k ≡ Some (At p) →
     (d : NodeId) × (node_at s.tree p ≡ Some d) × (is_folder (s.tree d) ≡ true)
 open-there m s st counted k p is =
     let found = below-find (get nat_cmp m.clients.attached) m.clients.next k (counted k (subst IsSome (sym is) refl)) in
     let there = st.tables.slots found.client found.descriptor in
     let slot = slot-open (Alike m.layers s m.clients) _ _ (Directory found.handle) there found.there in
-    (slot.0.node, stands-at s.tree m.clients.directories found.handle slot.0 k p slot.2 found.on is, slot.2.directory)
+    (slot.0.node, stands-at s.tree m.clients.objects.tree found.handle slot.0 k p slot.2 found.on is, slot.2.directory)
 
 module _ (m : Mount) (s : State) (st : IsStateOf m s) (new : Layers) where
   abbrev V : Layer
@@ -168,8 +168,8 @@ module _ (m : Mount) (s : State) (st : IsStateOf m s) (new : Layers) where
   free = st.layers.kept.unused s.serial (omega arith)
 
   -- the tables after a call, where open directories and open files stay
-  tables-after : (c : ℕ) (k : Call) → new.lowers ≡ m.layers.lowers → ((b fd : ℕ) (o : OpenDirectory) (h : Handle) → handle_of s.tables b fd ≡ Some h → IsHandle s.tree m.clients.directories o h → IsHandle (after s c k).tree m.clients.directories o h) → CarriesFiles (the_upper m) V s.tree (after s c k).tree m.clients s.tables → AreTables (Alike new (after s c k) m.clients) m.clients s.tables
-  tables-after c k same directories files = tables-on m.layers new s.tree (after s c k).tree m.clients s.tables same st.tables m.clients.directories directories files
+  tables-after : (c : ℕ) (k : Call) → new.lowers ≡ m.layers.lowers → ((b fd : ℕ) (o : OpenDirectory) (h : Handle) → handle_of s.tables b fd ≡ Some h → IsHandle s.tree m.clients.objects.tree o h → IsHandle (after s c k).tree m.clients.objects.tree o h) → CarriesFiles (the_upper m) V s.tree (after s c k).tree m.clients s.tables → AreTables (Alike new (after s c k) m.clients) m.clients s.tables
+  tables-after c k same directories files = tables-on m.layers new s.tree (after s c k).tree m.clients s.tables same st.tables m.clients.objects.tree directories files
 
   -- the state after a call that sets no descriptor and no watch
   state-after : (c : ℕ) (k : Call) (clients : Clients) → IsMountOf V (lowers_of new) (after s c k) → (after s c k).tables ≡ s.tables → (after s c k).instances ≡ s.instances → AreTables (Alike new (after s c k) clients) clients s.tables → AreOne clients s.tables → clients.next ≡ m.clients.next → IsStateOf (record m { layers = new; clients = clients }) (after s c k)
@@ -184,7 +184,7 @@ module _ (m : Mount) (s : State) (st : IsStateOf m s) (new : Layers) where
   }
 
   -- a call that isn't refused is served, where open directories and open files stay
-  done : (c : ℕ) (k : Call) → refusal s c k ≡ None → reply_of s c k ≡ reply.Done → IsMountOf V (lowers_of new) (after s c k) → (after s c k).tables ≡ s.tables → (after s c k).instances ≡ s.instances → new.lowers ≡ m.layers.lowers → ((b fd : ℕ) (o : OpenDirectory) (h : Handle) → handle_of s.tables b fd ≡ Some h → IsHandle s.tree m.clients.directories o h → IsHandle (after s c k).tree m.clients.directories o h) → CarriesFiles (the_upper m) V s.tree (after s c k).tree m.clients s.tables → Serves (refusal s c k) s c k reply.Done (record m { layers = new })
+  done : (c : ℕ) (k : Call) → refusal s c k ≡ None → reply_of s c k ≡ reply.Done → IsMountOf V (lowers_of new) (after s c k) → (after s c k).tables ≡ s.tables → (after s c k).instances ≡ s.instances → new.lowers ≡ m.layers.lowers → ((b fd : ℕ) (o : OpenDirectory) (h : Handle) → handle_of s.tables b fd ≡ Some h → IsHandle s.tree m.clients.objects.tree o h → IsHandle (after s c k).tree m.clients.objects.tree o h) → CarriesFiles (the_upper m) V s.tree (after s c k).tree m.clients s.tables → Serves (refusal s c k) s c k reply.Done (record m { layers = new })
   done c k ok answer mounts tables still same directories files =
       serve-done _ s c k reply.Done _ ok (sym answer) (state-after c k m.clients mounts tables still (tables-after c k same directories files) st.one refl)
 
@@ -196,15 +196,15 @@ module _ (m : Mount) (s : State) (st : IsStateOf m s) (new : Layers) where
       let k = call_at p x in
       let z : AltersState V (lowers_of new) s c p k = y.alters s st.layers st.metacopy c in
       done c k (refusal-asked (the_upper m) (the_lowers m) s st.layers c p x ∙ ok) z.answer z.mounts z.tables (still-asked s c p x) y.lowers
-      (λ b fd o h on. handle-on s.tree (after s c k).tree (λ q d at. z.paths q ∙ at) z.hidden (λ d f. z.folders d ∙ f) m.clients.directories o h)
+      (λ b fd o h on. handle-on s.tree (after s c k).tree (λ q d at. z.paths q ∙ at) z.hidden (λ d f. z.folders d ∙ f) m.clients.objects.tree o h)
       (files-kept m.layers new s st.layers c k m.clients m.metacopy st.metacopy y.live (leaves-asked p x))
 
   -- open directories stand where they stood after a call that makes a node
-  pub handle-beside : (c : ℕ) (k : Call) (p : Path) (x : Node) → (after s c k).tree ≡ made_way s.tree s.serial (way_of s.tree p) x → ((q : Path) (d : NodeId) → node_at s.tree q ≡ Some d → node_at (after s c k).tree q ≡ Some d) → KeepsHidden s.tree (after s c k).tree → (o : OpenDirectory) (h : Handle) → IsHandle s.tree m.clients.directories o h → IsHandle (after s c k).tree m.clients.directories o h
+  pub handle-beside : (c : ℕ) (k : Call) (p : Path) (x : Node) → (after s c k).tree ≡ made_way s.tree s.serial (way_of s.tree p) x → ((q : Path) (d : NodeId) → node_at s.tree q ≡ Some d → node_at (after s c k).tree q ≡ Some d) → KeepsHidden s.tree (after s c k).tree → (o : OpenDirectory) (h : Handle) → IsHandle s.tree m.clients.objects.tree o h → IsHandle (after s c k).tree m.clients.objects.tree o h
   handle-beside c k p x made stays hidden o h =
       handle-on s.tree (after s c k).tree stays hidden
       (λ d f. ap (λ t. is_folder (t d)) made ∙ made-folder s.tree s.serial (way_of s.tree p) x d free f)
-      m.clients.directories o h
+      m.clients.objects.tree o h
 
   -- a mkdir that isn't refused is served
   pub mkdir-done : (c : ℕ) (p : Path) (mode : ℕ) → mkdir_fault (the_layers m) p mode ≡ None → new.lowers ≡ m.layers.lowers → Makes V (lowers_of new) s c p mode → KeepsLive m.layers new m.metacopy (call.Mkdir p mode) → KeepsLeaves (call.Mkdir p mode) → Serves (refusal s c (call.Mkdir p mode)) s c (call.Mkdir p mode) reply.Done (record m { layers = new })
@@ -225,7 +225,7 @@ module _ (m : Mount) (s : State) (st : IsStateOf m s) (new : Layers) where
   link-done c p q ok same x live leaves =
       let k = call.Hardlink p q in
       done c k (law_of_link (the_upper m) (the_lowers m) s st.layers c p q ∙ ok) x.answer x.mounts x.tables refl same
-      (λ b fd o h on. handle-on s.tree (after s c k).tree x.stays x.hidden (linked-folder s.options s.tree (node_at s.tree p) (way_of s.tree q)) m.clients.directories o h)
+      (λ b fd o h on. handle-on s.tree (after s c k).tree x.stays x.hidden (linked-folder s.options s.tree (node_at s.tree p) (way_of s.tree q)) m.clients.objects.tree o h)
       (files-kept m.layers new s st.layers c k m.clients m.metacopy st.metacopy live leaves)
 
   -- no directory is open at the path of a file or link
@@ -233,7 +233,7 @@ module _ (m : Mount) (s : State) (st : IsStateOf m s) (new : Layers) where
   not-there p ok l d stands f e = grind (arith, unlinked-none, shown-directory)
 
   -- no directory is open below one in which no name is shown
-  pub none-below : (p : Path) → ShowsNoName (the_layers m) p → AreHeld m.clients → NoneBelow m.clients.directories p
+  pub none-below : (p : Path) → ShowsNoName (the_layers m) p → AreHeld m.clients → NoneBelow m.clients.objects.tree p
   none-below p bare counted k n r is =
       let there = open-there m s st counted k (n ∷ (r ++ p)) is in
       let under = beneath s.tree p r n there.0 there.1 there.2 in
@@ -245,7 +245,7 @@ module _ (m : Mount) (s : State) (st : IsStateOf m s) (new : Layers) where
   unlink-done c p ok same x counted live leaves =
       let k = call.Unlink p in
       done c k (law_of_unlink (the_upper m) (the_lowers m) s st.layers c p ∙ ok) x.answer x.mounts x.tables refl same
-      (λ b fd o h on is. handle-apart s c p k V (lowers_of new) x m.clients.directories b fd o h on is (not-there p ok is.location h.node is.stands is.directory))
+      (λ b fd o h on is. handle-apart s c p k V (lowers_of new) x m.clients.objects.tree b fd o h on is (not-there p ok is.location h.node is.stands is.directory))
       (files-held m.layers new s st.layers c k m.clients (live s st.layers c) leaves counted)
 
   -- the node at the path of a directory that is shown has its attributes
@@ -270,8 +270,8 @@ module _ (m : Mount) (s : State) (st : IsStateOf m s) (new : Layers) where
     -- where it is open, its handles are on a removed directory then
     pub rmdir-open : (a : Attributes) (clients : Clients) → HasAttributes (the_layers m) p a → RemovesOpen m.clients clients p a → Serves (refusal s c (call.Rmdir p)) s c (call.Rmdir p) reply.Done (record m { layers = new; clients = clients })
     rmdir-open a clients has marks =
-        let directories = handle-marked s c p (call.Rmdir p) V (lowers_of new) x a m.clients.directories clients.directories (folder-has p a has) marks.places in
-        let moved = tables-on m.layers new s.tree u m.clients s.tables same st.tables clients.directories directories files in
+        let directories = handle-marked s c p (call.Rmdir p) V (lowers_of new) x a m.clients.objects.tree clients.objects.tree (folder-has p a has) marks.places in
+        let moved = tables-on m.layers new s.tree u m.clients s.tables same st.tables clients.objects.tree directories files in
         rmdir-done clients
         (tables-attached (Alike new (after s c (call.Rmdir p)) clients) m.clients clients s.tables marks.attached moved)
         (one-attached m.clients clients s.tables marks.attached st.one)
@@ -280,7 +280,7 @@ module _ (m : Mount) (s : State) (st : IsStateOf m s) (new : Layers) where
     -- where it isn't, no open directory changes
     pub rmdir-unopened : IsOpenNowhere m.clients p → Serves (refusal s c (call.Rmdir p)) s c (call.Rmdir p) reply.Done (record m { layers = new })
     rmdir-unopened nowhere =
-        let apart = handle-apart s c p (call.Rmdir p) V (lowers_of new) x m.clients.directories in
+        let apart = handle-apart s c p (call.Rmdir p) V (lowers_of new) x m.clients.objects.tree in
         rmdir-done m.clients
         (tables-after c (call.Rmdir p) same (λ b fd o h on is. apart b fd o h on is (λ e. nowhere o.directory (is.located ∙ ap Some e))) files)
         st.one refl

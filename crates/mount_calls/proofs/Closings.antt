@@ -18,9 +18,9 @@ use Rattle.mount_laws.proofs.Descriptors.{law_of_handle_close}
 use Rattle.mount_laws.proofs.Removed.{law_of_close_removed}
 use Rattle.open_handles.specs.declared.handle.Handle as handles
 use Rattle.open_handles.specs.Listings.{Closes, file_in}
-use Rattle.mount_calls.specs.declared.clients.Clients.{Clients}
+use Rattle.open_handles.specs.declared.clients.Clients.{Clients}
 use Rattle.mount_calls.specs.declared.mount.Mount.{Mount}
-use Rattle.mount_calls.specs.Attaching.{opened_by, file_by, ChangesClient}
+use Rattle.open_handles.specs.Attaching.{opened_by, file_by, ChangesClient}
 use Rattle.mount_calls.specs.Files.{is_leaf, AreOne, HasFile, key_in_upper}
 use Rattle.mount_calls.specs.Living.{StaysHeld, KeepsPaths, FreesClosed}
 use Rattle.mount_calls.specs.States.{IsOpenAs, AreTables, IsStateOf, Serves}
@@ -165,9 +165,9 @@ module _ (m : Mount) (s : State) (st : IsStateOf m s) (c d : ℕ) where
         serve-done _ s c _ _ (record m { layers = l; clients = new }) law.refused (sym law.answer)
         (record {
           layers = leaves.mounts step law.mounts;
-          tables = subst (AreTables (IsOpenAs (upper_of l) (lowers_of l) step.tree new.directories) new) (sym law.tables)
-              (tables-on m.layers l s.tree step.tree new left leaves.paths.lowers state.tables new.directories
-              (λ b i o g on is. handle-same s.tree step.tree new.directories law.paths o g (law.held b i g on) is)
+          tables = subst (AreTables (IsOpenAs (upper_of l) (lowers_of l) step.tree new.objects.tree) new) (sym law.tables)
+              (tables-on m.layers l s.tree step.tree new left leaves.paths.lowers state.tables new.objects.tree
+              (λ b i o g on is. handle-same s.tree step.tree new.objects.tree law.paths o g (law.held b i g on) is)
               (record {
                 live = λ b i f g k opens on key is. live-still (upper_of l) s.tree step.tree g.node k law.paths (law.held b i g on)
                     (live s.tree g.node k ((files k).0 (record { client = b; descriptor = i; file = f; opened = opens; key = key })) is);

@@ -11,10 +11,10 @@ use Rattle.plain_model.specs.Machine.{free_table, opening}
 use Rattle.plain_model.specs.Merging.{IsMerge}
 use Rattle.plain_model.specs.Runs.{joined, is_attached}
 use Rattle.mount_laws.proofs.Looks.{law_of_beginning}
-use Rattle.mount_calls.specs.declared.clients.Clients.{Clients}
+use Rattle.open_handles.specs.declared.clients.Clients.{Clients}
 use Rattle.open_handles.specs.declared.handle.Handle as handles
 use Rattle.mount_calls.specs.declared.mount.Mount.{Mount}
-use Rattle.mount_calls.specs.Attaching.{Attaches, IsSame, KeepsAttached, KeepsPlaces, TakesBack, opened_by}
+use Rattle.open_handles.specs.Attaching.{Attaches, IsSame, KeepsAttached, KeepsPlaces, TakesBack, opened_by}
 use Rattle.open_handles.specs.Descriptors.{opened}
 use Rattle.mount_calls.specs.Files.{AreOne}
 use Rattle.mount_calls.specs.States.{IsOpenAs, AreTables, IsStateOf}
@@ -55,10 +55,10 @@ module _ (clients new : Clients) (ks ls : List Table) (n : ℕ) (others : (b : �
   fewer-but k d x = grind arith
 
   -- the tables are right if its own is
-  pub tables-but : (U : Layer) (lowers : List Layer) (t : Tree) → AreTables (IsOpenAs U lowers t clients.directories) clients ks → KeepsPlaces clients new → ((b : ℕ) → b ≢ n → list_any (of b) ls ≡ list_any (of b) ks) → list_any (of n) ls ≡ is_some (get nat_cmp new.attached n) → length (handles_of ls n) ≡ cond (is_some (get nat_cmp new.attached n)) DESCRIPTORS_MAX 0 → ((d : ℕ) → handle_of ls n d ≡ None) → AreTables (IsOpenAs U lowers t new.directories) new ls
+  pub tables-but : (U : Layer) (lowers : List Layer) (t : Tree) → AreTables (IsOpenAs U lowers t clients.objects.tree) clients ks → KeepsPlaces clients new → ((b : ℕ) → b ≢ n → list_any (of b) ls ≡ list_any (of b) ks) → list_any (of n) ls ≡ is_some (get nat_cmp new.attached n) → length (handles_of ls n) ≡ cond (is_some (get nat_cmp new.attached n)) DESCRIPTORS_MAX 0 → ((d : ℕ) → handle_of ls n d ≡ None) → AreTables (IsOpenAs U lowers t new.objects.tree) new ls
   tables-but U lowers t a places any here long bare = grind arith
 
-module _ (U : Layer) (lowers : List Layer) (t : Tree) (clients : Clients) (ks : List Table) (a : AreTables (IsOpenAs U lowers t clients.directories) clients ks) (new : Clients) (n : ℕ) (h : Attaches clients new n) where
+module _ (U : Layer) (lowers : List Layer) (t : Tree) (clients : Clients) (ks : List Table) (a : AreTables (IsOpenAs U lowers t clients.objects.tree) clients ks) (new : Clients) (n : ℕ) (h : Attaches clients new n) where
   -- the client had no table
   fresh : list_any (of n) ks ≡ false
   fresh = a.attached n ∙ ap (λ (o : Option Descriptors). is_some o) h.fresh
@@ -68,7 +68,7 @@ module _ (U : Layer) (lowers : List Layer) (t : Tree) (clients : Clients) (ks : 
   opens-none d = ap (open_in d) h.there ∙ ap (λ z. opened z d) h.none
 
   -- the tables with the client's
-  come : AreTables (IsOpenAs U lowers t new.directories) new (ks ++ free_table n ∷ [])
+  come : AreTables (IsOpenAs U lowers t new.objects.tree) new (ks ++ free_table n ∷ [])
   come =
       tables-but clients new ks (ks ++ free_table n ∷ []) n h.others (handles-last-other ks n) opens-none U lowers t a (places-same clients new h.places) any-other
       (any-last ks n n ∙ ap (λ x. list_any (of n) ks || x) (eq-eqb n n refl) ∙ or-true (list_any (of n) ks) ∙ sym (ap (λ (o : Option Descriptors). is_some o) h.there))

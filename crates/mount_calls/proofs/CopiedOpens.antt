@@ -34,9 +34,9 @@ use Rattle.copy_up.specs.Showing.{ChangesNoSight, GainsParents}
 use Rattle.copy_up.proofs.Copying.{free-inode}
 use Rattle.copy_up.proofs.Keeping.{lowers-same}
 use Rattle.copy_up.proofs.Raising.{inode-raised}
-use Rattle.mount_calls.specs.declared.clients.Clients.{Clients}
+use Rattle.open_handles.specs.declared.clients.Clients.{Clients}
 use Rattle.mount_calls.specs.declared.mount.Mount.{Mount}
-use Rattle.mount_calls.specs.Attaching.{ChangesClient}
+use Rattle.open_handles.specs.Attaching.{ChangesClient}
 use Rattle.mount_calls.specs.Files.{file_at}
 use Rattle.mount_calls.specs.Keeping.{BringsNone}
 use Rattle.mount_calls.specs.Living.{KeepsFiles, SetsFile}
@@ -227,7 +227,7 @@ module _ (m : Mount) (s : State) (st : IsStateOf m s) (c : ℕ) (clients : Clien
   copied-state : IsStateOf (record m { layers = new; clients = clients }) (record s { tree = t })
   copied-state =
       state-on (record m { clients = clients }) s (reserved-state m s st c clients same) new leaf.lowers t s.serial mounts
-      (handle-on s.tree t (λ q d at. owns.paths q ∙ at) owns.hidden (λ d folder. owns.folders d ∙ folder) clients.directories)
+      (handle-on s.tree t (λ q d at. owns.paths q ∙ at) owns.hidden (λ d folder. owns.folders d ∙ folder) clients.objects.tree)
       (record {
         live = λ b fd g h k at on is live. law_of_live_through_owner p a.uid a.gid (the_upper m) V (the_lowers m) whole c a attributes-shown owns h.node k (other-file h.node k live) live;
         leaves = λ b fd h on. chown-leaves p a.uid a.gid whole st.layers.kept c h.node;

@@ -15,9 +15,9 @@ use Rattle.mount_laws.proofs.Descriptors.{law_of_read, law_of_directory_handle, 
 use Rattle.open_handles.specs.declared.handle.Handle as handles
 use Rattle.object_table.specs.declared.dentry.Unlisted.TheVariants as unlisted
 use Rattle.object_table.specs.Opened.{path_in, attributes_in}
-use Rattle.mount_calls.specs.declared.clients.Clients.{Clients}
+use Rattle.open_handles.specs.declared.clients.Clients.{Clients}
 use Rattle.mount_calls.specs.declared.mount.Mount.{Mount}
-use Rattle.mount_calls.specs.Attaching.{opened_by, directory_by, file_by, located, path_of, ChangesClient}
+use Rattle.open_handles.specs.Attaching.{opened_by, directory_by, file_by, located, path_of, ChangesClient}
 use Rattle.mount_calls.specs.Files.{seen_inode}
 use Rattle.mount_calls.specs.Opening.{read_fault}
 use Rattle.mount_calls.specs.Status.{stat_with, stat_of_inode, stat_at, stat_shown, unless_refused}
@@ -127,7 +127,7 @@ module _ (m : Mount) (s : State) (st : IsStateOf m s) (c d : ℕ) where
       (ap status_reply (tells x.2.location h.node x.2.located x.2.stands ∙ a.1)
       ∙ sym (ap (λ v. stat_seen v (s.tree h.node)) (ap (λ (z : Handle). z.view) x.2.access) ∙ folder-status (s.tree h.node) a.0 a.2))
     where
-      x : (h : Handle) × (handle_of s.tables c d ≡ Some h) × IsHandle s.tree m.clients.directories o h
+      x : (h : Handle) × (handle_of s.tables c d ≡ Some h) × IsHandle s.tree m.clients.objects.tree o h
       x = directory-at m s st c d o is
 
       h : Handle

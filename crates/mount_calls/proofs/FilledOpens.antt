@@ -22,9 +22,9 @@ use Rattle.mount_laws.proofs.Filling.{law_of_changed_file}
 use Rattle.mount_laws.proofs.OpenFiles.{law_of_live_one, law_of_live_shown}
 use Rattle.mount_laws.proofs.Opening.{law_of_opened_for_writing}
 use Rattle.copy_up.proofs.Keeping.{lowers-same}
-use Rattle.mount_calls.specs.declared.clients.Clients.{Clients}
+use Rattle.open_handles.specs.declared.clients.Clients.{Clients}
 use Rattle.mount_calls.specs.declared.mount.Mount.{Mount}
-use Rattle.mount_calls.specs.Attaching.{ChangesClient}
+use Rattle.open_handles.specs.Attaching.{ChangesClient}
 use Rattle.mount_calls.specs.Files.{is_leaf, file_at}
 use Rattle.mount_calls.specs.Living.{KeepsFiles, NamesFile}
 use Rattle.mount_calls.specs.Opening.{OpensFile}
@@ -165,7 +165,7 @@ module _ (m : Mount) (s : State) (st : IsStateOf m s) (c : ℕ) (clients : Clien
   filled-state =
       state-on reserved s (reserved-state m s st c clients same) new low t s.serial
       (subst (λ (Ls : List Layer). IsMountOf V Ls (record s { tree = t })) (sym (lowers-same m.layers new low)) alters.mounts)
-      (handle-on s.tree t (λ q e at. alters.paths q ∙ at) hidden-still (λ e folder. alters.folders e ∙ folder) clients.directories)
+      (handle-on s.tree t (λ q e at. alters.paths q ∙ at) hidden-still (λ e folder. alters.folders e ∙ folder) clients.objects.tree)
       (record {
         live = λ b fd g h k at on is. live-still h.node k;
         leaves = λ b fd h on. leaf-still h.node;

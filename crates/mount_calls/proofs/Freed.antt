@@ -17,7 +17,7 @@ use Rattle.make_remove.specs.Removing.{TakesName}
 use Rattle.mount_laws.specs.Renaming.{Renames}
 use Rattle.ov_base.specs.declared.call.CallOf.TheVariants as call
 use Rattle.rename_redirect.specs.Renaming.{Moves, RenameSteps}
-use Rattle.mount_calls.specs.declared.clients.Clients.{Clients}
+use Rattle.open_handles.specs.declared.clients.Clients.{Clients}
 use Rattle.mount_calls.specs.Living.{StaysHeld}
 use Rattle.mount_calls.specs.Renaming.{RenamesHeld}
 use Rattle.mount_calls.proofs.Lasting.{rename-held}

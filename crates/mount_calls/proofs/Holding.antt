@@ -6,16 +6,16 @@ use Rattle.std.specs.Result.{IsErr}
 use Rattle.open_handles.specs.declared.handle.Handle as handles
 use Rattle.open_handles.specs.Descriptors.{opened}
 use Rattle.open_handles.specs.Listings.{after_names}
-use Rattle.mount_calls.specs.Attaching.{opened_by, KeepsPlaces, ChangesClient}
+use Rattle.open_handles.specs.Attaching.{opened_by, KeepsPlaces, ChangesClient}
 use Rattle.open_handles.specs.Holding.{holds, handles_on, is_upper, holds_file, files_on}
 use Rattle.open_handles.specs.FileHolders.{HeldFiles, SameCounts}
 use Rattle.object_table.specs.Opened as places
 use Rattle.object_table.specs.Opened.{holders, SameHandles}
 use Rattle.open_handles.proofs.Holding.{handles_on-alike, handles_on-sets, handles_on-closes, files_on-alike, files_on-sets, files_on-closes}
-use Rattle.mount_calls.specs.declared.clients.Clients.{Clients}
+use Rattle.open_handles.specs.declared.clients.Clients.{Clients}
 use Rattle.mount_calls.specs.Held.{handles_by, handles_below, files_by, files_below, ClosesAll, ReleasesAll}
 use Rattle.mount_calls.specs.Opening.{OpensAt, OpensFile}
-use Rattle.mount_calls.specs.FreeDescriptors.{IsLowestFree}
+use Rattle.open_handles.specs.FreeDescriptors.{IsLowestFree}
 use Rattle.mount_calls.proofs.Serving.{lowest-slot}
 use Rattle.mount_calls.proofs.Counting.{below-same, below-changes, below-one, below-some, has-client}
 
@@ -70,7 +70,7 @@ pub client-changes : (old new : Clients) (c : ℕ) (x y : Descriptors) (P : List
 client-changes old new c x y P b changes places next = record { before = x; was = b.was; after = y; is = b.is; changes = changes; others = b.others; places = places; next = next }
 
 -- a client goes that has nothing open
-pub counts-gone : (old : Clients) (c : ℕ) (g : ℕ → Option Descriptors) → g c ≡ None → ((m : ℕ) → m ≢ c → g m ≡ get nat_cmp old.attached m) → ((d : ℕ) → opened_by old c d ≡ None) → Counts old g old.directories old.files
+pub counts-gone : (old : Clients) (c : ℕ) (g : ℕ → Option Descriptors) → g c ≡ None → ((m : ℕ) → m ≢ c → g m ≡ get nat_cmp old.attached m) → ((d : ℕ) → opened_by old c d ≡ None) → Counts old g old.objects.tree old.files
 counts-gone old c g gone others none = record {
   rising = λ n there. elim (cases_eq n c) [
     | inl e ↦ let no : false ≡ true = sym (ap (λ (o : Option Descriptors). is_some o) (ap g e ∙ gone)) ∙ there in absurd (cc)
@@ -94,7 +94,7 @@ counts-gone old c g gone others none = record {
 pub counts-back : (old : Clients) (c : ℕ) (g : ℕ → Option Descriptors) → old.next ≡ c + 1 → g c ≡ None → ((m : ℕ) → m ≢ c → g m ≡ get nat_cmp old.attached m) → ((d : ℕ) → opened_by old c d ≡ None) →
     record {
       rising : (n : ℕ) → is_some (g n) ≡ true → n < c;
-      held : (k : ℕ) → holders old.directories k ≡ handles_below g c k;
+      held : (k : ℕ) → holders old.objects.tree k ≡ handles_below g c k;
       held_files : (k : ℕ) → file_holders old.files k ≡ files_below g c k;
     }
 counts-back old c g last gone others none =
@@ -114,7 +114,7 @@ module _ (old : Clients) (c : ℕ) (before : Descriptors) (g : ℕ → Option De
   inside = old.rising c (ap (λ (o : Option Descriptors). is_some o) b.was)
 
   -- the counts are right that change as the client's do
-  counts-by : (ds : Dentries) (fs : HeldFiles) → ((k : ℕ) → holders ds k + handles_on before.slots.items k ≡ holders old.directories k + handles_on after.slots.items k) → ((k : ℕ) → file_holders fs k + files_on before.slots.items k ≡ file_holders old.files k + files_on after.slots.items k) → Counts old g ds fs
+  counts-by : (ds : Dentries) (fs : HeldFiles) → ((k : ℕ) → holders ds k + handles_on before.slots.items k ≡ holders old.objects.tree k + handles_on after.slots.items k) → ((k : ℕ) → file_holders fs k + files_on before.slots.items k ≡ file_holders old.files k + files_on after.slots.items k) → Counts old g ds fs
   counts-by ds fs held held_files = record {
     rising = λ n there. elim (cases_eq n c) [
       | inl e ↦ let below = inside in omega arith
@@ -125,60 +125,60 @@ module _ (old : Clients) (c : ℕ) (before : Descriptors) (g : ℕ → Option De
   }
 
   -- the slots stay
-  pub counts-same : (ds : Dentries) (fs : HeldFiles) → after.slots.items ≡ before.slots.items → SameHandles old.directories ds → SameCounts old.files fs → Counts old g ds fs
+  pub counts-same : (ds : Dentries) (fs : HeldFiles) → after.slots.items ≡ before.slots.items → SameHandles old.objects.tree ds → SameCounts old.files fs → Counts old g ds fs
   counts-same ds fs same directories files =
       counts-by ds fs
       (λ k. omega (arith, ap (λ s. handles_on s k) same, directories.counted k))
       (λ k. omega (arith, ap (λ s. files_on s k) same, files k))
 
   -- one slot is set
-  counts-set : (d : ℕ) (x : Option handles.Handle) → SetsSlot before.slots.items after.slots.items d x → (ds : Dentries) (fs : HeldFiles) → ((k : ℕ) → holders ds k + holds (opened before.slots.items d) k ≡ holders old.directories k + holds x k) → ((k : ℕ) → file_holders fs k + holds_file (opened before.slots.items d) k ≡ file_holders old.files k + holds_file x k) → Counts old g ds fs
+  counts-set : (d : ℕ) (x : Option handles.Handle) → SetsSlot before.slots.items after.slots.items d x → (ds : Dentries) (fs : HeldFiles) → ((k : ℕ) → holders ds k + holds (opened before.slots.items d) k ≡ holders old.objects.tree k + holds x k) → ((k : ℕ) → file_holders fs k + holds_file (opened before.slots.items d) k ≡ file_holders old.files k + holds_file x k) → Counts old g ds fs
   counts-set d x sets ds fs held held_files =
       counts-by ds fs
       (λ k. omega (arith, handles_on-sets before.slots.items after.slots.items d k x sets, held k))
       (λ k. omega (arith, files_on-sets before.slots.items after.slots.items d k x sets, held_files k))
 
   -- a handle changes, and stays on its directory, or its file
-  pub counts-changed : (d : ℕ) (change : handles.Handle → handles.Handle) → KeepsOn change → ChangesSlot before.slots.items after.slots.items d change → Counts old g old.directories old.files
+  pub counts-changed : (d : ℕ) (change : handles.Handle → handles.Handle) → KeepsOn change → ChangesSlot before.slots.items after.slots.items d change → Counts old g old.objects.tree old.files
   counts-changed d change keeps sets =
-      counts-set d _ sets old.directories old.files
+      counts-set d _ sets old.objects.tree old.files
       (λ k. omega (arith, (same (opened before.slots.items d) k).0))
       (λ k. omega (arith, (same (opened before.slots.items d) k).1))
     where
       same : (o : Option handles.Handle) (k : ℕ) → (holds (option_map change o) k ≡ holds o k) × (holds_file (option_map change o) k ≡ holds_file o k)
       same o k = grind arith
 
-  pub counts-gives : (d n : ℕ) (r : Result (List Name) AllocError) → GivesNames before.slots.items after.slots.items d n r → Counts old g old.directories old.files
+  pub counts-gives : (d n : ℕ) (r : Result (List Name) AllocError) → GivesNames before.slots.items after.slots.items d n r → Counts old g old.objects.tree old.files
   counts-gives d n (Ok names) gives = counts-changed d (after_names n) (on-after n) gives.left
-  counts-gives d n (Err e) gives = counts-same old.directories old.files gives.err (record { located = λ j. refl; counted = λ j. refl }) (λ j. refl)
+  counts-gives d n (Err e) gives = counts-same old.objects.tree old.files gives.err (record { located = λ j. refl; counted = λ j. refl }) (λ j. refl)
 
   -- a descriptor opens, on a directory or on a file
   module _ (d : ℕ) (free : opened before.slots.items d ≡ None) where
-    pub counts-opens : (p : Path) (o : OpenDirectory) (ds : Dentries) → SetsSlot before.slots.items after.slots.items d (Some (Directory o)) → places.Opens old.directories ds p o.directory → Counts old g ds old.files
+    pub counts-opens : (p : Path) (o : OpenDirectory) (ds : Dentries) → SetsSlot before.slots.items after.slots.items d (Some (Directory o)) → places.Opens old.objects.tree ds p o.directory → Counts old g ds old.files
     counts-opens p o ds sets opens =
         counts-set d (Some (Directory o)) sets ds old.files
         (λ k. omega (arith, ap (λ z. holds z k) free, counted k))
         (λ k. omega (arith, ap (λ z. holds_file z k) free))
       where
-        counted : (k : ℕ) → holders ds k ≡ holders old.directories k + holds (Some (Directory o)) k
+        counted : (k : ℕ) → holders ds k ≡ holders old.objects.tree k + holds (Some (Directory o)) k
         counted k = grind arith
 
-    pub counts-opens-file : (f : OpenFile) (fs : HeldFiles) → SetsSlot before.slots.items after.slots.items d (Some (File f)) → ((k : ℕ) → file_holders fs k ≡ file_holders old.files k + is_upper f.source k) → Counts old g old.directories fs
+    pub counts-opens-file : (f : OpenFile) (fs : HeldFiles) → SetsSlot before.slots.items after.slots.items d (Some (File f)) → ((k : ℕ) → file_holders fs k ≡ file_holders old.files k + is_upper f.source k) → Counts old g old.objects.tree fs
     counts-opens-file f fs sets counted =
-        counts-set d (Some (File f)) sets old.directories fs
+        counts-set d (Some (File f)) sets old.objects.tree fs
         (λ k. omega (arith, ap (λ z. holds z k) free))
         (λ k. omega (arith, ap (λ z. holds_file z k) free, counted k))
 
   -- a descriptor closes
   module _ (d : ℕ) (h : handles.Handle) (stood : opened before.slots.items d ≡ Some h) (sets : SetsSlot before.slots.items after.slots.items d None) where
     -- what it is on is held
-    pub held-enough : (k : ℕ) → handles_on (Some h ∷ []) k ≤ holders old.directories k
+    pub held-enough : (k : ℕ) → handles_on (Some h ∷ []) k ≤ holders old.objects.tree k
     held-enough k = omega (arith, below-one (λ x. handles_by x k) (get nat_cmp old.attached) old.next c inside, ap (λ o. handles_by o k) b.was, handles_on-closes before.slots.items after.slots.items d k sets, ap (λ x. holds x k) stood, old.held k)
 
     pub files-enough : (k : ℕ) → files_on (Some h ∷ []) k ≤ file_holders old.files k
     files-enough k = omega (arith, below-one (λ x. files_by x k) (get nat_cmp old.attached) old.next c inside, ap (λ o. files_by o k) b.was, files_on-closes before.slots.items after.slots.items d k sets, ap (λ x. holds_file x k) stood, old.held_files k)
 
-    module _ (ds : Dentries) (fs : HeldFiles) (closes : ClosesAll old.directories ds (Some h ∷ [])) (releases : ReleasesAll old.files fs (Some h ∷ [])) where
+    module _ (ds : Dentries) (fs : HeldFiles) (closes : ClosesAll old.objects.tree ds (Some h ∷ [])) (releases : ReleasesAll old.files fs (Some h ∷ [])) where
       pub counts-closes : Counts old g ds fs
       counts-closes =
           counts-set d None sets ds fs
@@ -186,17 +186,17 @@ module _ (old : Clients) (c : ℕ) (before : Descriptors) (g : ℕ → Option De
           (λ k. omega (arith, ap (λ x. holds_file x k) stood, releases k))
 
       -- what another handle holds stands where it stood
-      pub placed-closes : (n e : ℕ) (x : OpenDirectory) (l : Location) → option_and_then (λ (z : Descriptors). opened z.slots.items e) (g n) ≡ Some (Directory x) → places.opened old.directories x.directory ≡ Some l → places.opened ds x.directory ≡ Some l
+      pub placed-closes : (n e : ℕ) (x : OpenDirectory) (l : Location) → option_and_then (λ (z : Descriptors). opened z.slots.items e) (g n) ≡ Some (Directory x) → places.opened old.objects.tree x.directory ≡ Some l → places.opened ds x.directory ≡ Some l
       placed-closes n e x l there at =
           let some = below-some g old.next n e x (counts-closes.rising n (has-client g n e (Directory x) there)) there in
-          closes.located x.directory ∙ kept-located (holders ds x.directory) (places.opened old.directories x.directory) (omega (arith, some, counts-closes.held x.directory)) ∙ at
+          closes.located x.directory ∙ kept-located (holders ds x.directory) (places.opened old.objects.tree x.directory) (omega (arith, some, counts-closes.held x.directory)) ∙ at
 
 -- what has a number that is open keeps its place where one is opened
 pub placed-opens : (old new : Dentries) (p : Path) (j : ℕ) → places.Opens old new p j → (k : ℕ) (l : Location) → places.opened old k ≡ Some l → places.opened new k ≡ Some l
 placed-opens old new p j opens k l at = grind arith
 
 -- a directory that a client has open is held
-pub directory-held : (clients : Clients) (c d : ℕ) (o : OpenDirectory) → opened_by clients c d ≡ Some (Directory o) → 0 < holders clients.directories o.directory
+pub directory-held : (clients : Clients) (c d : ℕ) (o : OpenDirectory) → opened_by clients c d ≡ Some (Directory o) → 0 < holders clients.objects.tree o.directory
 directory-held clients c d o is =
     let inside = clients.rising c (has-client (get nat_cmp clients.attached) c d (Directory o) is) in
     omega (arith, below-some (get nat_cmp clients.attached) clients.next c d o inside is, clients.held o.directory)
@@ -210,7 +210,7 @@ stays-client old new c P there same changes places next = by (get nat_cmp old.at
     by (Some x) is h = client-changes old new c x x P (record { was = is; is = ap (λ z. get nat_cmp z c) same ∙ is; others = λ m off. ap (λ z. get nat_cmp z m) same }) (changes x is) places next
 
 -- an open that wanted memory for the directory
-pub opens-failed : (old new : Clients) (c d : ℕ) (p : Path) (e : AllocError) → IsSome (get nat_cmp old.attached c) → IsLowestFree old c d → new.attached ≡ old.attached → SameHandles old.directories new.directories → new.next ≡ old.next → OpensAt old new c d p (Err e)
+pub opens-failed : (old new : Clients) (c d : ℕ) (p : Path) (e : AllocError) → IsSome (get nat_cmp old.attached c) → IsLowestFree old c d → new.attached ≡ old.attached → SameHandles old.objects.tree new.objects.tree → new.next ≡ old.next → OpensAt old new c d p (Err e)
 opens-failed old new c d p e there low same handles next = record {
   handle = record { directory = 0; listing = None };
   fresh = refl;
@@ -219,7 +219,7 @@ opens-failed old new c d p e there low same handles next = record {
 }
 
 -- an open that wanted memory for the file
-pub file-failed : (old new : Clients) (c d : ℕ) (f : OpenFile) (r : Result (Unit {0}) AllocError) → IsErr r → IsSome (get nat_cmp old.attached c) → IsLowestFree old c d → new.attached ≡ old.attached → new.directories ≡ old.directories → new.next ≡ old.next → OpensFile old new c d f r
+pub file-failed : (old new : Clients) (c d : ℕ) (f : OpenFile) (r : Result (Unit {0}) AllocError) → IsErr r → IsSome (get nat_cmp old.attached c) → IsLowestFree old c d → new.attached ≡ old.attached → new.objects.tree ≡ old.objects.tree → new.next ≡ old.next → OpensFile old new c d f r
 file-failed old new c d f (Ok x) wrong there low same handles next = let no : false ≡ true = wrong in absurd (cc)
 file-failed old new c d f (Err e) wrong there low same handles next =
     stays-client old new c _ there same (λ x is. record { lowest = lowest-slot old c d x is low; opens = tt; err = refl }) (λ b d o l stood at. ap (λ z. places.opened z o.directory) handles ∙ at) next

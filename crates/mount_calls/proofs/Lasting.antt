@@ -29,7 +29,7 @@ use Rattle.make_remove.specs.Removing.{TakesName, Unnames}
 use Rattle.rename_redirect.specs.Linking.{GainsBoth, GivesName, LinkSteps}
 use Rattle.rename_redirect.specs.Renaming.{MovesOver, RenameSteps}
 use Rattle.mount_calls.specs.Files.{is_leaf}
-use Rattle.mount_calls.specs.declared.clients.Clients.{Clients}
+use Rattle.open_handles.specs.declared.clients.Clients.{Clients}
 use Rattle.mount_calls.specs.Living.{StaysLive, KeepsLive, KeepsHeld, KeepsHeldFrom}
 use Rattle.mount_calls.proofs.Raising.{link-lost}
 pub use Rattle.mount_calls.proofs.Leaves.{mkdir-leaves, symlink-leaves, link-leaves, chmod-leaves, chown-leaves, set-leaves, delete-leaves, open-leaves, unlink-leaves, rmdir-leaves, rename-leaves}

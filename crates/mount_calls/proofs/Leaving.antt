@@ -3,9 +3,9 @@ use Rattle.std.proofs.Common.{arith, ◌≡◌, ◌≢◌, ℕ, false, not, List
 use Rattle.merged_lookup.specs.Merged.{upper_of}
 use Rattle.mount_calls.proofs.Words.{handles_of, Layer, list_any, lowers_of, State, Table, Tree}
 use Rattle.plain_model.specs.Runs.{without_table}
-use Rattle.mount_calls.specs.declared.clients.Clients.{Clients}
+use Rattle.open_handles.specs.declared.clients.Clients.{Clients}
 use Rattle.mount_calls.specs.declared.mount.Mount.{Mount}
-use Rattle.mount_calls.specs.Attaching.{Detaches, KeepsPlaces}
+use Rattle.open_handles.specs.Attaching.{Detaches, KeepsPlaces}
 use Rattle.mount_calls.specs.States.{IsOpenAs, AreTables, IsStateOf}
 use Rattle.mount_calls.proofs.Coming.{of, open_in, fewer-but, tables-but}
 use Rattle.mount_calls.proofs.Serving.{one-fewer}
@@ -36,7 +36,7 @@ any-kept [] n b h = refl
 any-kept (k ∷ ks) n b h = grind (arith, any-kept ks n b h)
 
 -- without a client that goes the tables are those of the others
-go : (U : Layer) (lowers : List Layer) (t : Tree) (clients new : Clients) (ks : List Table) (n : ℕ) → AreTables (IsOpenAs U lowers t clients.directories) clients ks → Detaches clients new n → KeepsPlaces clients new → AreTables (IsOpenAs U lowers t new.directories) new (without n ks)
+go : (U : Layer) (lowers : List Layer) (t : Tree) (clients new : Clients) (ks : List Table) (n : ℕ) → AreTables (IsOpenAs U lowers t clients.objects.tree) clients ks → Detaches clients new n → KeepsPlaces clients new → AreTables (IsOpenAs U lowers t new.objects.tree) new (without n ks)
 go U lowers t clients new ks n a h places = grind (arith, tables-but, handles-kept, any-kept, any-gone, handles-gone)
 
 -- the mount stands for the state without a client that is gone

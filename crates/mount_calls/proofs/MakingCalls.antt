@@ -5,9 +5,9 @@ use Rattle.std.specs.BTreeMap.{get}
 use Rattle.mount_calls.proofs.Words.{after, AllocError, Attributes, Call, Errno, Layers, nat_cmp, Path, refusal, Reply, reply_of, State, StaysMount}
 use Rattle.ov_base.specs.declared.reply.Reply.TheVariants as reply
 use Rattle.copy_up.specs.Showing.{StaysThin}
-use Rattle.mount_calls.specs.declared.clients.Clients.{Clients}
+use Rattle.open_handles.specs.declared.clients.Clients.{Clients}
 use Rattle.mount_calls.specs.declared.mount.Mount.{Mount}
-use Rattle.mount_calls.specs.Attaching.{KeepsAttached}
+use Rattle.open_handles.specs.Attaching.{KeepsAttached}
 use Rattle.mount_calls.specs.Keeping.{KeepsLayers}
 use Rattle.mount_calls.specs.Living.{KeepsNamed, StaysLive}
 use Rattle.mount_calls.specs.Making.{AnswersCall, MakesCall, RunsOut, ServesEach}

@@ -14,7 +14,7 @@ use Rattle.mount_laws.proofs.Links.{first-none}
 use Rattle.mount_laws.proofs.Opening.{law_of_opened_for_writing}
 use Rattle.mount_laws.proofs.OpenFiles.{law_of_live_shown}
 use Rattle.mount_laws.proofs.Opens.{put-same}
-use Rattle.mount_calls.specs.declared.clients.Clients.{Clients}
+use Rattle.open_handles.specs.declared.clients.Clients.{Clients}
 use Rattle.mount_calls.specs.declared.mount.Mount.{Mount}
 use Rattle.mount_calls.specs.Files.{IsKept, IsOf, read_mark, source_at, file_at}
 use Rattle.mount_calls.specs.Living.{SetsFile}

@@ -25,13 +25,13 @@ use Rattle.mount_laws.proofs.Opening.{law_of_open_refusal, law_of_opened_for_rea
 use Rattle.mount_laws.proofs.OpenFiles.{law_of_live_one, law_of_live_shown}
 use Rattle.open_handles.specs.declared.handle.Handle as handles
 use Rattle.open_handles.specs.Listings.{Opens}
-use Rattle.mount_calls.specs.declared.clients.Clients.{Clients}
+use Rattle.open_handles.specs.declared.clients.Clients.{Clients}
 use Rattle.mount_calls.specs.declared.mount.Mount.{Mount}
 use Rattle.std.specs.BTreeMap.{get}
 use Rattle.std.specs.Ordering.{nat_cmp}
 use Rattle.notice_laws.proofs.Numbers.{some-is}
-use Rattle.mount_calls.specs.Attaching.{ChangesClient}
-use Rattle.mount_calls.specs.FreeDescriptors.{IsFull, IsLowestFree}
+use Rattle.open_handles.specs.Attaching.{ChangesClient}
+use Rattle.open_handles.specs.FreeDescriptors.{IsFull, IsLowestFree}
 use Rattle.mount_calls.specs.Files.{is_leaf, read_mark, IsFrozen, IsKept, KeepsBytes, IsOf, IsOpenOn, AreOne, SeesFile, source_at, file_at}
 use Rattle.mount_calls.specs.Opening.{inode_refusal, OpensAt, OpensFile}
 use Rattle.mount_calls.specs.States.{IsLeft, AreTables, IsStateOf, Serves}
@@ -212,7 +212,7 @@ module _ (m : Mount) (s : State) (st : IsStateOf m s) (c : ℕ) where
         let sets : ChangesClient m.clients new c (λ x y. SetsSlot x y d (Some h)) = changes-as m.clients new c _ _ (λ x y g. g.opens) ch in
         with-tables m s st (record m { clients = new }) (with_handle s.tables c d (Some made)) refl refl refl refl ch.next
         (tables-set alike m.clients s.tables st.tables new (Alike m.layers s new) c d (Some h) (Some made) sets ch.changes.lowest.in_range
-        (λ b i o g now was on like. placed (the_upper m) (the_lowers m) s.tree m.clients.directories new.directories o g (λ x l q at. ch.places b i x l (now ∙ ap Some q) at) like)
+        (λ b i o g now was on like. placed (the_upper m) (the_lowers m) s.tree m.clients.objects.tree new.objects.tree o g (λ x l q at. ch.places b i x l (now ∙ ap Some q) at) like)
         is)
         (one-more m.clients new s.tables alike st.tables c d h made sets ch.changes.lowest.in_range st.one fresh)
 

@@ -3,10 +3,10 @@ use Rattle.std.proofs.Common.{◌≡◌, ℕ, true, false, List, [], Option, Non
 use Rattle.std.proofs.Common.{arith}
 use Rattle.mount_calls.proofs.Words.{AllocError, ChangesSlot, Directory, directory_in, false≢true, GivesNames, IfOk, layers_of, Name, OpenDirectory, SetsSlot, with_listing}
 use Rattle.std.specs.Option.{IsSomeAnd}
-use Rattle.mount_calls.specs.declared.clients.Clients.{Clients}
+use Rattle.open_handles.specs.declared.clients.Clients.{Clients}
 use Rattle.open_handles.specs.declared.handle.Handle as handles
 use Rattle.mount_calls.specs.declared.mount.Mount.{Mount}
-use Rattle.mount_calls.specs.Attaching.{opened_by, path_of, ChangesClient}
+use Rattle.open_handles.specs.Attaching.{opened_by, path_of, ChangesClient}
 use Rattle.open_handles.specs.Descriptors.{opened}
 use Rattle.open_handles.specs.Listings.{after_names, names_left}
 use Rattle.mount_calls.specs.States.{AreNamesIn, AreLeft, Pages}

@@ -14,8 +14,8 @@ use Rattle.object_table.specs.Opened as places
 use Rattle.object_table.specs.Opened.{NoneBelow}
 use Rattle.object_table.specs.Renames.{Moves}
 use Rattle.open_handles.specs.declared.handle.Handle as handles
-use Rattle.mount_calls.specs.declared.clients.Clients.{Clients}
-use Rattle.mount_calls.specs.Attaching.{opened_by}
+use Rattle.open_handles.specs.declared.clients.Clients.{Clients}
+use Rattle.open_handles.specs.Attaching.{opened_by}
 use Rattle.mount_calls.specs.Files.{AreOne, IsOpenOn}
 use Rattle.mount_calls.specs.States.{Stands, IsHandle, IsOpenAs, IsSlot, AreTables}
 use Rattle.mount_calls.proofs.Carrying.{CarriesFiles, file-on, open-on}

@@ -19,7 +19,7 @@ use Rattle.mount_laws.specs.Renaming.{is_one, move_fault, rename_fault, Renames,
 use Rattle.mount_laws.proofs.Renaming.{law_of_rename, law_of_same_rename, told}
 use Rattle.object_table.specs.Opened as places
 use Rattle.object_table.specs.Opened.{NoneBelow}
-use Rattle.mount_calls.specs.declared.clients.Clients.{Clients}
+use Rattle.open_handles.specs.declared.clients.Clients.{Clients}
 use Rattle.mount_calls.specs.declared.mount.Mount.{Mount}
 use Rattle.mount_calls.specs.Living.{KeepsNamed, StaysLive}
 use Rattle.mount_calls.specs.Removing.{HasAttributes, IsOpenNowhere}
@@ -84,7 +84,7 @@ never-rmdir p w d h fine = grind arith
 module _ (m : Mount) (s : State) (st : IsStateOf m s) where
   -- a directory that is open at a path other than the root is one that rmdir would find
   open-found :
-      (c : ℕ) (p : Path) → p ≢ [] → AreHeld m.clients → (k : ℕ) → places.opened m.clients.directories k ≡ Some (At p) →
+      (c : ℕ) (p : Path) → p ≢ [] → AreHeld m.clients → (k : ℕ) → places.opened m.clients.objects.tree k ≡ Some (At p) →
       rmdir_fault (the_layers m) p false ≡ None
   open-found c p root counted k is =
       let there = open-there m s st counted k p is in
@@ -120,8 +120,8 @@ module _ (m : Mount) (s : State) (st : IsStateOf m s) where
     -- what p shows moves to q
     module _
         (new : Layers) (low : new.lowers ≡ m.layers.lowers) (held : RenamesHeld m.clients m.layers new m.redirects m.metacopy p q)
-        (counted : AreCounted m.clients) (below : NoneBelow m.clients.directories q)
-        (replaced : Option Attributes) (copied : (k : ℕ) → places.opened m.clients.directories k ≡ Some (At q) → IsSome replaced)
+        (counted : AreCounted m.clients) (below : NoneBelow m.clients.objects.tree q)
+        (replaced : Option Attributes) (copied : (k : ℕ) → places.opened m.clients.objects.tree k ≡ Some (At q) → IsSome replaced)
         (has : (a : Attributes) → replaced ≡ Some a → HasAttributes (the_layers m) q a)
         (clients : Clients) (follows : RenamesOpen m.clients clients p q replaced) where
       abbrev V : Layer
@@ -142,10 +142,10 @@ module _ (m : Mount) (s : State) (st : IsStateOf m s) where
           (rename-leaves p q) counted
 
       directories :
-          (b fd : ℕ) (o : OpenDirectory) (h : Handle) → handle_of s.tables b fd ≡ Some h → IsHandle s.tree m.clients.directories o h →
-          IsHandle u clients.directories o h
+          (b fd : ℕ) (o : OpenDirectory) (h : Handle) → handle_of s.tables b fd ≡ Some h → IsHandle s.tree m.clients.objects.tree o h →
+          IsHandle u clients.objects.tree o h
       directories =
-          handle-moved V (the_lowers m) s c p q law m.clients clients follows.attached m.clients.directories clients.directories
+          handle-moved V (the_lowers m) s c p q law m.clients clients follows.attached m.clients.objects.tree clients.objects.tree
           replaced follows.places below copied
           (λ a e d at. folder-has m s st new q a (has a e) d at)
 
@@ -154,11 +154,11 @@ module _ (m : Mount) (s : State) (st : IsStateOf m s) where
 
       tables : AreTables (Alike new (after s c (call.Rename p q)) clients) clients left
       tables =
-          subst (λ z. AreTables (IsOpenAs V (map layer_of z.items) u clients.directories) clients left) (sym low)
+          subst (λ z. AreTables (IsOpenAs V (map layer_of z.items) u clients.objects.tree) clients left) (sym low)
           (tables-renamed V (the_lowers m) s c p q law m.clients clients follows.attached
-          (Alike m.layers s m.clients) (IsOpenAs V (the_lowers m) u clients.directories)
+          (Alike m.layers s m.clients) (IsOpenAs V (the_lowers m) u clients.objects.tree)
           (open-renamed V (the_lowers m) s c p q law m.clients clients follows.attached
-          (the_upper m) m.clients.directories clients.directories directories files)
+          (the_upper m) m.clients.objects.tree clients.objects.tree directories files)
           st.tables)
 
       -- and the mount stands for the state after it
@@ -189,13 +189,13 @@ module _
   prepared-state = ∥∥₁_map state (λ x. (x.0, same-state m x.0 x.1 clients same))
 
   -- no directory is open below one in which no name is shown
-  pub bare-below : ShowsNoName (the_layers m) q → NoneBelow clients.directories q
+  pub bare-below : ShowsNoName (the_layers m) q → NoneBelow clients.objects.tree q
   bare-below bare k n r is = ∥∥₁_elim prepared-state ⊥_prop (λ x. none-below prepared x.0 x.1 m.layers q bare held k n r is)
 
   -- where the directory that is replaced is open, its attributes were copied
   pub replaced-copied :
       q ≢ [] → (replaced : Option Attributes) → IfNone replaced (rmdir_fault (the_layers m) q false ≡ None → IsOpenNowhere m.clients q) →
-      (k : ℕ) → places.opened clients.directories k ≡ Some (At q) → IsSome replaced
+      (k : ℕ) → places.opened clients.objects.tree k ≡ Some (At q) → IsSome replaced
   replaced-copied root None nowhere k is =
       absurd
       (∥∥₁_elim prepared-state ⊥_prop

@@ -55,7 +55,7 @@ pub state-rewritten : (m : Mount) (s : State) → IsStateOf m s → (new : Layer
 state-rewritten m s st new k d bytes on keeps sets =
     state-on m s st new sets.lowers (rewritten s.tree d bytes) s.serial
     (subst (λ z. IsMountOf V z (record s { tree = rewritten s.tree d bytes })) (sym low) rewrites.mounts)
-    (directory-still U V lowers s d k bytes rewrites m.clients.directories)
+    (directory-still U V lowers s d k bytes rewrites m.clients.objects.tree)
     (record {
       live = λ c fd f h j at is key. live-still U V lowers s d k bytes rewrites h.node j (st.one k j d h.node on (record { client = c; descriptor = fd; file = f; handle = h; opened = at; key = key; on = is; at = refl }));
       leaves = λ c fd h is. leaf-still U V lowers s d k bytes rewrites h.node;

@@ -14,9 +14,9 @@ use Rattle.mount_laws.proofs.Descriptors.{law_of_file_seek}
 use Rattle.mount_laws.proofs.Seeks.{law_of_seek}
 use Rattle.open_handles.specs.declared.handle.Handle as handles
 use Rattle.open_handles.specs.Places.{sought_from}
-use Rattle.mount_calls.specs.declared.clients.Clients.{Clients}
+use Rattle.open_handles.specs.declared.clients.Clients.{Clients}
 use Rattle.mount_calls.specs.declared.mount.Mount.{Mount}
-use Rattle.mount_calls.specs.Attaching.{opened_by, file_by, ChangesClient}
+use Rattle.open_handles.specs.Attaching.{opened_by, file_by, ChangesClient}
 use Rattle.mount_calls.specs.Files.{IsFile, seen_inode, bytes_of_inode}
 use Rattle.mount_calls.specs.Opening.{seek_fault, seek_place}
 use Rattle.mount_calls.specs.States.{IsStateOf, Serves}

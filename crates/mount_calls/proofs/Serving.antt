@@ -5,13 +5,13 @@ use Rattle.std.proofs.lemmas.Bool.{lt-ltb, le-ltb}
 use Rattle.std.proofs.lemmas.Option.{slice_get_within}
 use Rattle.std.specs.List.{position, position_or_len}
 use Rattle.std.specs.BTreeMap.{get}
-use Rattle.mount_calls.specs.declared.clients.Clients.{Clients}
+use Rattle.open_handles.specs.declared.clients.Clients.{Clients}
 use Rattle.object_table.specs.Opened as places
 use Rattle.open_handles.specs.declared.handle.Handle as handles
-use Rattle.mount_calls.specs.Attaching.{KeepsAttached, KeepsPlaces, opened_by, ChangesClient}
+use Rattle.open_handles.specs.Attaching.{KeepsAttached, KeepsPlaces, opened_by, ChangesClient}
 use Rattle.open_handles.specs.Descriptors.{opened, IsFull, IsLowestFree}
 use Rattle.mount_calls.specs.Files.{IsOpenOn, AreOne}
-use Rattle.mount_calls.specs.FreeDescriptors as client
+use Rattle.open_handles.specs.FreeDescriptors as client
 use Rattle.mount_calls.specs.States.{Stands, IsHandle, IsOpenAs, IsSlot, AreTables}
 
 -- one element of a list after it is set, and the others
@@ -60,7 +60,7 @@ pub placed : (U : Layer) (lowers : List Layer) (t : Tree) (ds es : Dentries) (o 
 placed U lowers t ds es o h f s = grind arith
 
 -- where the open directories are the same, they stand where they stood
-pub places-same : (clients new : Clients) → new.directories ≡ clients.directories → KeepsPlaces clients new
+pub places-same : (clients new : Clients) → new.objects.tree ≡ clients.objects.tree → KeepsPlaces clients new
 places-same clients new same c d o l is at = ap (λ z. places.opened z o.directory) same ∙ at
 
 pub slot-some : (P : handles.Handle → Handle → Type 0) (a : Option handles.Handle) (x : Option Handle) → IsSlot P a x → is_some a ≡ is_some x

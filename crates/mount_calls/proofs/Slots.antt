@@ -3,9 +3,9 @@ use Rattle.std.proofs.Common.{◌≡◌, ℕ, ◌<◌, true, List, Option, None,
 use Rattle.mount_calls.proofs.Words.{ChangesSlot, DESCRIPTORS_MAX, Directory, File, file_in, FileSource, Handle, handle_of, handles_of, IsLive, Layer, Lower, NodeId, OpenDirectory, OpenFile, SetsSlot, State, Tree, Upper, with_handle, with_place}
 use Rattle.ov_base.specs.declared.place.Place.{Place}
 use Rattle.open_handles.specs.declared.handle.Handle as handles
-use Rattle.mount_calls.specs.declared.clients.Clients.{Clients}
+use Rattle.open_handles.specs.declared.clients.Clients.{Clients}
 use Rattle.mount_calls.specs.declared.mount.Mount.{Mount}
-use Rattle.mount_calls.specs.Attaching.{opened_by, ChangesClient}
+use Rattle.open_handles.specs.Attaching.{opened_by, ChangesClient}
 use Rattle.mount_calls.specs.Files.{is_leaf, IsOf, IsFile, IsOpenOn, SeesFile}
 use Rattle.mount_calls.specs.States.{IsHandle, IsSlot, IsStateOf}
 use Rattle.mount_calls.proofs.Serving.{opened-is, slot-closed, open-at, room-of, in-room, tables-set, placed, one-fewer, set-fewer}
@@ -78,7 +78,7 @@ module _ (m : Mount) (s : State) (st : IsStateOf m s) where
     file-at f e = open-at alike m.clients s.tables st.tables c d (File f) e
 
     -- the handle of an open directory
-    pub directory-at : (o : OpenDirectory) → opened_by m.clients c d ≡ Some (Directory o) → (h : Handle) × (handle_of s.tables c d ≡ Some h) × IsHandle s.tree m.clients.directories o h
+    pub directory-at : (o : OpenDirectory) → opened_by m.clients c d ≡ Some (Directory o) → (h : Handle) × (handle_of s.tables c d ≡ Some h) × IsHandle s.tree m.clients.objects.tree o h
     directory-at o e = open-at alike m.clients s.tables st.tables c d (Directory o) e
 
     -- what isn't open has none
@@ -86,7 +86,7 @@ module _ (m : Mount) (s : State) (st : IsStateOf m s) where
     handle-none e = slot-closed alike _ _ (st.tables.slots c d) e
 
     -- what holds where nothing is open, where a file is, and where a directory is
-    pub by-opened : (P : Option handles.Handle → Type 0) → (handle_of s.tables c d ≡ None → P None) → ((f : OpenFile) (h : Handle) → handle_of s.tables c d ≡ Some h → IsFile (the_upper m) (the_lowers m) s.tree f h → P (Some (File f))) → ((o : OpenDirectory) (h : Handle) → handle_of s.tables c d ≡ Some h → IsHandle s.tree m.clients.directories o h → P (Some (Directory o))) → P (opened_by m.clients c d)
+    pub by-opened : (P : Option handles.Handle → Type 0) → (handle_of s.tables c d ≡ None → P None) → ((f : OpenFile) (h : Handle) → handle_of s.tables c d ≡ Some h → IsFile (the_upper m) (the_lowers m) s.tree f h → P (Some (File f))) → ((o : OpenDirectory) (h : Handle) → handle_of s.tables c d ≡ Some h → IsHandle s.tree m.clients.objects.tree o h → P (Some (Directory o))) → P (opened_by m.clients c d)
     by-opened P none file directory = grind arith
 
     module _ (h : Handle) (on : handle_of s.tables c d ≡ Some h) where
@@ -95,7 +95,7 @@ module _ (m : Mount) (s : State) (st : IsStateOf m s) where
       state-set new same redirects metacopy limit o x ch again like =
           with-tables m s st new (with_handle s.tables c d x) same redirects metacopy limit ch.next
           (tables-set alike m.clients s.tables st.tables new.clients (Alike m.layers s new.clients) c d o x ch inside
-          (λ b i p z opens was is l. placed (the_upper m) (the_lowers m) s.tree m.clients.directories new.clients.directories p z (λ e q is_e at. ch.places b i e q (opens ∙ ap Some is_e) at) l)
+          (λ b i p z opens was is l. placed (the_upper m) (the_lowers m) s.tree m.clients.objects.tree new.clients.objects.tree p z (λ e q is_e at. ch.places b i e q (opens ∙ ap Some is_e) at) l)
           like)
           (one-fewer m.clients new.clients s.tables (with_handle s.tables c d x) (set-fewer m.clients new.clients s.tables c d o x ch within again) st.one)
         where

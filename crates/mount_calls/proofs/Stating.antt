@@ -3,9 +3,9 @@ use Rattle.std.proofs.Common.{◌≡◌, ℕ, List, Some, refl, ap, ◌∙◌, a
 use Rattle.merged_lookup.specs.Merged.{upper_of}
 use Rattle.mount_calls.proofs.Words.{Handle, Layer, Layers, layers_of, lowers_of, State, Table}
 use Rattle.open_handles.specs.declared.handle.Handle as handles
-use Rattle.mount_calls.specs.declared.clients.Clients.{Clients}
+use Rattle.open_handles.specs.declared.clients.Clients.{Clients}
 use Rattle.mount_calls.specs.declared.mount.Mount.{Mount}
-use Rattle.mount_calls.specs.Attaching.{ChangesClient}
+use Rattle.open_handles.specs.Attaching.{ChangesClient}
 use Rattle.mount_calls.specs.Files.{AreOne}
 use Rattle.mount_calls.specs.States.{AreTables, IsOpenAs, IsStateOf}
 use Rattle.mount_calls.proofs.Serving.{SameClients, same-clients, tables-same, placed, open-before, one-fewer}
@@ -22,7 +22,7 @@ the_layers m = layers_of m.layers
 
 -- what descriptors lead to in a mount
 abbrev pub Alike : Layers → State → Clients → handles.Handle → Handle → Type 0
-Alike l s clients = IsOpenAs (upper_of l) (lowers_of l) s.tree clients.directories
+Alike l s clients = IsOpenAs (upper_of l) (lowers_of l) s.tree clients.objects.tree
 
 module _ (m : Mount) (s : State) (st : IsStateOf m s) where
   -- the state with other tables, of a mount of the same layers
@@ -34,7 +34,7 @@ module _ (m : Mount) (s : State) (st : IsStateOf m s) where
   keep-same new same =
       with-tables (record m { clients = new }) s.tables refl refl refl refl same.next
       (tables-same (Alike m.layers s m.clients) m.clients s.tables st.tables new (Alike m.layers s new) same
-      (λ c d o h on at is. placed (upper_of m.layers) (lowers_of m.layers) s.tree m.clients.directories new.directories o h (λ e l f. same.places c d e l (on ∙ ap Some f)) is))
+      (λ c d o h on at is. placed (upper_of m.layers) (lowers_of m.layers) s.tree m.clients.objects.tree new.objects.tree o h (λ e l f. same.places c d e l (on ∙ ap Some f)) is))
       (one-fewer m.clients new s.tables s.tables
       (λ k d x. open-before m.clients new s.tables s.tables k d x (same.opened x.client x.descriptor) refl)
       st.one)

@@ -16,12 +16,12 @@ pub use Rattle.mount_laws.specs.Opening.{live_handle, opening_fault}
 pub use Rattle.mount_laws.specs.Removals.{folder_attributes, Removes}
 pub use Rattle.object_table.specs.Dentries.{Dentries}
 pub use Rattle.open_handles.specs.Descriptors.{SetsSlot}
-pub use Rattle.open_handles.specs.FileHolders.{file_holders}
+pub use Rattle.open_handles.specs.Attaching.{HasFile}
 pub use Rattle.open_handles.specs.Listings.{ChangesSlot, directory_in, file_in, GivesNames, with_listing, with_place}
 pub use Rattle.object_table.specs.Opened.{Apart, At, Location}
 pub use Rattle.open_handles.specs.declared.descriptors.Descriptors.{Descriptors}
-pub use Rattle.open_handles.specs.declared.handle.Handle.TheVariants.{Directory, File}
-pub use Rattle.open_handles.specs.declared.handle.OpenDirectory.{OpenDirectory}
+pub use Rattle.open_handles.specs.declared.handle.On.TheVariants.{Directory, File}
+pub use Rattle.open_handles.specs.Listings.{OpenDirectory}
 pub use Rattle.open_handles.specs.declared.open_file.FileSource.{FileSource}
 pub use Rattle.open_handles.specs.declared.open_file.FileSource.TheVariants.{Lower, Upper}
 pub use Rattle.open_handles.specs.declared.open_file.OpenFile.{OpenFile}

@@ -21,9 +21,9 @@ use Rattle.mount_laws.proofs.Descriptors.{law_of_directory_handle, law_of_trunca
 use Rattle.copy_up.specs.Showing.{StaysSound, StaysThin}
 use Rattle.copy_up.proofs.Keeping.{lowers-same, mounts-alike, then-layers}
 use Rattle.open_handles.specs.Places.{IsWritePlace, count_fitting}
-use Rattle.mount_calls.specs.declared.clients.Clients.{Clients}
+use Rattle.open_handles.specs.declared.clients.Clients.{Clients}
 use Rattle.mount_calls.specs.declared.mount.Mount.{Mount}
-use Rattle.mount_calls.specs.Attaching.{file_by, opened_by, ChangesClient}
+use Rattle.open_handles.specs.Attaching.{file_by, opened_by, ChangesClient}
 use Rattle.mount_calls.specs.Files.{IsFile, IsOf, IsOpenOn, SeesFile, bytes_of_inode, seen_inode, source_inode}
 use Rattle.mount_calls.specs.Living.{SetsFile}
 use Rattle.mount_calls.specs.Opening.{truncate_fault, write_fault, written_key}

@@ -1,6 +1,6 @@
 -- What a handle on a file is of: an inode of the upper, which it sees as it comes to be, but for the bytes of a lower file that it may
 -- keep, or one of a lower layer, as it was when it was opened for reading alone (overlayfs.rst, "Non-standard behavior").
-use Rattle.std.specs.Prelude.{◌≡◌, ◌↔◌, ℕ, Bool, true, false, cond, nat_eq, nat_lt, ◌||◌, List, [], Option, None, Some, option_map, unwrap_or, ◌<◌}
+use Rattle.std.specs.Prelude.{◌≡◌, ◌↔◌, ℕ, Bool, true, false, cond, nat_eq, nat_lt, ◌||◌, List, [], Option, None, Some, option_map, unwrap_or}
 use Rattle.ov_base.specs.declared.attributes.Attributes.{Attributes}
 use Rattle.ov_base.specs.declared.bytes.Content.TheVariants as content
 use Rattle.ov_base.specs.declared.call.OpenFlags.{OpenFlags}
@@ -15,17 +15,11 @@ pub use Rattle.merged_lookup.specs.Lower.{lower_inode}
 use Rattle.merged_lookup.specs.Lower.{lower_bytes}
 use Rattle.merged_lookup.specs.Marking.{file_place}
 use Rattle.mount_laws.specs.OpenFiles.{IsLive}
-use Rattle.open_handles.specs.declared.handle.Handle.TheVariants.{File}
 use Rattle.open_handles.specs.declared.open_file.FileSource.{FileSource}
 use Rattle.open_handles.specs.declared.open_file.FileSource.TheVariants.{Upper, Lower}
 use Rattle.open_handles.specs.declared.open_file.OpenFile.{OpenFile}
-use Rattle.std.specs.BTreeMap.{get}
-use Rattle.std.specs.Ordering.{nat_cmp}
-use Rattle.open_handles.specs.declared.descriptors.Descriptors.{Descriptors}
-use Rattle.open_handles.specs.FileHolders.{room}
-use Rattle.open_handles.specs.Listings.{HasRoom}
-use Rattle.mount_calls.specs.declared.clients.Clients.{Clients}
-use Rattle.mount_calls.specs.Attaching.{opened_by}
+use Rattle.open_handles.specs.declared.clients.Clients.{Clients}
+use Rattle.open_handles.specs.Attaching.{file_by}
 
 -- the inode that an open file is
 abbrev pub source_inode : Layer → List Layer → FileSource → Option Inode
@@ -95,7 +89,7 @@ pub record IsOpenOn (clients : Clients) (ks : List Table) (k : ℕ) (node : Node
   pub descriptor : ℕ
   pub file : OpenFile
   pub handle : Handle
-  pub opened : opened_by clients client descriptor ≡ Some (File file)
+  pub opened : file_by clients client descriptor ≡ Some file
   pub key : file.source ≡ Upper k
   pub on : handle_of ks client descriptor ≡ Some handle
   pub at : handle.node ≡ node
@@ -134,22 +128,7 @@ abbrev pub IsKept : List Layer → Option Path → Option Place → Type 0
 IsKept lowers None low = low ≡ None
 IsKept lowers (Some q) low = (d : Place) × (low ≡ Some d) × (file_place (shows 1 lowers q) ≡ Some d)
 
--- a client has the upper's file of this key open
-pub record HasFile (clients : Clients) (k : ℕ) : Type 0 where
-  pub client : ℕ
-  pub descriptor : ℕ
-  pub file : OpenFile
-  pub opened : opened_by clients client descriptor ≡ Some (File file)
-  pub key : file.source ≡ Upper k
-
 -- the key of an open file that is the upper's
 abbrev pub key_in_upper : Option OpenFile → Option ℕ
 key_in_upper None = None
 key_in_upper (Some f) = elim f.source [ Upper k ↦ Some k | Lower layer k ↦ None ]
-
--- there is room for a file that a client opens under its lowest free descriptor
-pub record HasFileRoom (clients : Clients) (n d : ℕ) : Type 0 where
-  pub descriptors : Descriptors
-  pub attached : get nat_cmp clients.attached n ≡ Some descriptors
-  pub place : HasRoom descriptors d
-  pub spare : 0 < room clients.files

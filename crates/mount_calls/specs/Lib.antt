@@ -1,8 +1,5 @@
 pub mod Status
-pub mod Attaching
 pub mod Files
-pub mod FreeDescriptors
-pub mod Held
 pub mod Keeping
 pub mod LeftMarks
 pub mod ComingUp
@@ -19,3 +16,5 @@ pub mod JudgedNames
 pub mod Plans
 pub mod Renaming
 pub mod Reading
+pub mod Numbers
+pub mod Moving

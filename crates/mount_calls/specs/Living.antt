@@ -14,8 +14,8 @@ use Rattle.merged_lookup.specs.Merged.{upper_of, lowers_of}
 use Rattle.mount_laws.specs.Looks.{IsMountOf}
 use Rattle.mount_laws.specs.OpenFiles.{IsLive, DropsInode, WritesInode}
 use Rattle.copy_up.specs.Showing.{StaysMount, StaysSound}
-use Rattle.open_handles.specs.FileHolders.{file_holders}
-use Rattle.mount_calls.specs.declared.clients.Clients.{Clients}
+use Rattle.open_handles.specs.Attaching.{HasFile}
+use Rattle.open_handles.specs.declared.clients.Clients.{Clients}
 
 -- a live file stays so in each tree
 abbrev pub StaysLive : Layers → Layers → Type 0
@@ -30,13 +30,13 @@ KeepsLive old new metacopy call =
 -- a live file that a handle holds stays so in each tree
 abbrev pub StaysHeld : Clients → Layers → Layers → Type 0
 StaysHeld clients old new =
-    (t : Tree) (d : NodeId) (k : ℕ) → 0 < file_holders clients.files k →
+    (t : Tree) (d : NodeId) (k : ℕ) → HasFile clients k →
     IsLive (upper_of old) t d k → IsLive (upper_of new) t d k
 
 -- and through a call that a client makes in this state
 abbrev pub KeepsHeldFrom : State → ℕ → Clients → Layers → Layers → Call → Type 0
 KeepsHeldFrom s c clients old new call =
-    (d : NodeId) (k : ℕ) → 0 < file_holders clients.files k → is_held s.tables d ≡ true →
+    (d : NodeId) (k : ℕ) → HasFile clients k → is_held s.tables d ≡ true →
     IsLive (upper_of old) s.tree d k → IsLive (upper_of new) (after s c call).tree d k
 
 -- and through a call of the machine
@@ -72,10 +72,10 @@ pub record KeepsPaths (old new : Layers) : Type 0 where
 -- The file of this key was closed. Where it has no name and no handle holds it any more, it is gone; else nothing changes.
 pub record FreesClosed (clients : Clients) (old new : Layers) (k : ℕ) : Type 0 where
   pub keeps : KeepsPaths old new
-  pub held : 0 < file_holders clients.files k → new ≡ old
+  pub held : HasFile clients k → new ≡ old
   pub named : (i : Inode) → (upper_of old).inodes k ≡ Some i → 0 < i.links → new ≡ old
   pub freed :
-      file_holders clients.files k ≡ 0 → (i : Inode) → (upper_of old).inodes k ≡ Some i → i.links ≡ 0 →
+      (HasFile clients k → ⊥) → (i : Inode) → (upper_of old).inodes k ≡ Some i → i.links ≡ 0 →
       DropsInode (upper_of old) (upper_of new) k
   pub mounts : StaysMount old new
   pub sound : StaysSound old new

@@ -20,7 +20,7 @@ use Rattle.mount_calls.specs.declared.looks.Looks.{Looks}
 use Rattle.mount_calls.specs.declared.looks.Looks.TheVariants as looks
 use Rattle.mount_calls.specs.declared.mount.Mount.{Mount}
 use Rattle.mount_calls.specs.declared.open_calls.Judged.{Judged}
-use Rattle.mount_calls.specs.FreeDescriptors.{IsLowestFree}
+use Rattle.open_handles.specs.FreeDescriptors.{IsLowestFree}
 
 -- the topmost object that was seen, if there was one
 abbrev pub topmost_of : Result (Stack × Option Topmost) Errno → Option Topmost

@@ -9,7 +9,7 @@ use Rattle.plain_model.specs.Machine.{State}
 use Rattle.plain_model.specs.Refusals.{refusal}
 use Rattle.copy_up.specs.Showing.{StaysThin}
 use Rattle.mount_calls.specs.declared.mount.Mount.{Mount}
-use Rattle.mount_calls.specs.Attaching.{KeepsAttached}
+use Rattle.open_handles.specs.Attaching.{KeepsAttached}
 use Rattle.mount_calls.specs.Keeping.{KeepsLayers}
 use Rattle.mount_calls.specs.Living.{KeepsNamed, StaysLive}
 use Rattle.mount_calls.specs.States.{IsStateOf, Serves, StaysState}

@@ -18,15 +18,16 @@ use Rattle.merged_lookup.specs.Merged.{upper_of, layers_of, lowers_of}
 use Rattle.mount_laws.specs.Looks.{walk_fault, IsMountOf, IsHidden, listing_handle, AreShown}
 use Rattle.mount_laws.specs.Removals.{folder_attributes}
 use Rattle.open_handles.specs.declared.handle.Handle as handles
-use Rattle.open_handles.specs.declared.handle.Handle.TheVariants.{Directory, File}
-use Rattle.open_handles.specs.declared.handle.OpenDirectory.{OpenDirectory}
+use Rattle.open_handles.specs.declared.handle.On.{On}
+use Rattle.open_handles.specs.declared.handle.On.TheVariants.{Directory, File}
+use Rattle.open_handles.specs.Listings.{OpenDirectory}
 use Rattle.object_table.specs.Dentries.{Dentries}
-use Rattle.open_handles.specs.Descriptors.{SetsSlot}
+use Rattle.open_handles.specs.Listings.{ChangesSlot, with_listing}
 use Rattle.object_table.specs.declared.dentry.Unlisted.TheVariants as unlisted
 use Rattle.object_table.specs.Opened.{Location, At, Apart, opened}
-use Rattle.mount_calls.specs.declared.clients.Clients.{Clients}
+use Rattle.open_handles.specs.declared.clients.Clients.{Clients}
 use Rattle.mount_calls.specs.declared.mount.Mount.{Mount}
-use Rattle.mount_calls.specs.Attaching.{opened_by, path_of, ChangesClient}
+use Rattle.open_handles.specs.Attaching.{directory_by, opened_by, path_of, ChangesClient}
 use Rattle.mount_calls.specs.Files.{IsFile, AreOne}
 
 -- what is left of a listing at a place; before the listing is made the place is the first
@@ -50,18 +51,22 @@ Stands t (Apart (unlisted.Upper key)) d = ⊥
 Stands t (Apart unlisted.Nowhere) d = ⊥
 
 -- a handle for reading on the directory of its number, whose listing is as far on; whether it appends is of no effect
-pub record IsHandle (t : Tree) (directories : Dentries) (o : OpenDirectory) (h : Handle) : Type 0 where
+pub record IsHandle (t : Tree) (objects : Dentries) (o : OpenDirectory) (h : Handle) : Type 0 where
   pub location : Location
-  pub located : opened directories o.directory ≡ Some location
+  pub located : opened objects o.directory ≡ Some location
   pub stands : Stands t location h.node
   pub directory : is_folder (t h.node) ≡ true
   pub access : h ≡ record (listing_handle h.node h.way) { append = h.append; place = h.place; listed = h.listed }
   pub left : IsLeft o.listing h.listed h.place
 
 -- what a descriptor leads to is what the machine's handle is on
+abbrev pub IsOpenOnAs : Layer → List Layer → Tree → Dentries → ℕ → On → Handle → Type 0
+IsOpenOnAs U lowers t objects n (Directory listing) h =
+    IsHandle t objects (record { directory = n; listing = listing }) h
+IsOpenOnAs U lowers t objects n (File f) h = IsFile U lowers t f h
+
 abbrev pub IsOpenAs : Layer → List Layer → Tree → Dentries → handles.Handle → Handle → Type 0
-IsOpenAs U lowers t directories (Directory o) h = IsHandle t directories o h
-IsOpenAs U lowers t directories (File f) h = IsFile U lowers t f h
+IsOpenAs U lowers t objects o h = IsOpenOnAs U lowers t objects o.object o.on h
 
 -- a descriptor is free on both sides, or open on both, and alike
 abbrev pub IsSlot : (handles.Handle → Handle → Type 0) → Option handles.Handle → Option Handle → Type 0
@@ -79,7 +84,7 @@ pub record AreTables (alike : handles.Handle → Handle → Type 0) (clients : C
 -- a state of the machine that the mount stands for
 pub record IsStateOf (m : Mount) (s : State) : Type 0 where
   pub layers : IsMountOf (upper_of m.layers) (lowers_of m.layers) s
-  pub tables : AreTables (IsOpenAs (upper_of m.layers) (lowers_of m.layers) s.tree m.clients.directories) m.clients s.tables
+  pub tables : AreTables (IsOpenAs (upper_of m.layers) (lowers_of m.layers) s.tree m.clients.objects.tree) m.clients s.tables
   pub one : AreOne m.clients s.tables
   pub arrived : m.clients.next ≡ s.arrived
   pub redirects : s.options.redirects ≡ m.redirects
@@ -112,11 +117,11 @@ AreLeft Ls path None names = AreNamesIn Ls path names
 -- the next names of an open directory are given, and its descriptor alone changes
 pub record Pages (old new : Mount) (c d count : ℕ) (given : List Name) : Type 0 where
   pub directory : OpenDirectory
-  pub was : opened_by old.clients c d ≡ Some (Directory directory)
+  pub was : directory_by old.clients c d ≡ Some directory
   pub left : List Name
   pub from : AreLeft (layers_of old.layers) (path_of old.clients directory) directory.listing left
   pub next : given ≡ take count left
-  pub changes : ChangesClient old.clients new.clients c (λ before after. SetsSlot before after d (Some (Directory (record directory { listing = Some (drop count left) }))))
+  pub changes : ChangesClient old.clients new.clients c (λ before after. ChangesSlot before after d (with_listing (Some (drop count left))))
   pub layers : new.layers ≡ old.layers
   pub redirects : new.redirects ≡ old.redirects
   pub metacopy : new.metacopy ≡ old.metacopy

@@ -5,7 +5,7 @@ ghost use Rattle.ov_base.specs.declared.call.CallOf.TheVariants as Call;
 ghost use Rattle.ov_base.specs.declared.attributes.Attributes.{Attributes as DirectoryAttributes};
 ghost use Rattle.plain_model.specs.Machine.{State};
 ghost use Rattle.plain_model.specs.Refusals.{refusal};
-ghost use Rattle.mount_calls.specs.Attaching.{directory_by, file_by, opened_by};
+ghost use Rattle.open_handles.specs.Attaching.{directory_by, file_by, opened_by, KeepsHolds};
 ghost use Rattle.mount_calls.specs.Making.{MakesCall, TellsCall};
 ghost use Rattle.mount_calls.specs.Opening as opening;
 ghost use Rattle.mount_calls.specs.Opening.{read_fault, seek_fault};
@@ -16,7 +16,7 @@ ghost use Rattle.mount_calls.specs.Status.{stat_with};
 use crate::files::{bytes_in, read_at, read_into, size_of, status_in};
 use crate::mount::Mount;
 use crate::status::{status_at, status_with};
-use open_handles::{Handle, OpenFile, sought};
+use open_handles::{On, OpenFile, sought};
 use ov_base::{Attributes, Errno, ObjectKind, Reply, Stat};
 use std::alloc::AllocError;
 
@@ -27,6 +27,7 @@ impl Mount {
     /// Reads the next bytes of an open file, at most so many.
     pub fn read(&mut self, client: u64, descriptor: u32, count: u32) -> Result<Reply, AllocError>
         ensures makes { MakesCall client (Call.Read descriptor count) self.old self.new result }
+        ensures holds { KeepsHolds self.old.clients self.new.clients }
         ensures allowed { OnErr result ((s : State) → IsStateOf self.old s →
             refusal s client (Call.Read descriptor count) ≡ None) }
     {
@@ -51,6 +52,7 @@ impl Mount {
     ) -> Result<usize, Errno>
         ensures makes { MakesCall client (Call.Read descriptor (length room.old)) self.old self.new
             (Ok (read_reply result room.new)) }
+        ensures holds { KeepsHolds self.old.clients self.new.clients }
         ensures room { KeepsRoom result room.old room.new }
     {
         let file = match self.file_to_read(client, descriptor, room.len()) {
@@ -74,16 +76,17 @@ impl Mount {
         if count > TRANSFER_MAX {
             return Err(Errno::EINVAL);
         }
-        match handle {
-            Handle::Directory(_) => Err(Errno::EISDIR),
-            Handle::File(file) if !file.reads => Err(Errno::EBADF),
-            Handle::File(file) => Ok(*file),
+        match &handle.on {
+            On::Directory(_) => Err(Errno::EISDIR),
+            On::File(file) if !file.reads => Err(Errno::EBADF),
+            On::File(file) => Ok(*file),
         }
     }
 
     /// Moves the place of an open file, or goes back to the start of an open directory.
     pub fn seek(&mut self, client: u64, descriptor: u32, offset: i64, whence: u8) -> Reply
-        ensures { MakesCall client (Call.Seek descriptor offset whence) self.old self.new (Ok result) }
+        ensures makes { MakesCall client (Call.Seek descriptor offset whence) self.old self.new (Ok result) }
+        ensures holds { KeepsHolds self.old.clients self.new.clients }
     {
         if let Some(errno) = self.seek_refusal(client, descriptor, offset, whence) {
             return Reply::Refused(errno);
@@ -101,10 +104,12 @@ impl Mount {
     fn seek_refusal(&self, client: u64, descriptor: u32, offset: i64, whence: u8) -> Option<Errno>
         ensures { result ≡ seek_fault (opened_by self.now.clients client descriptor) offset whence }
     {
-        match self.clients.opened(client, descriptor) {
-            None => Some(Errno::EBADF),
-            Some(Handle::File(_)) => None,
-            Some(Handle::Directory(_)) => {
+        let Some(handle) = self.clients.opened(client, descriptor) else {
+            return Some(Errno::EBADF);
+        };
+        match handle.on {
+            On::File(_) => None,
+            On::Directory(_) => {
                 if offset != 0 || whence != 0 {
                     return Some(Errno::EINVAL);
                 }
@@ -123,7 +128,8 @@ impl Mount {
         whence: u8,
     ) -> Reply
         requires { file_by self.old.clients client descriptor ≡ Some file }
-        ensures { MakesCall client (Call.Seek descriptor offset whence) self.old self.new (Ok result) }
+        ensures makes { MakesCall client (Call.Seek descriptor offset whence) self.old self.new (Ok result) }
+        ensures holds { KeepsHolds self.old.clients self.new.clients }
     {
         let size = size_of(bytes_in(&self.layers, file));
         match place_sought(file, size, offset, whence) {
@@ -141,10 +147,12 @@ impl Mount {
         ensures allowed { OnErr result ((s : State) → IsStateOf self.now s →
             refusal s client (Call.Fstat descriptor) ≡ None) }
     {
-        match self.clients.opened(client, descriptor) {
-            None => Ok(Reply::Refused(Errno::EBADF)),
-            Some(Handle::File(file)) => Ok(self.file_status(client, descriptor, *file)),
-            Some(Handle::Directory(_)) => self.directory_status(client, descriptor),
+        let Some(handle) = self.clients.opened(client, descriptor) else {
+            return Ok(Reply::Refused(Errno::EBADF));
+        };
+        match &handle.on {
+            On::File(file) => Ok(self.file_status(client, descriptor, *file)),
+            On::Directory(_) => self.directory_status(client, descriptor),
         }
     }
 

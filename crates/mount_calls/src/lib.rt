@@ -5,8 +5,6 @@
 mod attribute_calls;
 mod attribute_changes;
 mod attributes;
-mod clients;
-mod closing;
 mod file_calls;
 mod file_changes;
 mod files;
@@ -15,7 +13,9 @@ mod link_calls;
 mod look;
 mod looks;
 mod mount;
+mod moving;
 mod name_calls;
+mod numbers;
 mod object;
 mod open_calls;
 mod plan;
@@ -28,7 +28,6 @@ mod user_attributes;
 mod write_calls;
 
 pub use attribute_changes::AttributeCall;
-pub use clients::{CLIENTS_MAX, Clients};
 pub use lacks::law_of_needs;
 pub use look::Look;
 pub use looks::{LookedPaths, Looks, looked_paths};

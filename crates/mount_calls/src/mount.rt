@@ -1,5 +1,6 @@
 // A mount and the clients on it: what each call does, by the plain machine.
-ghost use Rattle.std.specs.Prelude.{◌≡◌, ◌<◌, ◌+◌, ◌^◌, ℕ, false, List, Some, None, Ok, IfOk, IfErr, OnOk, OnErr, IsSome, IsSomeAnd, is_some, MatchResult, option_copied, true};
+ghost use Rattle.std.specs.Prelude.{◌≡◌, [], ◌<◌, ◌+◌, ◌^◌, ℕ, false, List, Some, None, Ok, IfOk, IfErr, OnOk, OnErr, IsSome, IsSomeAnd, is_some, MatchResult, option_copied, true};
+ghost use Rattle.object_table.specs.Objects.{spot_of};
 ghost use Rattle.plain_model.specs.Layers.{AreLayers};
 ghost use Rattle.merged_lookup.specs.Merged.{upper_of, layers_of, lowers_of};
 ghost use Rattle.mount_calls.specs.States.{AreNamesIn};
@@ -8,12 +9,11 @@ ghost use Rattle.mount_calls.specs.Status.{target_reply, content_target};
 ghost use Rattle.std.specs.Option.{option_and_then};
 ghost use Rattle.ov_base.specs.declared.call.CallOf.TheVariants as Call;
 
-use crate::clients::Clients;
 use crate::removals::free_closed;
 use crate::status::status_at;
 use dir_listing::{Cursor, names};
 use merged_lookup::{Found, Layers, Topmost};
-use open_handles::{FileSource, Handle, OpenFile};
+use open_handles::{Clients, FileSource, Handle, On, OpenFile};
 use ov_base::{Content, Errno, NameList, Path, Reply};
 use std::alloc::{AllocError, Global};
 use std::hash::RandomState;
@@ -26,7 +26,7 @@ const LIST_MAX: u32 = 256;
 #[derive(Drop)]
 pub struct Mount {
     pub(crate) layers: Layers,
-    pub(crate) clients: Clients,
+    pub clients: Clients,
     pub(crate) redirects: bool,
     pub(crate) metacopy: bool,
     pub(crate) file_limit: u64,
@@ -43,8 +43,9 @@ impl Mount {
     ghost use Rattle.plain_model.specs.Runs as runs;
     ghost use Rattle.plain_model.specs.Runs.{joined, without_table};
     ghost use Rattle.plain_model.specs.Refusals.{refusal};
-    ghost use Rattle.mount_calls.specs.Attaching as attaching;
-    ghost use Rattle.mount_calls.specs.Attaching.{HasNoRoom, Attaches, Detaches, TakesBack, IsSame, KeepsAttached, KeepsOthers, opened_by, directory_by};
+    ghost use Rattle.open_handles.specs.Attaching as attaching;
+    ghost use Rattle.mount_calls.specs.Numbers.{Shuts};
+    ghost use Rattle.open_handles.specs.Attaching.{HasNoRoom, Attaches, Detaches, KeepsHolds, Leaves, TakesBack, IsSame, KeepsAttached, KeepsOthers, opened_by, directory_by};
     ghost use Rattle.mount_calls.specs.States.{IsStateOf, Serves, StaysState, Pages};
     ghost use Rattle.mount_calls.specs.Opening.{list_fault};
     ghost use Rattle.mount_calls.specs.Living.{KeepsNamed, StaysLive};
@@ -69,6 +70,9 @@ impl Mount {
         ensures metacopy { IfOk result (λ mount. mount.metacopy ≡ metacopy) }
         ensures limit { IfOk result (λ mount. mount.file_limit ≡ file_limit) }
         ensures none { IfOk result (λ mount. (n : ℕ) → get nat_cmp mount.clients.attached n ≡ None) }
+        ensures empty { IfOk result (λ mount. mount.clients.attached.entries ≡ []) }
+        ensures nothing { IfOk result (λ mount. (n : ℕ) → spot_of mount.clients.objects n ≡ None) }
+        ensures beside { IfOk result (λ mount. (n : ℕ) → attaching.beside mount.clients n ≡ 0) }
         ensures first { IfOk result (λ mount. mount.clients.next ≡ 0) }
         ensures begins { IfOk result (λ mount. (t : Tree) → AreLayers (layers_of layers) → IsMerge (upper_of layers) (lowers_of layers) t → IsStateOf mount (machine.opening t (record { redirects = redirects; metacopy = metacopy; read_only = false; file_limit = file_limit }))) }
     {
@@ -152,6 +156,7 @@ impl Mount {
         requires { (d : ℕ) → opened_by self.old.clients client d ≡ None }
         ensures gone { (s : State) → IsStateOf self.old s → IsStateOf self.new (without_table s client) }
         ensures clients { Detaches self.old.clients self.new.clients client }
+        ensures leaves { Leaves self.old.clients self.new.clients client }
         ensures only { self.new ≡ record self.old { clients = self.new.clients } }
     {
         self.clients.detach(client);
@@ -191,6 +196,7 @@ impl Mount {
     pub fn list(&mut self, client: u64, descriptor: u32, count: u32) -> Result<Reply, AllocError>
         ensures makes { MakesCall client (Call.ListNames descriptor count)
             self.old self.new result }
+        ensures holds { KeepsHolds self.old.clients self.new.clients }
         ensures allowed { OnErr result ((s : State) → IsStateOf self.old s →
             refusal s client (Call.ListNames descriptor count) ≡ None) }
     {
@@ -205,10 +211,12 @@ impl Mount {
     fn list_refusal(&self, client: u64, descriptor: u32, count: u32) -> Option<Errno>
         ensures { result ≡ list_fault (opened_by self.now.clients client descriptor) count }
     {
-        match self.clients.opened(client, descriptor) {
-            None => Some(Errno::EBADF),
-            Some(Handle::File(_)) => Some(Errno::ENOTDIR),
-            Some(Handle::Directory(_)) => {
+        let Some(handle) = self.clients.opened(client, descriptor) else {
+            return Some(Errno::EBADF);
+        };
+        match handle.on {
+            On::File(_) => Some(Errno::ENOTDIR),
+            On::Directory(_) => {
                 if count == 0 || count > LIST_MAX {
                     return Some(Errno::EINVAL);
                 }
@@ -223,10 +231,11 @@ impl Mount {
         ensures pages { IfOk result (λ names. Pages self.old self.new client descriptor count names) }
         ensures err { OnErr result (StaysState self.old self.new) }
         ensures clients { KeepsAttached self.old.clients self.new.clients }
+        ensures holds { KeepsHolds self.old.clients self.new.clients }
         ensures layers { self.new.layers ≡ self.old.layers }
     {
-        let directory = self.clients.directory(client, descriptor).unwrap();
-        if directory.listing.is_listed() {
+        let listing = self.clients.listing(client, descriptor).unwrap();
+        if listing.is_listed() {
             return self
                 .clients
                 .next_names(self.alloc, client, descriptor, count);
@@ -242,11 +251,11 @@ impl Mount {
     pub fn close(&mut self, client: u64, descriptor: u32) -> Reply
         requires { IsSome (get nat_cmp self.old.clients.attached client) }
         ensures makes { MakesCall client (Call.Close descriptor) self.old self.new (Ok result) }
+        ensures shuts { Shuts self.old.clients self.new.clients client descriptor }
         ensures others { KeepsOthers self.old.clients self.new.clients client }
     {
         match self.clients.close(client, descriptor) {
             Ok(handle) => {
-                self.clients.lawful();
                 let closed = upper_key(handle.file());
                 free_closed(&mut self.layers, &self.clients, closed);
                 Reply::Done

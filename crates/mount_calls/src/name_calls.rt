@@ -1,17 +1,21 @@
 // Calls that make and remove names, by the plain machine: each is judged before it is made
 // (POSIX.1-2017, mkdir(), symlink(), unlink() and rmdir()).
-ghost use Rattle.std.specs.Prelude.{◌≡◌, ℕ, None, Some, IfErr, IfOk, OnOk};
+ghost use Rattle.std.specs.Prelude.{◌≡◌, ℕ, None, Some, IfErr, IfOk, OnErr, OnOk};
 ghost use Rattle.std.specs.Result.{result_err};
 ghost use Rattle.ov_base.specs.declared.call.CallOf.TheVariants as Call;
 ghost use Rattle.ov_base.specs.Targets.{target_of};
 ghost use Rattle.plain_model.specs.Machine.{State};
 ghost use Rattle.plain_model.specs.Refusals.{refusal};
-ghost use Rattle.merged_lookup.specs.Merged.{upper_of, lowers_of};
-ghost use Rattle.notice_laws.specs.Objects.{IsObject};
+ghost use Rattle.notice_laws.specs.declared.object.Object.TheVariants as objects;
+ghost use Rattle.notice_laws.specs.Objects.{IsNumberOf};
+ghost use Rattle.notice_laws.specs.Steps.{Loses};
+ghost use Rattle.open_handles.specs.Attaching.{KeepsClients, SameBeside};
 ghost use Rattle.mount_calls.specs.JudgedNames.{IsMakeable, IsRemovable, IsUnlinkable};
 ghost use Rattle.mount_calls.specs.LeftMarks.{MarksIfDone};
 ghost use Rattle.mount_calls.specs.Looking.{IsLook};
 ghost use Rattle.mount_calls.specs.Making.{MakesEach};
+ghost use Rattle.mount_calls.specs.Numbers.{Becomes, IsBareAt};
+ghost use Rattle.mount_calls.specs.Removing.{IsShut};
 ghost use Rattle.mount_calls.specs.States.{HasStateOf, IsStateOf};
 ghost use Rattle.mount_calls.specs.Status.{done_result};
 
@@ -20,7 +24,6 @@ use crate::mount::Mount;
 use crate::removals::{rmdir_and_free, unlink_and_free};
 use make_remove::{leaf_at, mkdir, removable, symlink, vacant};
 use merged_lookup::Stack;
-use notice_laws::Object;
 use ov_base::{Bytes, Errno, LinkTarget, Mode, Path, Place};
 use std::alloc::AllocError;
 
@@ -133,25 +136,30 @@ impl Mount {
         }
     }
 
-    /// Removes the name of the file or link that `judge_unlink` found at a path, and returns what
-    /// stood there. An allocation failure leaves all that is shown as it was.
-    pub fn unlink_telling(
+    /// Removes the name of the file or link that `judge_unlink` found at a path, of which this is
+    /// the number, if it is held. An allocation failure leaves all that is shown as it was.
+    pub fn unlink(
         &mut self,
         path: &Path,
         directory: &Stack,
         place: Place,
-    ) -> Result<Object, AllocError>
-        requires { IsUnlinkable self.old.layers path.now directory.now place }
+        number: Option<usize>,
+    ) -> Result<(), AllocError>
+        requires found { IsUnlinkable self.old.layers path.now directory.now place }
+        requires held { number ≡ None → IsShut self.old.clients self.old.layers path.now }
         ensures makes { MakesEach (Call.Unlink path.now) self.old self.new (done_result result) }
         ensures marks { MarksIfDone (Call.Unlink path.now) self.old.layers self.new.layers
             (done_result result) }
-        ensures object { IfOk result
-            (IsObject (upper_of self.old.layers) (lowers_of self.old.layers) path.now) }
         ensures clients { self.new.clients ≡ self.old.clients }
     {
-        self.clients.lawful();
-        let object = unlink_and_free(&mut self.layers, &self.clients, path, directory, place)?;
-        Ok(object)
+        unlink_and_free(
+            &mut self.layers,
+            &self.clients,
+            path,
+            directory,
+            place,
+            number,
+        )
     }
 
     /// Judges a rmdir of what was seen at a path. Gives the merged directory in which the name
@@ -171,21 +179,34 @@ impl Mount {
         }
     }
 
-    /// Removes the empty directory that was seen at a path, whose name stands in the merged one
-    /// that `judge_rmdir` found; handles on it stay, and keep its attributes.
-    pub fn rmdir(&mut self, path: &Path, look: &Look, directory: &Stack) -> Result<(), AllocError>
+    /// Removes the empty directory that was seen at a path, of which this is the number, if it is
+    /// held, and whose name stands in the merged one that `judge_rmdir` found. Handles on it stay,
+    /// and keep its attributes.
+    pub fn rmdir(
+        &mut self,
+        path: &Path,
+        look: &Look,
+        directory: &Stack,
+        number: Option<usize>,
+    ) -> Result<(), AllocError>
         requires state { ∥ HasStateOf self.old ∥₁ }
         requires look { IsLook self.old.layers path.now look.now }
         requires found { IsRemovable self.old.layers path.now directory.now }
+        requires number { IsNumberOf self.old.clients.objects path.now objects.Directory number }
+        requires bare { IsBareAt self.old.clients.objects path.now }
         ensures makes { MakesEach (Call.Rmdir path.now) self.old self.new (done_result result) }
         ensures marks { MarksIfDone (Call.Rmdir path.now) self.old.layers self.new.layers
             (done_result result) }
+        ensures clients { KeepsClients self.old.clients self.new.clients }
+        ensures lost { OnOk result (Becomes (Loses path.now objects.Directory)
+            self.old.clients.objects self.new.clients.objects) }
+        ensures beside { SameBeside self.old.clients self.new.clients }
+        ensures err { OnErr result (self.new.clients ≡ self.old.clients) }
     {
-        self.clients.lawful();
-        let attributes = self.attributes_seen(path, look)?;
+        let attributes = self.attributes_seen(look, number)?;
         rmdir_and_free(&mut self.layers, &self.clients, path, directory)?;
-        if let Some(attributes) = attributes {
-            self.clients.remove(path, attributes);
+        if let (Some(number), Some(attributes)) = (number, attributes) {
+            self.clients.remove(number, attributes);
         }
         Ok(())
     }

@@ -5,7 +5,7 @@ ghost use Rattle.plain_model.specs.Layers.{Layer, Path as Names, shows};
 ghost use Rattle.layer_tree.specs.Tree.{inode_of};
 ghost use Rattle.merged_lookup.specs.Merged.{upper_of, lowers_of, fill_at, IsTopmost, ShowsInode};
 ghost use Rattle.notice_laws.specs.Objects.{IsObject};
-ghost use Rattle.mount_calls.specs.Attaching.{file_by};
+ghost use Rattle.open_handles.specs.Attaching.{file_by};
 ghost use Rattle.mount_calls.specs.Files.{key_in_upper};
 
 use crate::mount::{Mount, upper_key};

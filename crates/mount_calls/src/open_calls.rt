@@ -1,5 +1,5 @@
 // `open`, by the plain machine (POSIX.1-2017, open(), as Linux's namei.c asks for its errors).
-ghost use Rattle.std.specs.Prelude.{◌≡◌, ◌<◌, ℕ, true, false, cond, is_some, List, [], None, Some, IfOk, IfErr, OnOk, OnErr, IsSome};
+ghost use Rattle.std.specs.Prelude.{◌≡◌, ◌+◌, ◌<◌, ◌≤◌, ℕ, true, false, cond, is_some, List, [], None, Some, IfOk, IfErr, OnOk, OnErr, IsSome};
 ghost use Rattle.std.specs.BTreeMap.{get};
 ghost use Rattle.std.specs.Ordering.{nat_cmp};
 ghost use Rattle.ov_base.specs.declared.call.CallOf.TheVariants as Call;
@@ -19,23 +19,29 @@ ghost use Rattle.mount_laws.specs.Opening.{opening_fault, shown_fault};
 ghost use Rattle.copy_up.specs.Leaves.{CopiesLeaf};
 ghost use Rattle.copy_up.specs.Showing.{ChangesNoSight, GainsParents, StaysSound, StaysThin};
 ghost use Rattle.copy_up.specs.Texts.{KeepsTexts};
-ghost use Rattle.mount_calls.specs.Attaching.{KeepsAttached};
+ghost use Rattle.object_table.specs.Objects.{SameSpots};
+ghost use Rattle.open_handles.specs.Attaching.{beside, tables_of, KeepsAttached, LetsGo};
+ghost use Rattle.open_handles.specs.Attaching.{SameBeside};
 ghost use Rattle.mount_calls.specs.Keeping.{BringsNone, KeepsLayers};
-ghost use Rattle.mount_calls.specs.FreeDescriptors.{IsLowestFree};
+ghost use Rattle.open_handles.specs.FreeDescriptors.{HasSlot, IsLowestFree};
+ghost use Rattle.open_handles.specs.TrackedHandles.{handle_uses, SameTracked};
+ghost use Rattle.mount_calls.specs.Numbers.{HasRoomFor, HoldsFor, IsHeldAt, KeepsOpen, OpensHold};
 ghost use Rattle.mount_calls.specs.Looking.{IsJudged, IsLook};
 ghost use Rattle.mount_calls.specs.Making.{AnswersCall, RunsOut};
 ghost use Rattle.mount_calls.specs.Opening as opening;
-ghost use Rattle.mount_calls.specs.States.{HasStateOf, IsStateOf};
+ghost use Rattle.mount_calls.specs.States.{HasStateOf, IsStateOf, StaysState};
 
 use crate::file_changes::resize_file;
 use crate::files::{file_at, is_marked, kept_low, marked_place};
 use crate::look::Look;
 use crate::mount::Mount;
 use copy_up::{all_at_once, fill};
+use dir_listing::Cursor;
 use layer_tree::{Inode, Node};
 use make_remove::create;
 use merged_lookup::{Layers, Stack, Topmost};
-use open_handles::FileSource;
+use notice_laws::Object;
+use open_handles::{FileSource, Handle, Hold, On};
 use ov_base::{Content, Errno, Mode, OpenFlags, Path, Place, Reply};
 use std::alloc::AllocError;
 
@@ -87,10 +93,65 @@ impl Mount {
         })
     }
 
-    /// Makes an open that was judged, by what was seen at its path: of what the path shows, or of a
-    /// file that is made where it shows nothing; a symbolic link isn't followed. A file of a lower
-    /// layer that is opened for writing is copied up first (overlayfs.rst, "Non-directories"), and a
-    /// marked one of the upper gets bytes of its own ("Metadata only copy up").
+    /// Takes the memory that the handle of an open needs that was judged, and holds what it will be
+    /// on, which stands at the path, or is to be made where nothing does, and the directory of its
+    /// way. An allocation failure leaves what is held.
+    pub fn prepare_open(
+        &mut self,
+        client: u64,
+        descriptor: u32,
+        path: &Path,
+        object: Object,
+    ) -> Result<Hold, AllocError>
+        requires attached { IsSome (get nat_cmp self.old.clients.attached client) }
+        requires free { IsLowestFree self.old.clients client descriptor }
+        ensures opened { KeepsOpen self.old.clients self.new.clients }
+        ensures attached { KeepsAttached self.old.clients self.new.clients }
+        ensures tracked { SameTracked (tables_of self.old.clients) (tables_of self.new.clients) }
+        ensures slot { OnOk result (HasSlot self.new.clients client descriptor) }
+        ensures holds { IfOk result (HoldsFor self.old.clients.objects self.new.clients.objects
+            path.now object) }
+        ensures beside { IfOk result (λ hold. (n : ℕ) → beside self.new.clients n ≡
+            beside self.old.clients n + handle_uses n hold) }
+        ensures room { OnOk result (HasRoomFor self.new.clients.objects object) }
+        ensures err { OnErr result
+            (SameSpots self.old.clients.objects self.new.clients.objects) }
+        ensures none { OnErr result (SameBeside self.old.clients self.new.clients) }
+        ensures only { self.new ≡ record self.old { clients = self.new.clients } }
+        ensures stays { StaysState self.old self.new }
+    {
+        self.clients.reserve(client, descriptor)?;
+        match object {
+            Object::Directory => self.clients.hold_here(path),
+            Object::Upper { key, last: _ } => self.clients.hold_file(path, key),
+            Object::Lower => {
+                self.clients.reserve_rise()?;
+                self.clients.hold_here(path)
+            }
+            Object::Other => {
+                self.clients.reserve_rise()?;
+                self.clients.hold_new(path)
+            }
+        }
+    }
+
+    /// Takes back an open that was prepared. It takes no memory.
+    pub fn cancel_open(&mut self, hold: &Hold)
+        requires { (n : ℕ) → handle_uses n hold.now ≤ beside self.old.clients n }
+        ensures lets { LetsGo self.old.clients self.new.clients }
+        ensures beside { (n : ℕ) → beside self.new.clients n + handle_uses n hold.now ≡
+            beside self.old.clients n }
+        ensures only { self.new ≡ record self.old { clients = self.new.clients } }
+        ensures stays { StaysState self.old self.new }
+    {
+        self.clients.let_go(hold);
+    }
+
+    /// Makes an open that was judged, by what was seen at its path, and for which it was prepared:
+    /// of what the path shows, or of a file that is made where it shows nothing; a symbolic link
+    /// isn't followed. A file of a lower layer that is opened for writing is copied up first
+    /// (overlayfs.rst, "Non-directories"), and a marked one of the upper gets bytes of its own
+    /// ("Metadata only copy up").
     pub fn open_judged(
         &mut self,
         client: u64,
@@ -98,11 +159,18 @@ impl Mount {
         look: &Look,
         flags: OpenFlags,
         judged: Judged,
+        hold: &Hold,
     ) -> Result<(), AllocError>
         requires attached { IsSome (get nat_cmp self.old.clients.attached client) }
         requires state { ∥ HasStateOf self.old ∥₁ }
         requires look { IsLook self.old.layers path.now look.now }
         requires judged { IsJudged self.old client path.now flags judged }
+        requires slot { HasSlot self.old.clients client judged.descriptor }
+        requires held { (n : ℕ) → handle_uses n hold.now ≤ beside self.old.clients n }
+        requires there { IsHeldAt self.old.clients.objects path.now judged.top hold.now }
+        ensures opens { OnOk result (OpensHold self.old.clients self.new.clients client
+            judged.descriptor hold.now) }
+        ensures err { OnErr result (self.new.clients ≡ self.old.clients) }
         ensures answers { OnOk result (AnswersCall client (Call.Open path.now flags judged.mode)
             self.old self.new (Reply.Descriptor judged.descriptor)) }
         ensures no_memory { OnErr result (RunsOut self.old self.new) }
@@ -120,14 +188,16 @@ impl Mount {
             unreachable!()
         };
         match top {
-            None => self.open_made(client, descriptor, path, flags, mode, directory),
+            None => self.open_made(client, descriptor, path, flags, mode, directory, hold),
             Some(Topmost::Inode(place)) if flags.writes && place.layer > 0 => {
-                self.open_copied(client, descriptor, path, flags, mode, directory, place)
+                self.open_copied(
+                    client, descriptor, path, flags, mode, directory, place, hold,
+                )
             }
             Some(Topmost::Inode(place)) if flags.writes && is_marked(&self.layers, place.key) => {
-                self.open_filled(client, descriptor, path, flags, mode, place)
+                self.open_filled(client, descriptor, path, flags, mode, place, hold)
             }
-            Some(top) => self.open_shown(client, descriptor, path, flags, mode, top),
+            Some(top) => self.open_shown(client, descriptor, path, flags, mode, top, hold),
         }
     }
 
@@ -141,13 +211,20 @@ impl Mount {
         flags: OpenFlags,
         mode: Mode,
         top: Topmost,
+        hold: &Hold,
     ) -> Result<(), AllocError>
         requires attached { IsSome (get nat_cmp self.old.clients.attached client) }
         requires free { IsLowestFree self.old.clients client descriptor }
+        requires slot { HasSlot self.old.clients client descriptor }
+        requires held { (n : ℕ) → handle_uses n hold.now ≤ beside self.old.clients n }
         requires allowed { opening_fault (layers_of self.old.layers) path.now flags mode (Some 0) ≡ None }
         requires shown { IsTopmost self.old.layers path.now (Some top) }
+        requires there { IsHeldAt self.old.clients.objects path.now (Some top) hold.now }
         requires own { flags.writes ≡ true → (d : ShownPlace) → top ≡ topmost.Inode d →
             (d.layer ≡ 0) × (is_some (mark_at self.old.layers.upper d.key) ≡ false) }
+        ensures opens { OnOk result (OpensHold self.old.clients self.new.clients client descriptor
+            hold.now) }
+        ensures err { OnErr result (self.new.clients ≡ self.old.clients) }
         ensures answers { OnOk result (AnswersCall client (Call.Open path.now flags mode)
             self.old self.new (Reply.Descriptor descriptor)) }
         ensures no_memory { OnErr result (RunsOut self.old self.new) }
@@ -159,15 +236,17 @@ impl Mount {
         ensures thin { StaysThin self.old.layers self.new.layers }
     {
         let Topmost::Inode(place) = top else {
-            self.clients.open(client, descriptor, path)?;
+            let on = On::Directory(Cursor::new());
+            self.clients.open(client, descriptor, Handle::new(hold, on));
             return Ok(());
         };
         let low = kept_low(&self.layers, place, flags)?;
         let file = file_at(place, flags, low);
-        self.clients.open_file(client, descriptor, file)?;
         if flags.truncate {
             resize_file(&mut self.layers, file.source, 0)?;
         }
+        self.clients
+            .open(client, descriptor, Handle::new(hold, On::File(file)));
         Ok(())
     }
 
@@ -181,15 +260,21 @@ impl Mount {
         mode: Mode,
         directory: &Stack,
         place: Place,
+        hold: &Hold,
     ) -> Result<(), AllocError>
         requires attached { IsSome (get nat_cmp self.old.clients.attached client) }
         requires free { IsLowestFree self.old.clients client descriptor }
+        requires slot { HasSlot self.old.clients client descriptor }
+        requires held { (n : ℕ) → handle_uses n hold.now ≤ beside self.old.clients n }
         requires state { ∥ HasStateOf self.old ∥₁ }
         requires allowed { opening_fault (layers_of self.old.layers) path.now flags mode (Some 0) ≡ None }
         requires directory { IsStackOf self.old.layers (parent path.now) directory.now }
         requires shown { IsTopmost self.old.layers path.now (Some (topmost.Inode place)) }
         requires writes { flags.writes ≡ true }
         requires lower { 0 < place.layer }
+        ensures opens { OnOk result (OpensHold self.old.clients self.new.clients client descriptor
+            hold.now) }
+        ensures err { OnErr result (self.new.clients ≡ self.old.clients) }
         ensures answers { OnOk result (AnswersCall client (Call.Open path.now flags mode)
             self.old self.new (Reply.Descriptor descriptor)) }
         ensures no_memory { OnErr result (RunsOut self.old self.new) }
@@ -199,14 +284,13 @@ impl Mount {
         ensures lowers { self.new.layers.lowers ≡ self.old.layers.lowers }
         ensures thin { StaysThin self.old.layers self.new.layers }
     {
-        self.clients.reserve_file(client, descriptor)?;
-        self.clients.lawful();
         let key = bring_up(&mut self.layers, path, directory, place)?;
         let file = file_at(Place { layer: 0, key }, flags, None);
         if flags.truncate {
             resize_file(&mut self.layers, file.source, 0)?;
         }
-        self.clients.open_reserved(client, descriptor, file);
+        self.clients
+            .open(client, descriptor, Handle::new(hold, On::File(file)));
         Ok(())
     }
 
@@ -219,15 +303,21 @@ impl Mount {
         flags: OpenFlags,
         mode: Mode,
         place: Place,
+        hold: &Hold,
     ) -> Result<(), AllocError>
         requires attached { IsSome (get nat_cmp self.old.clients.attached client) }
         requires free { IsLowestFree self.old.clients client descriptor }
+        requires slot { HasSlot self.old.clients client descriptor }
+        requires held { (n : ℕ) → handle_uses n hold.now ≤ beside self.old.clients n }
         requires allowed { opening_fault (layers_of self.old.layers) path.now flags mode (Some 0) ≡ None }
         requires shown { IsTopmost self.old.layers path.now (Some (topmost.Inode place)) }
         requires writes { flags.writes ≡ true }
         requires own { place.layer ≡ 0 }
         requires marked { IsSome (mark_at self.old.layers.upper place.key) }
         requires state { ∥ HasStateOf self.old ∥₁ }
+        ensures opens { OnOk result (OpensHold self.old.clients self.new.clients client descriptor
+            hold.now) }
+        ensures err { OnErr result (self.new.clients ≡ self.old.clients) }
         ensures answers { OnOk result (AnswersCall client (Call.Open path.now flags mode)
             self.old self.new (Reply.Descriptor descriptor)) }
         ensures no_memory { OnErr result (RunsOut self.old self.new) }
@@ -238,13 +328,10 @@ impl Mount {
         ensures thin { StaysThin self.old.layers self.new.layers }
     {
         let key = place.key;
-        self.clients.reserve_file(client, descriptor)?;
-        if !self.clients.is_countable(key) {
-            return Err(AllocError);
-        }
         give_bytes(&mut self.layers, key, flags)?;
         let file = file_at(Place { layer: 0, key }, flags, None);
-        self.clients.open_reserved(client, descriptor, file);
+        self.clients
+            .open(client, descriptor, Handle::new(hold, On::File(file)));
         Ok(())
     }
 
@@ -257,13 +344,19 @@ impl Mount {
         flags: OpenFlags,
         mode: Mode,
         directory: &Stack,
+        hold: &Hold,
     ) -> Result<(), AllocError>
         requires attached { IsSome (get nat_cmp self.old.clients.attached client) }
         requires free { IsLowestFree self.old.clients client descriptor }
+        requires slot { HasSlot self.old.clients client descriptor }
+        requires held { (n : ℕ) → handle_uses n hold.now ≤ beside self.old.clients n }
         requires state { ∥ HasStateOf self.old ∥₁ }
         requires allowed { opening_fault (layers_of self.old.layers) path.now flags mode (Some 0) ≡ None }
         requires directory { IsStackOf self.old.layers (parent path.now) directory.now }
         requires absent { shows 0 (layers_of self.old.layers) path.now ≡ None }
+        ensures opens { OnOk result (OpensHold self.old.clients self.new.clients client descriptor
+            hold.now) }
+        ensures err { OnErr result (self.new.clients ≡ self.old.clients) }
         ensures answers { OnOk result (AnswersCall client (Call.Open path.now flags mode)
             self.old self.new (Reply.Descriptor descriptor)) }
         ensures no_memory { OnErr result (RunsOut self.old self.new) }
@@ -273,11 +366,10 @@ impl Mount {
         ensures lowers { self.new.layers.lowers ≡ self.old.layers.lowers }
         ensures thin { StaysThin self.old.layers self.new.layers }
     {
-        self.clients.reserve_file(client, descriptor)?;
-        self.clients.lawful();
         let key = create(self.alloc, &mut self.layers, directory, path, mode)?;
         let file = file_at(Place { layer: 0, key }, flags, None);
-        self.clients.open_reserved(client, descriptor, file);
+        self.clients
+            .open(client, descriptor, Handle::new(hold, On::File(file)));
         Ok(())
     }
 }

@@ -11,36 +11,36 @@ ghost use Rattle.copy_up.specs.Showing.{ShowsSame, ChangesNoSight, StaysLayers, 
 ghost use Rattle.copy_up.specs.Texts.{KeepsTexts};
 ghost use Rattle.make_remove.specs.Removing.{TakesName};
 ghost use Rattle.plain_model.specs.Layers.{AreLayers, Inode as HeldInode};
-ghost use Rattle.notice_laws.specs.Objects.{IsObject};
+ghost use Rattle.open_handles.specs.Attaching.{HasFile};
 ghost use Rattle.mount_calls.specs.Keeping.{BringsNone, KeepsRenamed};
 ghost use Rattle.mount_calls.specs.JudgedNames.{IsRemovable, IsUnlinkable};
 ghost use Rattle.mount_calls.specs.Looking.{IsKeyAt, IsLook};
 ghost use Rattle.mount_calls.specs.Living.{FreesClosed, KeepsHeld, StaysHeld, StaysLive};
+ghost use Rattle.mount_calls.specs.Removing.{IsShut};
 ghost use Rattle.mount_calls.specs.Renaming.{RenamesHeld};
 ghost use Rattle.rename_redirect.specs.Judging.{MayMove};
 
-use crate::clients::Clients;
 use crate::look::Look;
-use crate::object::object_in;
 use layer_tree::Node;
 use make_remove::{free, rmdir, unlink};
 use merged_lookup::{Layers, Stack};
-use notice_laws::Object;
+use open_handles::Clients;
 use ov_base::{Errno, Path, Place};
 use rename_redirect::{JudgedRename, Renamed, rename};
 use std::alloc::{AllocError, Global};
 
 /// `unlink` of what was judged, which frees the inode whose last name this was, unless a handle
-/// holds it, and returns what stood there.
+/// holds it: none does where the file has no number.
 pub(crate) fn unlink_and_free(
     layers: &mut Layers,
     clients: &Clients,
     path: &Path,
     directory: &Stack,
     place: Place,
-) -> Result<Object, AllocError>
-    requires { IsUnlinkable layers.old path.now directory.now place }
-    ensures object { IfOk result (IsObject (upper_of layers.old) (lowers_of layers.old) path.now) }
+    number: Option<usize>,
+) -> Result<(), AllocError>
+    requires judged { IsUnlinkable layers.old path.now directory.now place }
+    requires held { number ≡ None → IsShut clients.now layers.old path.now }
     ensures takes { OnOk result (TakesName layers.old layers.new path.now) }
     ensures steps { OnOk result ((s : State) →
         IsMountOf (upper_of layers.old) (lowers_of layers.old) s → (c : ℕ) →
@@ -54,10 +54,9 @@ pub(crate) fn unlink_and_free(
         (ChangesNoSight layers.old layers.new (StaysLive layers.old layers.new)) }
     ensures sound { StaysSound layers.old layers.new }
 {
-    let object = object_in(layers, place);
     let key = unlink(layers, directory, path)?;
-    free_released(layers, clients, key);
-    Ok(object)
+    free_released(layers, clients, key, number.is_some());
+    Ok(())
 }
 
 /// `rmdir` of what was judged, which frees the upper's directory.
@@ -82,12 +81,13 @@ pub(crate) fn rmdir_and_free(
     ensures sound { StaysSound layers.old layers.new }
 {
     let key = rmdir(layers, directory, path)?;
-    free_released(layers, clients, key);
+    free_released(layers, clients, key, true);
     Ok(())
 }
 
-/// `rename` of what was judged, which frees what lost its last name by it, unless a handle holds it.
-/// Returns the key under which the upper has the file that moved, 0 for a directory.
+/// `rename` of what was judged, which frees what lost its last name by it, unless a handle holds it:
+/// none does where that has no number. Returns the key under which the upper has the file that
+/// moved, 0 for a directory.
 pub(crate) fn rename_and_free(
     alloc: Global,
     layers: &mut Layers,
@@ -96,8 +96,10 @@ pub(crate) fn rename_and_free(
     new: &Path,
     metacopy: bool,
     moving: JudgedRename<'_>,
+    replaced: Option<usize>,
 ) -> Result<usize, AllocError>
     requires may { (redirects : Bool) × MayMove layers.old redirects old.now new.now moving }
+    requires held { replaced ≡ None → IsShut clients.now layers.old new.now }
     ensures moves { OnOk result ((redirects : Bool) →
         MayMove layers.old redirects old.now new.now moving.entry →
         RenamesHeld clients.now layers.old layers.new redirects metacopy old.now new.now) }
@@ -113,19 +115,22 @@ pub(crate) fn rename_and_free(
     let renamed = rename(alloc, layers, old, new, metacopy, moving)?;
     match renamed {
         Renamed::Directory(released) => {
-            free_released(layers, clients, released);
+            free_released(layers, clients, released, true);
             Ok(0)
         }
         Renamed::Inode { key, released } => {
-            free_released(layers, clients, released);
+            free_released(layers, clients, released, replaced.is_some());
             Ok(key)
         }
     }
 }
 
-// Frees what lost its last name, if anything did, unless a handle holds it.
-fn free_released(layers: &mut Layers, clients: &Clients, released: Option<usize>)
-    requires { (key : ℕ) → released ≡ Some key → IsNameless layers.old.upper key }
+// Frees what lost its last name, if anything did, unless a handle holds it, which is looked for
+// where one may.
+fn free_released(layers: &mut Layers, clients: &Clients, released: Option<usize>, may_be_held: bool)
+    requires nameless { (key : ℕ) → released ≡ Some key → IsNameless layers.old.upper key }
+    requires held { (key : ℕ) → released ≡ Some key → may_be_held ≡ false →
+        HasFile clients.now key → ⊥ }
     ensures held { SameObjects (layer_of layers.old.upper) (layer_of layers.new.upper) }
     ensures same { ShowsSame layers.old layers.new }
     ensures mounts { StaysMount layers.old layers.new }
@@ -134,7 +139,7 @@ fn free_released(layers: &mut Layers, clients: &Clients, released: Option<usize>
     ensures live { StaysHeld clients.now layers.old layers.new }
 {
     if let Some(key) = released {
-        if !clients.holds_file(key) {
+        if !may_be_held || !clients.has_file(key) {
             free(layers, key);
         }
     }
@@ -147,7 +152,7 @@ pub(crate) fn free_closed(layers: &mut Layers, clients: &Clients, closed: Option
     ensures texts { KeepsTexts layers.old layers.new None }
 {
     if let Some(key) = closed {
-        if !clients.holds_file(key) && is_unlinked(layers, key) {
+        if is_unlinked(layers, key) && !clients.has_file(key) {
             free(layers, key);
         }
     }

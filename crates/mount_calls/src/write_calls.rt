@@ -3,7 +3,7 @@ ghost use Rattle.std.specs.Prelude.{◌≡◌, None, Some, IfOk, IfErr, OnErr, i
 ghost use Rattle.ov_base.specs.declared.call.CallOf.TheVariants as Call;
 ghost use Rattle.plain_model.specs.Machine.{State};
 ghost use Rattle.plain_model.specs.Refusals.{refusal};
-ghost use Rattle.mount_calls.specs.Attaching.{file_by, opened_by};
+ghost use Rattle.open_handles.specs.Attaching.{file_by, opened_by, KeepsHolds};
 ghost use Rattle.mount_calls.specs.Making.{MakesCall};
 ghost use Rattle.mount_calls.specs.Opening.{write_fault, truncate_fault, written_key};
 ghost use Rattle.mount_calls.specs.States.{IsStateOf};
@@ -12,7 +12,7 @@ use crate::file_calls::TRANSFER_MAX;
 use crate::file_changes::{resize_file, write_file};
 use crate::files::{bytes_in, size_of};
 use crate::mount::Mount;
-use open_handles::{FileSource, Handle, OpenFile, fitting};
+use open_handles::{FileSource, On, OpenFile, fitting};
 use ov_base::{Bytes, Errno, Reply};
 use std::alloc::AllocError;
 
@@ -26,6 +26,7 @@ impl Mount {
     ) -> Result<Reply, AllocError>
         ensures makes { MakesCall client (Call.Write descriptor bytes.now)
             self.old self.new result }
+        ensures holds { KeepsHolds self.old.clients self.new.clients }
         ensures allowed { OnErr result ((s : State) → IsStateOf self.old s →
             refusal s client (Call.Write descriptor bytes.now) ≡ None) }
     {
@@ -64,8 +65,8 @@ impl Mount {
         if count > TRANSFER_MAX {
             return Err(Errno::EINVAL);
         }
-        match handle {
-            Handle::File(file) if writes_upper(*file) => Ok(*file),
+        match &handle.on {
+            On::File(file) if writes_upper(*file) => Ok(*file),
             _ => Err(Errno::EBADF),
         }
     }
@@ -90,15 +91,17 @@ impl Mount {
         ensures file { IfOk result (λ f. (file_by self.now.clients client descriptor ≡ Some f) × (truncate_fault self.now.file_limit (opened_by self.now.clients client descriptor) size ≡ None)) }
         ensures refused { IfErr result (λ e. truncate_fault self.now.file_limit (opened_by self.now.clients client descriptor) size ≡ Some e) }
     {
-        match self.clients.opened(client, descriptor) {
-            None => Err(Errno::EBADF),
-            Some(Handle::File(file)) if writes_upper(*file) => {
+        let Some(handle) = self.clients.opened(client, descriptor) else {
+            return Err(Errno::EBADF);
+        };
+        match &handle.on {
+            On::File(file) if writes_upper(*file) => {
                 if size > self.file_limit {
                     return Err(Errno::EFBIG);
                 }
                 Ok(*file)
             }
-            Some(_) => Err(Errno::EINVAL),
+            _ => Err(Errno::EINVAL),
         }
     }
 }

@@ -38,8 +38,8 @@ law_of_taken shows U V lowers s c count passes old new k takes = record {
     read : List Instance
     read = at_client c (λ e. record e { queue = drop count e.queue }) old.instances
 
-    taken : new ≡ record old { instances = read; pinned = new.pinned }
-    taken i = record { objects = takes.objects i; handles = takes.handles i; instances = takes.instances i; renames = takes.renames i; pinned = new.pinned }
+    taken : new ≡ record old { instances = read }
+    taken i = record { objects = takes.objects i; handles = takes.handles i; instances = takes.instances i; renames = takes.renames i }
 
 -- a slot is armed on what a number stands for, on both sides
 armed-alike : (U : Layer) (s : State) (k : Notified) (t : Tracks U s k) (c slot mask number : ℕ) (o : Option NodeId) →

@@ -7,7 +7,7 @@ use Rattle.plain_model.specs.Machine.{Handle, Table, free_table, handle_of}
 use Rattle.plain_model.specs.Runs.{joined, without_instance, without_table}
 use Rattle.plain_model.specs.Alike.{AreAllAlike}
 use Rattle.plain_model.proofs.Clients.{filter-map}
-use Rattle.open_handles.specs.declared.tracked_client.TrackedHandle.{TrackedHandle}
+use Rattle.open_handles.specs.TrackedHandles.{TrackedHandle}
 use Rattle.object_table.specs.Objects.{Objects}
 use Rattle.open_handles.specs.TrackedHandles.{clients_of, tracked_by}
 use Rattle.notice_laws.specs.Notified.{Bearers, IsSlotOn, stands_for}

@@ -21,7 +21,7 @@ use Rattle.mount_laws.proofs.Handling.{law_of_set_handle}
 use Rattle.mount_laws.proofs.Gone.{law_of_gone}
 use Rattle.mount_laws.proofs.Leading.{law_of_paths}
 use Rattle.mount_laws.proofs.OnePath.{law_of_one_path}
-use Rattle.open_handles.specs.declared.tracked_client.TrackedHandle.{TrackedHandle}
+use Rattle.open_handles.specs.TrackedHandles.{TrackedHandle}
 use Rattle.object_table.specs.Objects.{Objects, Spot, At, Upper, Nowhere, spot_of}
 use Rattle.open_handles.specs.TrackedHandles.{TrackedTables, IsOn, SetsTracked, tracked_by}
 use Rattle.notice_laws.specs.Notified.{Notified, Bearers, IsAt, IsSlotOn, Tracks, Passes, stands_for}

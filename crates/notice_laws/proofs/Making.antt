@@ -19,8 +19,8 @@ use Rattle.plain_model.proofs.Looking.{or-first, or-second, when-not}
 use Rattle.mount_laws.specs.Nodes.{touched_by}
 use Rattle.mount_laws.specs.Paths.{LeadsAlso}
 use Rattle.mount_laws.proofs.Leading.{symlink-walk}
-use Rattle.open_handles.specs.declared.tracked_client.TrackedHandle.{TrackedHandle}
-use Rattle.open_handles.specs.declared.tracked_client.Way.{Way}
+use Rattle.open_handles.specs.TrackedHandles.{SameTracked, TrackedHandle}
+use Rattle.open_handles.specs.declared.way.Way.{Way}
 use Rattle.object_table.specs.Objects.{Objects}
 use Rattle.notice_laws.specs.Notified.{Notified, AreKnown, Bearers, IsAt, stands_for, IsWay, IsSlotOn, Tracks, Passes, Resumes}
 use Rattle.notice_laws.specs.Objects.{IsShownIn, MeansWay}
@@ -62,7 +62,7 @@ module _ (shows : Rule) (U V : Layer) (lowers : List Layer) (s : State) (c : ℕ
   pub resumes-stays :
       ((d : NodeId) (q : Path) → node_at s.tree q ≡ Some d → node_at (after s c call).tree q ≡ Some d) →
       (old new : Notified) → (k : Tracks U s old) → AreKnown new → (ss : List Subject) → Tells shows old new ss Stays →
-      new.handles ≡ old.handles → new.renames ≡ old.renames →
+      SameTracked old.handles new.handles → new.renames ≡ old.renames →
       AreToldAlike (stands_for old.objects k.bearers) old.instances s.instances ss (subjects s c call) → Resumes shows V s c call new
   resumes-stays leads old new k known ss tells handles renames told =
       resumes-kept shows U V lowers s c call passes keeps old new k known ss Stays tells handles renames told

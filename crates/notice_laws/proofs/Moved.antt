@@ -17,7 +17,7 @@ use Rattle.mount_laws.specs.Nodes.{Goes}
 use Rattle.mount_laws.proofs.Gone.{law_of_gone}
 use Rattle.mount_laws.proofs.Handling.{law_of_ways}
 use Rattle.mount_laws.proofs.Opens.{folder-at}
-use Rattle.open_handles.specs.declared.tracked_client.Way.{Way}
+use Rattle.open_handles.specs.declared.way.Way.{Way}
 use Rattle.object_table.specs.Objects.{At, spot_of}
 use Rattle.open_handles.specs.TrackedHandles.{tracked_by}
 use Rattle.notice_laws.specs.declared.object.Object.{Object}

@@ -7,8 +7,8 @@ use Rattle.plain_model.specs.Tree.{same_id, Tree}
 use Rattle.plain_model.specs.Machine.{Handle}
 use Rattle.plain_model.specs.Changes.{same_way, re_way}
 use Rattle.plain_model.proofs.Paths.{ids_tell}
-use Rattle.open_handles.specs.declared.tracked_client.TrackedHandle.{TrackedHandle}
-use Rattle.open_handles.specs.declared.tracked_client.Way.{Way}
+use Rattle.open_handles.specs.TrackedHandles.{TrackedHandle}
+use Rattle.open_handles.specs.declared.way.Way.{Way}
 use Rattle.object_table.specs.Objects.{Objects, spot_of}
 use Rattle.open_handles.specs.TrackedHandles.{TrackedTables, tracked_by, is_way, came_by, re_way_of}
 use Rattle.notice_laws.specs.Notified.{Bearers, AreBorne, IsWay, IsOnNode, IsSlotOn}

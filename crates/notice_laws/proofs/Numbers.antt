@@ -12,7 +12,7 @@ use Rattle.mount_laws.specs.OpenFiles.{IsLive}
 use Rattle.mount_laws.proofs.Looks.{at-some}
 use Rattle.mount_laws.proofs.OnePath.{law_of_one_path}
 use Rattle.mount_laws.proofs.OpenFiles.{law_of_live_one, law_of_live_shown}
-use Rattle.open_handles.specs.declared.tracked_client.Way.{Way}
+use Rattle.open_handles.specs.declared.way.Way.{Way}
 use Rattle.object_table.specs.Objects.{Objects, Spot, At, Upper, Nowhere, spot_of, IsVacant}
 use Rattle.notice_laws.specs.declared.object.Object.{Object}
 use Rattle.notice_laws.specs.declared.object.Object.TheVariants as object

@@ -15,7 +15,7 @@ use Rattle.plain_model.proofs.LookUp.{parent-shown}
 use Rattle.mount_laws.specs.Looks.{IsMountOf, is_link_inode, shows_link}
 use Rattle.mount_laws.proofs.Looks.{at-some}
 use Rattle.mount_laws.proofs.Opens.{folder-at}
-use Rattle.open_handles.specs.declared.tracked_client.Way.{Way}
+use Rattle.open_handles.specs.declared.way.Way.{Way}
 use Rattle.object_table.specs.Objects.{Objects}
 use Rattle.notice_laws.specs.declared.object.Object.{Object}
 use Rattle.notice_laws.specs.declared.object.Object.TheVariants as object

@@ -20,7 +20,7 @@ use Rattle.plain_model.proofs.Kept.{open-reached}
 use Rattle.mount_laws.specs.Paths.{LeadsAlso, LeadsIfMade}
 use Rattle.mount_laws.proofs.Leading.{law_of_paths}
 use Rattle.mount_laws.proofs.OnePath.{law_of_one_path}
-use Rattle.open_handles.specs.declared.tracked_client.Way.{Way}
+use Rattle.open_handles.specs.declared.way.Way.{Way}
 use Rattle.object_table.specs.Objects.{Spot, Upper, spot_of}
 use Rattle.open_handles.specs.TrackedHandles.{tracked_by}
 use Rattle.notice_laws.specs.declared.object.Object.TheVariants as object

@@ -20,8 +20,8 @@ use Rattle.mount_laws.specs.Paths.{LeadsSame, LeadsIfMade}
 use Rattle.mount_laws.proofs.Handling.{law_of_new_handle}
 use Rattle.mount_laws.proofs.Leading.{law_of_paths}
 use Rattle.mount_laws.proofs.OnePath.{law_of_one_path}
-use Rattle.open_handles.specs.declared.tracked_client.TrackedHandle.{TrackedHandle}
-use Rattle.open_handles.specs.declared.tracked_client.Way.{Way}
+use Rattle.open_handles.specs.TrackedHandles.{TrackedHandle}
+use Rattle.open_handles.specs.declared.way.Way.{Way}
 use Rattle.object_table.specs.Objects.{Objects, Spot, At, Upper, spot_of}
 use Rattle.open_handles.specs.TrackedHandles.{TrackedTables, SetsTracked, tracked_by}
 use Rattle.notice_laws.specs.declared.object.Object.{Object}

@@ -15,7 +15,7 @@ use Rattle.mount_laws.specs.Paths.{LeadsBy, LeadsAlso}
 use Rattle.mount_laws.proofs.Leading.{law_of_paths}
 use Rattle.mount_laws.proofs.OnePath.{law_of_one_path}
 use Rattle.object_table.specs.Objects.{Spot, At, Upper, Nowhere, spot_of}
-use Rattle.open_handles.specs.TrackedHandles.{clients_of, tracked_by}
+use Rattle.open_handles.specs.TrackedHandles.{SameTracked, tracked_by}
 use Rattle.notice_laws.specs.Notified.{Notified, AreKnown, IsAt, stands_for, IsSlotOn, Tracks, Passes, Resumes}
 use Rattle.notice_laws.specs.Telling.{Tells}
 use Rattle.notice_laws.specs.Steps.{keeps_handles}
@@ -53,7 +53,8 @@ module _ (shows : Rule) (U V : Layer) (lowers : List Layer) (s : State) (c : ℕ
   -- what such a call tells alike is heard alike, and what is kept is the new state's where objects are at their spots
   pub resumes-kept :
       (old new : Notified) → (k : Tracks U s old) → AreKnown new → (ss : List Subject) (becomes : Spot → Spot → Type 0) →
-      Tells shows old new ss becomes → new.handles ≡ old.handles → new.renames ≡ old.renames →
+      Tells shows old new ss becomes → SameTracked old.handles new.handles →
+          new.renames ≡ old.renames →
       AreToldAlike (stands_for old.objects k.bearers) old.instances s.instances ss (subjects s c call) →
       ((n : ℕ) (was spot : Spot) → spot_of old.objects n ≡ Some was → becomes was spot → IsAt V (after s c call).tree spot (k.bearers n)) →
       Resumes shows V s c call new
@@ -63,9 +64,9 @@ module _ (shows : Rule) (U V : Layer) (lowers : List Layer) (s : State) (c : ℕ
         places = λ n was spot e becomes now. places n was spot e becomes;
         slots = λ b i.
             law_of_known_slots old new k.bearers known b i (handle_of (tables_after s c call) b i)
-            (subst (λ hs. IsSlotOn old.objects k.bearers (tracked_by hs b i) (handle_of (tables_after s c call) b i)) (sym handles)
+            (subst (λ h. IsSlotOn old.objects k.bearers h (handle_of (tables_after s c call) b i)) (sym (handles.slots b i))
             (kept.slots old.objects k.bearers (tracked_by old.handles b i) b i (k.slots b i)));
-        clients = ap clients_of handles ∙ k.clients ∙ sym kept.clients;
+        clients = handles.clients ∙ k.clients ∙ sym kept.clients;
         instances = same-instances s c call keeps;
         renames = renames ∙ k.renames ∙ sym (ap (λ b. next_if b s.renames) (moves-nothing s call keeps));
       })

@@ -14,8 +14,8 @@ use Rattle.plain_model.specs.Changes.{is_held, with_handle, moved_to, rewound, l
 use Rattle.plain_model.specs.Settling as settling
 use Rattle.plain_model.proofs.Held.{fixed-with, with-handles}
 use Rattle.mount_laws.proofs.Handling.{law_of_held, law_of_set_handle}
-use Rattle.open_handles.specs.declared.tracked_client.TrackedHandle.{TrackedHandle}
-use Rattle.open_handles.specs.declared.tracked_client.Way.{Way}
+use Rattle.open_handles.specs.TrackedHandles.{TrackedHandle}
+use Rattle.open_handles.specs.declared.way.Way.{Way}
 use Rattle.object_table.specs.Objects.{Objects, spot_of}
 use Rattle.open_handles.specs.TrackedHandles.{TrackedTables, IsOn, tracked_by}
 use Rattle.notice_laws.specs.Notified.{Bearers, IsWay, IsSlotOn, IsOnNode}

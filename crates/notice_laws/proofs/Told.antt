@@ -16,7 +16,7 @@ use Rattle.plain_model.specs.Alike.{AreAlikeWatches, AreAllAlike, AreToldAlike, 
 use Rattle.plain_model.proofs.Alike.{alike-hearing}
 use Rattle.plain_model.proofs.AlikeKept.{alike-kept}
 use Rattle.plain_model.proofs.Paths.{ids_tell}
-use Rattle.open_handles.specs.declared.tracked_client.Way.{Way}
+use Rattle.open_handles.specs.declared.way.Way.{Way}
 use Rattle.object_table.specs.Objects.{Objects, Spot, spot_of}
 use Rattle.notice_laws.specs.Notified.{Notified, AreKnown, Bearers, AreBorne, stands_for, Tracks, Passes, Resumes}
 use Rattle.notice_laws.specs.Objects.{Means, MeansWay}

@@ -20,7 +20,7 @@ use Rattle.mount_laws.proofs.Gone.{law_of_gone}
 use Rattle.mount_laws.proofs.Leading.{law_of_paths}
 use Rattle.mount_laws.proofs.OnePath.{law_of_one_path}
 use Rattle.object_table.specs.Objects.{Spot, At, Upper, Nowhere, spot_of}
-use Rattle.open_handles.specs.TrackedHandles.{clients_of, tracked_by}
+use Rattle.open_handles.specs.TrackedHandles.{SameTracked}
 use Rattle.notice_laws.specs.declared.object.Object.{Object}
 use Rattle.notice_laws.specs.declared.object.Object.TheVariants as object
 use Rattle.notice_laws.specs.Notified.{Notified, AreKnown, IsAt, IsSlotOn, Tracks, Passes}
@@ -93,7 +93,7 @@ module _ (U V : Layer) (lowers : List Layer) (s : State) (c : ℕ) (call : Call)
     pub renames : (after s c call).renames ≡ s.renames
 
   dropped-follows :
-      Drops → (old new : Notified) → (k : Tracks U s old) → AreKnown new → new.handles ≡ old.handles → new.renames ≡ old.renames →
+      Drops → (old new : Notified) → (k : Tracks U s old) → AreKnown new → SameTracked old.handles new.handles → new.renames ≡ old.renames →
       (ss : List Subject) → AreTold U s old k ss (subjects s c call) → Follows V s c call old new k.bearers ss (Loses p o)
   dropped-follows drops old new k known handles renames ss alike = record {
     told = alike;
@@ -102,9 +102,9 @@ module _ (U V : Layer) (lowers : List Layer) (s : State) (c : ℕ) (call : Call)
         old k drops.loser drops.one n was there drops.touched spot loses;
     slots = λ i fd.
         law_of_known_slots old new k.bearers known i fd (handle_of (tables_after s c call) i fd)
-        (subst₂ (λ ks ts. IsSlotOn old.objects k.bearers (tracked_by ks i fd) (handle_of ts i fd)) (sym handles) (sym drops.tables)
+        (subst₂ (λ h ts. IsSlotOn old.objects k.bearers h (handle_of ts i fd)) (sym (handles.slots i fd)) (sym drops.tables)
         (k.slots i fd));
-    clients = ap clients_of handles ∙ k.clients ∙ ap settling.clients_of (sym drops.tables);
+    clients = handles.clients ∙ k.clients ∙ ap settling.clients_of (sym drops.tables);
     instances = drops.instances;
     renames = renames ∙ k.renames ∙ sym drops.renames;
   }

@@ -6,8 +6,8 @@ use Rattle.ov_base.specs.declared.call.CallOf.TheVariants.{Rename}
 use Rattle.plain_model.specs.Layers.{Path, Layer}
 use Rattle.plain_model.specs.Watching.{ATTRIB, MOVED_FROM, MOVED_TO, MOVE_SELF, Subject, Rule}
 use Rattle.plain_model.specs.Machine.{State, look, same_found}
-use Rattle.open_handles.specs.declared.tracked_client.TrackedHandle.{TrackedHandle}
-use Rattle.open_handles.specs.declared.tracked_client.Way.{Way}
+use Rattle.open_handles.specs.TrackedHandles.{TrackedHandle}
+use Rattle.open_handles.specs.declared.way.Way.{Way}
 use Rattle.object_table.specs.Objects.{Spot, At, Upper, Nowhere, spot_of}
 use Rattle.open_handles.specs.TrackedHandles.{TrackedTables, clients_of, tracked_by, came_by, re_way_of}
 use Rattle.notice_laws.specs.declared.object.Object.{Object}

@@ -18,20 +18,18 @@ use Rattle.plain_model.specs.Alike.{Identities, AreAllAlike, is_watched}
 use Rattle.mount_laws.specs.Looks.{IsMountOf, IsHidden}
 use Rattle.mount_laws.specs.Nodes.{HaveOneName}
 use Rattle.mount_laws.specs.OpenFiles.{IsLive}
-use Rattle.open_handles.specs.declared.tracked_client.TrackedHandle.{TrackedHandle}
-use Rattle.open_handles.specs.declared.tracked_client.Way.{Way}
-use Rattle.notice_laws.specs.declared.pin.Pin.{Pin}
+use Rattle.open_handles.specs.TrackedHandles.{TrackedHandle}
+use Rattle.open_handles.specs.declared.way.Way.{Way}
 use Rattle.object_table.specs.Objects.{Objects, Spot, At, Upper, Nowhere, spot_of}
 use Rattle.open_handles.specs.TrackedHandles.{TrackedTables, clients_of, tracked_by}
 
--- What is kept for watches: the tracked objects, what each handle is on, the instances of the clients, whose watches are on the objects of
--- numbers, how many renames moved something, and what a rename that is under way holds.
+-- What is kept for watches: the objects that are held, what each handle is on, the instances of the
+-- clients, whose watches are on the objects of numbers, and how many renames moved something.
 pub record Notified : Type 0 where
   pub objects : Objects
   pub handles : TrackedTables
   pub instances : List Instance
   pub renames : ℕ
-  pub pinned : Option Pin
 
 -- every number that a watch or a handle has is that of a tracked object
 pub record AreKnown (k : Notified) : Type 0 where

@@ -7,7 +7,8 @@ use Rattle.plain_model.specs.Tree.{node_at}
 use Rattle.plain_model.specs.Machine.{State}
 use Rattle.plain_model.specs.Changes.{way_of}
 use Rattle.mount_laws.specs.Looks.{IsMountOf, shows_link}
-use Rattle.open_handles.specs.declared.tracked_client.Way.{Way}
+use Rattle.open_handles.specs.declared.way.Way.{Way}
+pub use Rattle.open_handles.specs.Holding.{IsWayTo}
 use Rattle.object_table.specs.Objects.{Objects, Spot, At, Upper, spot_of, IsVacant}
 use Rattle.notice_laws.specs.declared.object.Object.{Object}
 use Rattle.notice_laws.specs.declared.object.Object.TheVariants as object
@@ -46,12 +47,6 @@ IsNumberOf objects p (object.Upper key last) r = IsNumberAt objects (Upper key) 
 IsNumberOf objects p object.Lower r = IsNumberAt objects (At p) r
 IsNumberOf objects p object.Directory r = IsNumberAt objects (At p) r
 IsNumberOf objects p object.Other r = r ≡ None
-
--- the way in to a path, where its directory is tracked; the root has none
-abbrev pub IsWayTo : Objects → Path → Option Way → Type 0
-IsWayTo objects [] r = r ≡ None
-IsWayTo objects (n ∷ p) None = IsVacant objects (At p)
-IsWayTo objects (n ∷ p) (Some w) = (spot_of objects w.directory ≡ Some (At p)) × (w.name ≡ n)
 
 -- a number stands for a node, and where there is none, no tracked object is the node
 abbrev pub Means : Objects → Bearers → Option ℕ → Option NodeId → Type 0

@@ -7,7 +7,9 @@ use Rattle.plain_model.specs.Tree.{node_at}
 use Rattle.plain_model.specs.Watching.{MODIFY, OPEN, CREATE, Rule, AllHear}
 use Rattle.plain_model.specs.Machine.{State, lowest_free}
 use Rattle.mount_laws.specs.Looks.{IsMountOf, shows_link}
-use Rattle.open_handles.specs.declared.tracked_client.Way.{Way}
+use Rattle.open_handles.specs.declared.way.Way.{Way}
+pub use Rattle.open_handles.specs.Holding.{IsHeldWay}
+pub use Rattle.object_table.specs.Objects.{AreFewer}
 use Rattle.object_table.specs.Objects.{Objects, Spot, At, Upper, spot_of, Holds}
 use Rattle.open_handles.specs.TrackedHandles.{SetsTracked}
 use Rattle.notice_laws.specs.declared.object.Object.{Object}
@@ -24,21 +26,11 @@ LawOfHeldNumber =
     (p : Path) (o : Object) (spot : Spot) → IsObject U lowers p o → shows_link (shows 0 (U ∷ lowers) p) ≡ false → IsSpotOf p o spot →
     (objects : Objects) (n : ℕ) → Holds k.objects objects spot n → Tracks U s (record k { objects = objects })
 
--- each object that is tracked still is where it was
-abbrev pub AreFewer : Objects → Objects → Type 0
-AreFewer old new = (n : ℕ) (spot : Spot) → spot_of new n ≡ Some spot → spot_of old n ≡ Some spot
-
 -- objects that no watch and no handle needs may be let go
 abbrev pub LawOfFewerNumbers : Type 0
 LawOfFewerNumbers =
     (U : Layer) (s : State) (k : Notified) → Tracks U s k → (objects : Objects) → AreFewer k.objects objects →
     AreKnown (record k { objects = objects }) → Tracks U s (record k { objects = objects })
-
--- the way in to a path, by the number of its directory, which is tracked; the root has none
-abbrev pub IsHeldWay : Objects → Path → Option Way → Type 0
-IsHeldWay objects [] r = r ≡ None
-IsHeldWay objects (n ∷ p) None = ⊥
-IsHeldWay objects (n ∷ p) (Some w) = (spot_of objects w.directory ≡ Some (At p)) × (w.name ≡ n)
 
 -- what an open for writing makes of spots, and one for reading alone
 abbrev pub opens_to : Bool → Path → Object → ℕ → Spot → Spot → Type 0

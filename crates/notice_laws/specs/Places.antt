@@ -11,7 +11,7 @@ use Rattle.plain_model.specs.Changes.{is_held, tables_after, after}
 use Rattle.plain_model.specs.Settling as settling
 use Rattle.mount_laws.specs.Looks.{IsMountOf, IsHidden}
 use Rattle.mount_laws.specs.Nodes.{HaveOneName, touched_by, loses, names_lost}
-use Rattle.open_handles.specs.declared.tracked_client.TrackedHandle.{TrackedHandle}
+use Rattle.open_handles.specs.TrackedHandles.{TrackedHandle}
 use Rattle.object_table.specs.Objects.{Objects, At, Upper, Nowhere, spot_of}
 use Rattle.open_handles.specs.TrackedHandles.{IsOn, tracked_by}
 use Rattle.notice_laws.specs.declared.object.Object.{Object}

@@ -10,10 +10,10 @@ use Rattle.plain_model.specs.Changes.{read_bytes, tree_after}
 use Rattle.plain_model.specs.Subjects.{subjects, closes}
 use Rattle.mount_laws.specs.OpenFiles.{IsLive}
 use Rattle.ov_base.specs.declared.node_id.NodeId.{NodeId}
-use Rattle.open_handles.specs.declared.tracked_client.TrackedHandle.{TrackedHandle}
-use Rattle.open_handles.specs.declared.tracked_client.Way.{Way}
+use Rattle.open_handles.specs.TrackedHandles.{TrackedHandle}
+use Rattle.open_handles.specs.declared.way.Way.{Way}
 use Rattle.object_table.specs.Objects.{Objects, Spot, At, Upper, Nowhere, spot_of}
-use Rattle.open_handles.specs.TrackedHandles.{TrackedTables, SetsTracked, tracked_by}
+use Rattle.open_handles.specs.TrackedHandles.{TrackedTables, SameTracked, SetsTracked, tracked_by}
 use Rattle.notice_laws.specs.declared.object.Object.{Object}
 use Rattle.notice_laws.specs.declared.object.Object.TheVariants as object
 use Rattle.notice_laws.specs.Notified.{Notified, AreKnown, Tracks, Passes, Resumes}
@@ -76,7 +76,7 @@ pub record Altered (shows : Rule) (old new : Notified) (p : Path) (o : Object) (
   pub way : Option Way
   pub entered : IsWayTo old.objects p way
   pub tells : Tells shows old new (of_both way number (marks o ATTRIB)) (Lifts p o key)
-  pub handles : new.handles ≡ old.handles
+  pub handles : SameTracked old.handles new.handles
   pub renames : new.renames ≡ old.renames
 
 abbrev pub LawOfAltered : Rule → Type 0
@@ -102,7 +102,7 @@ pub record Made (shows : Rule) (old new : Notified) (p : Path) (bits : ℕ) : Ty
   pub way : Option Way
   pub entered : IsWayTo old.objects p way
   pub tells : Tells shows old new (in_way way bits 0) Stays
-  pub handles : new.handles ≡ old.handles
+  pub handles : SameTracked old.handles new.handles
   pub renames : new.renames ≡ old.renames
 
 abbrev pub LawOfMade : Rule → Type 0
@@ -118,7 +118,7 @@ pub record Linked (shows : Rule) (old new : Notified) (p q : Path) (o : Object) 
   pub way : Option Way
   pub entered : IsWayTo old.objects q way
   pub tells : Tells shows old new (in_way way CREATE 0 ++ of_number number ATTRIB) (Lifts p o key)
-  pub handles : new.handles ≡ old.handles
+  pub handles : SameTracked old.handles new.handles
   pub renames : new.renames ≡ old.renames
 
 abbrev pub LawOfLinked : Rule → Type 0
@@ -155,7 +155,7 @@ pub record Unlinked (shows : Rule) (old new : Notified) (p : Path) (o : Object) 
   pub way : Option Way
   pub entered : IsWayTo old.objects p way
   pub tells : Tells shows old new (in_way way DELETE 0 ++ of_number number ATTRIB ++ of_end ended) (Loses p o)
-  pub handles : new.handles ≡ old.handles
+  pub handles : SameTracked old.handles new.handles
   pub renames : new.renames ≡ old.renames
 
 abbrev pub LawOfUnlinked : Rule → Type 0
@@ -173,7 +173,7 @@ pub record Removed (shows : Rule) (old new : Notified) (p : Path) : Type 0 where
   pub way : Option Way
   pub entered : IsWayTo old.objects p way
   pub tells : Tells shows old new (in_way way (DELETE + ISDIR) 0 ++ of_end ended) (Loses p object.Directory)
-  pub handles : new.handles ≡ old.handles
+  pub handles : SameTracked old.handles new.handles
   pub renames : new.renames ≡ old.renames
 
 abbrev pub LawOfRemoved : Rule → Type 0
@@ -186,7 +186,7 @@ pub record Used (shows : Rule) (old new : Notified) (c fd bits : ℕ) : Type 0 w
   pub handle : TrackedHandle
   pub is_open : tracked_by old.handles c fd ≡ Some handle
   pub tells : Tells shows old new (of_both handle.way (Some handle.object) bits) Stays
-  pub handles : new.handles ≡ old.handles
+  pub handles : SameTracked old.handles new.handles
   pub renames : new.renames ≡ old.renames
 
 -- a read of some bytes

@@ -11,7 +11,7 @@ use Rattle.plain_model.specs.Settling as settling
 use Rattle.plain_model.specs.Subjects as told
 use Rattle.plain_model.specs.Subjects.{subjects}
 use Rattle.plain_model.specs.Alike.{AreAllAlike, AreToldAlike}
-use Rattle.open_handles.specs.declared.tracked_client.Way.{Way}
+use Rattle.open_handles.specs.declared.way.Way.{Way}
 use Rattle.object_table.specs.Objects.{Objects, Spot, spot_of}
 use Rattle.open_handles.specs.TrackedHandles.{TrackedTables, IsOn, clients_of, tracked_by}
 use Rattle.notice_laws.specs.declared.object.Object.{Object}

@@ -4,10 +4,10 @@
 
 mod call_laws;
 mod client_laws;
+mod course;
 mod number_laws;
 mod object;
 mod open_laws;
-mod pin;
 mod place_laws;
 
 pub use call_laws::{
@@ -19,12 +19,12 @@ pub use client_laws::{
     law_of_armed, law_of_asked, law_of_begun, law_of_departed, law_of_disarmed, law_of_joined,
     law_of_muted, law_of_taken,
 };
+pub use course::{Course, Known};
 pub use number_laws::{law_of_numbers, law_of_told, law_of_way_numbers};
 pub use object::Object;
 pub use open_laws::{
     law_of_closed, law_of_fewer_numbers, law_of_held_number, law_of_opened, law_of_opened_new,
 };
-pub use pin::Pin;
 pub use place_laws::{
     law_of_alone, law_of_held_objects, law_of_known_slots, law_of_last_name, law_of_lost,
     law_of_nowhere, law_of_same_handles, law_of_upper,

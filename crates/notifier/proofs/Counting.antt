@@ -6,8 +6,8 @@ use Rattle.std.proofs.lemmas.List.Sums.{sum_by-cons}
 use Rattle.ov_base.specs.declared.node_id.NodeId.TheVariants.{New}
 use Rattle.plain_model.specs.Watching.{Rule, Subject, Instance, On, AllHear}
 use Rattle.plain_model.specs.Alike.{is_watched}
-use Rattle.open_handles.specs.declared.tracked_client.TrackedHandle.{TrackedHandle}
-use Rattle.open_handles.specs.declared.tracked_client.Way.{Way}
+use Rattle.open_handles.specs.TrackedHandles.{TrackedHandle}
+use Rattle.open_handles.specs.declared.way.Way.{Way}
 use Rattle.object_table.specs.Objects.{Objects, Spot, spot_of, holders_of}
 use Rattle.open_handles.specs.TrackedHandles.{handle_uses, tracked_by, uses, way_uses}
 use Rattle.watch_table.specs.Listening.{is_on}

@@ -3,8 +3,8 @@ use Rattle.std.proofs.Common.{◌≡◌, ◌≢◌, ℕ, zero, suc, ◌+◌, ◌
 use Rattle.std.proofs.lemmas.Bool.{cases_Bool}
 use Rattle.std.proofs.lemmas.List.Sums.{sum_by-cons}
 use Rattle.plain_model.specs.Layers.{Name, Path}
-use Rattle.open_handles.specs.declared.tracked_client.TrackedHandle.{TrackedHandle}
-use Rattle.open_handles.specs.declared.tracked_client.Way.{Way}
+use Rattle.open_handles.specs.TrackedHandles.{TrackedHandle}
+use Rattle.open_handles.specs.declared.way.Way.{Way}
 use Rattle.open_handles.specs.Descriptors.{opened}
 use Rattle.object_table.specs.Objects.{Objects, Spot, At, Upper, Nowhere, SameSpots, spot_of}
 use Rattle.open_handles.specs.TrackedHandles.{TrackedTable, TrackedTables, came_by, handles_by, re_way_of, slot_came_by, slots_of, tracked_by}

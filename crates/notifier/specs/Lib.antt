@@ -1,4 +1,3 @@
+pub mod Watches
 pub mod Notifying
 pub mod Arming
-pub mod Opening
-pub mod Moving

@@ -1,84 +1,70 @@
-// What changes of attributes and further names tell.
-ghost use Rattle.std.specs.Prelude.{◌≡◌, OnOk, Some};
-ghost use Rattle.plain_model.specs.Layers.{Path as Names};
-ghost use Rattle.object_table.specs.Objects.{SameSpots};
-ghost use Rattle.notice_laws.specs.Objects.{IsNumberOf};
-ghost use Rattle.notice_laws.specs.Steps.{Altered, Lifts, Linked};
-ghost use Rattle.notifier.specs.Notifying.{Becomes, HasRoom, IsFree, MayLift};
+// What changes of attributes and names tell.
+ghost use Rattle.std.specs.Prelude.{◌≡◌, ◌+◌, ◌++◌};
+ghost use Rattle.plain_model.specs.Watching as events;
+ghost use Rattle.notice_laws.specs.Telling.{in_way, marks, of_both, of_end, of_number};
+ghost use Rattle.notifier.specs.Notifying.{AreCounted, IsOther, IsTold};
 
-use crate::bits::{ATTRIB, CREATE};
+use crate::bits::{ATTRIB, CREATE, DELETE, ISDIR};
 use crate::kept::Notifier;
 use crate::telling::marks;
-use notice_laws::Object;
-use ov_base::Path;
-use std::alloc::AllocError;
+use notice_laws::{Known, Object};
+use open_handles::{Clients, Way};
 use watch_table::{Callback, Rule};
 
 impl<F: Callback, R: Rule> Notifier<F, R> {
-    /// Makes room for what stands at a path to come into the upper, where that is a file of a lower layer that is tracked. Nothing that is
-    /// kept changes by it.
-    pub fn prepare_lift(&mut self, path: &Path, object: Object) -> Result<(), AllocError>
-        ensures same { SameSpots self.old.objects self.new.objects }
-        ensures rest { self.new ≡ record self.old { objects = self.new.objects } }
-        ensures room { OnOk result (HasRoom self.new.objects path.now object) }
+    /// Notifies that attributes changed of what stands at a path. It takes no memory.
+    pub fn altered(&mut self, clients: &mut Clients, known: &Known, object: Object)
+        requires counted { AreCounted clients.old self.old }
+        ensures told { IsTold R.shows clients.old clients.new self.old self.new (of_both known.now.way known.now.number (marks object events.ATTRIB)) }
+        ensures renames { self.new.renames ≡ self.old.renames }
     {
-        match object {
-            Object::Lower if self.number_of(path, object).is_some() => self.reserve(),
-            _ => Ok(()),
-        }
+        self.tell_both(clients, &known.way, known.number, marks(object, ATTRIB));
     }
 
-    // Notifies that what stands at a path, where it is a file of a lower layer, is in the upper
-    // under a key now. It gives its number.
-    pub(crate) fn lift(&mut self, path: &Path, object: Object, key: usize) -> Option<u64>
-        requires room { HasRoom self.old.objects path.now object }
-        requires free { IsFree self.old.objects path.now object key }
-        ensures number { IsNumberOf self.old.objects path.now object result }
-        ensures lifted { Becomes (Lifts path.now object key) self.old.objects self.new.objects }
-        ensures rest { self.new ≡ record self.old { objects = self.new.objects } }
+    /// Notifies that an object has a further name, by the way in to that. It takes no memory.
+    pub fn linked(&mut self, clients: &mut Clients, way: &Option<Way>, number: Option<usize>)
+        requires counted { AreCounted clients.old self.old }
+        ensures told { IsTold R.shows clients.old clients.new self.old self.new (in_way way.now
+            events.CREATE 0 ++ of_number number events.ATTRIB) }
+        ensures renames { self.new.renames ≡ self.old.renames }
     {
-        let number = self.number_of(path, object);
-        if let Some(risen) = number {
-            self.lift_number(risen, object, key);
-        }
-        number
+        self.tell_way(clients, way, CREATE);
+        self.tell_number(clients, number, ATTRIB);
     }
 
-    // Notes that the object of a number, where it is a file of a lower layer, is in the upper under
-    // a key now.
-    pub(crate) fn lift_number(&mut self, number: u64, object: Object, key: usize)
-        requires { (p : Names) × IsNumberOf self.old.objects p object (Some number) × MayLift self.old.objects p object key }
-        ensures lifted { (p : Names) → IsNumberOf self.old.objects p object (Some number) → Becomes (Lifts p object key) self.old.objects self.new.objects }
-        ensures rest { self.new ≡ record self.old { objects = self.new.objects } }
+    /// Notifies that a directory or a link was made, by the bits of that event. It takes no memory.
+    pub fn made(&mut self, clients: &mut Clients, way: &Option<Way>, bits: u32)
+        requires counted { AreCounted clients.old self.old }
+        requires bits { IsOther bits }
+        ensures told { IsTold R.shows clients.old clients.new self.old self.new (in_way way.now bits 0) }
+        ensures renames { self.new.renames ≡ self.old.renames }
     {
-        self.lawful();
-        if let Object::Lower = object {
-            self.rise(number, key);
-        }
+        self.tell_way(clients, way, bits);
     }
 
-    /// Notifies that attributes of what stands at a path changed; a file of a lower layer is in the
-    /// upper under a key by that. It takes no memory.
-    pub fn altered(&mut self, path: &Path, object: Object, key: usize)
-        requires room { HasRoom self.old.objects path.now object }
-        requires free { IsFree self.old.objects path.now object key }
-        ensures { Altered R.shows self.old self.new path.now object key }
+    /// Notifies that a name of a file or link is gone, and again where the object ends by it. It
+    /// takes no memory.
+    pub fn unlinked(&mut self, clients: &mut Clients, known: &Known, ended: Option<usize>)
+        requires counted { AreCounted clients.old self.old }
+        ensures told { IsTold R.shows clients.old clients.new self.old self.new (in_way
+            known.now.way events.DELETE 0 ++ of_number known.now.number events.ATTRIB ++ of_end
+            ended) }
+        ensures renames { self.new.renames ≡ self.old.renames }
     {
-        let way = self.way_to(path);
-        let number = self.lift(path, object, key);
-        self.tell_both(&way, number, marks(object, ATTRIB));
+        self.tell_way(clients, &known.way, DELETE);
+        self.tell_number(clients, known.number, ATTRIB);
+        self.tell_end(clients, ended);
     }
 
-    /// Notifies that what stands at the old path has the new path too; a file of a lower layer is
-    /// in the upper under a key by that. It takes no memory.
-    pub fn linked(&mut self, old: &Path, new: &Path, object: Object, key: usize)
-        requires room { HasRoom self.old.objects old.now object }
-        requires free { IsFree self.old.objects old.now object key }
-        ensures { Linked R.shows self.old self.new old.now new.now object key }
+    /// Notifies that a directory is gone, and again where the object ends by it. It takes no
+    /// memory.
+    pub fn removed(&mut self, clients: &mut Clients, way: &Option<Way>, ended: Option<usize>)
+        requires counted { AreCounted clients.old self.old }
+        ensures told { IsTold R.shows clients.old clients.new self.old self.new (in_way way.now
+            (events.DELETE + events.ISDIR) 0 ++ of_end ended) }
+        ensures renames { self.new.renames ≡ self.old.renames }
     {
-        let way = self.way_to(new);
-        let number = self.lift(old, object, key);
-        self.tell_way(&way, CREATE);
-        self.tell_number(number, ATTRIB);
+        self.tell_way(clients, way, DELETE + ISDIR);
+        self.tell_end(clients, ended);
     }
 }

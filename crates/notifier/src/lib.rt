@@ -1,5 +1,5 @@
-//! What a mount keeps and notifies for watches: the objects that watches and handles pin, what each
-//! handle is on, and the watches.
+//! What a mount keeps for watches, and notifies: the watches of its clients, by the numbers of the
+//! objects that it holds.
 #![tactic(auto)]
 
 mod bits;
@@ -7,7 +7,6 @@ mod changes;
 mod clients;
 mod kept;
 mod moves;
-mod names;
 mod opens;
 mod telling;
 mod uses;

@@ -1,12 +1,12 @@
 // What is told of objects and of names in directories.
-ghost use Rattle.notice_laws.specs.Telling.{in_way, marks, of_both, of_end, of_number};
 ghost use Rattle.std.specs.Prelude.{◌≡◌, ◌+◌, ◌<◌, ◌^◌};
-ghost use Rattle.notifier.specs.Notifying.{IsOther, IsTold};
+ghost use Rattle.notice_laws.specs.Telling.{in_way, marks, of_both, of_end, of_number};
+ghost use Rattle.notifier.specs.Notifying.{AreCounted, IsOther, IsTold};
 
 use crate::bits::{DELETE_SELF, ISDIR};
 use crate::kept::Notifier;
 use notice_laws::Object;
-use open_handles::Way;
+use open_handles::{Clients, Way};
 use watch_table::{Callback, IGNORED, Rule};
 
 // The bits of an event, with ISDIR where a directory stands there.
@@ -22,39 +22,56 @@ pub(crate) fn marks(object: Object, bits: u32) -> u32
 
 impl<F: Callback, R: Rule> Notifier<F, R> {
     // Tells the directory of a way, with the name.
-    pub(crate) fn tell_way(&mut self, way: &Option<Way>, bits: u32)
-        requires { IsOther bits }
-        ensures { IsTold R.shows self.old self.new (in_way way.now bits 0) }
+    pub(crate) fn tell_way(&mut self, clients: &mut Clients, way: &Option<Way>, bits: u32)
+        requires counted { AreCounted clients.old self.old }
+        requires bits { IsOther bits }
+        ensures told { IsTold R.shows clients.old clients.new self.old self.new (in_way way.now
+            bits 0) }
+        ensures renames { self.new.renames ≡ self.old.renames }
     {
         if let Some(way) = way {
-            self.tell(way.directory, bits, 0, Some(&way.name));
+            self.tell(clients, way.directory, bits, 0, Some(&way.name));
         }
     }
 
     // Tells the object of a number.
-    pub(crate) fn tell_number(&mut self, number: Option<u64>, bits: u32)
-        requires { IsOther bits }
-        ensures { IsTold R.shows self.old self.new (of_number number bits) }
+    pub(crate) fn tell_number(&mut self, clients: &mut Clients, number: Option<usize>, bits: u32)
+        requires counted { AreCounted clients.old self.old }
+        requires bits { IsOther bits }
+        ensures told { IsTold R.shows clients.old clients.new self.old self.new (of_number number
+            bits) }
+        ensures renames { self.new.renames ≡ self.old.renames }
     {
         if let Some(number) = number {
-            self.tell(number, bits, 0, None);
+            self.tell(clients, number, bits, 0, None);
         }
     }
 
     // Tells both.
-    pub(crate) fn tell_both(&mut self, way: &Option<Way>, number: Option<u64>, bits: u32)
-        requires { IsOther bits }
-        ensures { IsTold R.shows self.old self.new (of_both way.now number bits) }
+    pub(crate) fn tell_both(
+        &mut self,
+        clients: &mut Clients,
+        way: &Option<Way>,
+        number: Option<usize>,
+        bits: u32,
+    )
+        requires counted { AreCounted clients.old self.old }
+        requires bits { IsOther bits }
+        ensures told { IsTold R.shows clients.old clients.new self.old self.new (of_both way.now
+            number bits) }
+        ensures renames { self.new.renames ≡ self.old.renames }
     {
-        self.tell_way(way, bits);
-        self.tell_number(number, bits);
+        self.tell_way(clients, way, bits);
+        self.tell_number(clients, number, bits);
     }
 
     // Tells the end of an object.
-    pub(crate) fn tell_end(&mut self, ended: Option<u64>)
-        ensures { IsTold R.shows self.old self.new (of_end ended) }
+    pub(crate) fn tell_end(&mut self, clients: &mut Clients, ended: Option<usize>)
+        requires counted { AreCounted clients.old self.old }
+        ensures told { IsTold R.shows clients.old clients.new self.old self.new (of_end ended) }
+        ensures renames { self.new.renames ≡ self.old.renames }
     {
-        self.tell_number(ended, DELETE_SELF);
-        self.tell_number(ended, IGNORED);
+        self.tell_number(clients, ended, DELETE_SELF);
+        self.tell_number(clients, ended, IGNORED);
     }
 }

@@ -1,35 +1,43 @@
 // What uses of open handles tell.
-ghost use Rattle.std.specs.Prelude.{IsSome};
-ghost use Rattle.open_handles.specs.TrackedHandles.{tracked_by};
-ghost use Rattle.notice_laws.specs.Steps.{Closed, Used};
-ghost use Rattle.notifier.specs.Notifying.{IsOther};
+ghost use Rattle.std.specs.Prelude.{◌≡◌, ◌++◌, Some};
+ghost use Rattle.open_handles.specs.Attaching.{opened_by};
+ghost use Rattle.open_handles.specs.Handles.{tracked_of};
+ghost use Rattle.open_handles.specs.declared.handle.Handle.{Handle};
+ghost use Rattle.notice_laws.specs.Telling.{of_both, of_end};
+ghost use Rattle.notifier.specs.Notifying.{AreCounted, IsOther, IsTold};
 
 use crate::kept::Notifier;
+use open_handles::{Clients, Hold};
 use watch_table::{Callback, Rule};
 
 impl<F: Callback, R: Rule> Notifier<F, R> {
-    /// Notifies that an open handle was used, by the bits of that event. It takes no memory.
-    pub fn used(&mut self, client: u64, descriptor: u32, bits: u32)
-        requires open { IsSome (tracked_by self.old.handles client descriptor) }
+    /// Notifies that the handle was used that a client has open under a descriptor, by the bits of
+    /// that event. It takes no memory.
+    pub fn used(&mut self, clients: &mut Clients, client: u64, descriptor: u32, bits: u32)
+        requires counted { AreCounted clients.old self.old }
         requires bits { IsOther bits }
-        ensures { Used R.shows self.old self.new client descriptor bits }
+        requires open { (h : Handle) × (opened_by clients.old client descriptor ≡ Some h) }
+        ensures told { (h : Handle) → opened_by clients.old client descriptor ≡ Some h →
+            IsTold R.shows clients.old clients.new self.old self.new (of_both h.way (Some
+                h.object) bits) }
+        ensures renames { self.new.renames ≡ self.old.renames }
     {
-        let handle = self.handle(client, descriptor);
-        self.tell_both(&handle.way, Some(handle.object), bits);
+        if let Some(handle) = clients.opened(client, descriptor) {
+            let hold = handle.hold();
+            self.tell_both(clients, &hold.way, Some(hold.object), bits);
+        }
     }
 
-    /// Notifies that an open handle is closed, by the bits of that event; its descriptor is on
-    /// nothing then. It takes no memory.
-    pub fn closed(&mut self, client: u64, descriptor: u32, bits: u32)
-        requires open { IsSome (tracked_by self.old.handles client descriptor) }
+    /// Notifies that a handle was closed that held this, by the bits of that event, and again where
+    /// the object ends by it. It takes no memory.
+    pub fn closed(&mut self, clients: &mut Clients, hold: &Hold, ended: Option<usize>, bits: u32)
+        requires counted { AreCounted clients.old self.old }
         requires bits { IsOther bits }
-        ensures { Closed R.shows self.old self.new client descriptor bits }
+        ensures told { IsTold R.shows clients.old clients.new self.old self.new (of_both
+            hold.now.way (Some hold.now.object) bits ++ of_end ended) }
+        ensures renames { self.new.renames ≡ self.old.renames }
     {
-        let handle = self.handle(client, descriptor);
-        let is_lost = self.is_lost(handle.object);
-        self.shut(client, descriptor);
-        let ended = self.end_of(Some(handle.object), is_lost);
-        self.tell_both(&handle.way, Some(handle.object), bits);
-        self.tell_end(ended);
+        self.tell_both(clients, &hold.way, Some(hold.object), bits);
+        self.tell_end(clients, ended);
     }
 }

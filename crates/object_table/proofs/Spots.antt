@@ -1,6 +1,6 @@
 -- What the spots of objects come from, and why each file of the upper is still found by its key.
 use Rattle.std.proofs.Common.{◌≡◌, ◌≢◌, ◌↔◌, ◌⊎◌, inl, inr, ℕ, zero, suc, ◌+◌, ◌-◌, ◌<◌, ◌≤◌, Bool, true, false, Option, Some, None, IsSome, cond, refl, sym, ap, subst, ◌∙◌, append-nil, arith, nat_eq, [], ◌++◌, ◌∷◌}
-use Rattle.std.specs.Prelude.{option_map, Result, Ok, Err, IfNone, IsOk, OnOk, OnErr}
+use Rattle.std.specs.Prelude.{option_map, Result, Ok, Err, IfNone, IfOk, IfSome, IsOk, OnOk, OnErr}
 use Rattle.std.specs.Map.{lookup}
 use Rattle.std.specs.HashMap.{HashMap, IsEmpty, get, UpdatesBy}
 use Rattle.std.specs.declared.random_state.RandomState.{RandomState}
@@ -9,6 +9,7 @@ use Rattle.plain_model.specs.Layers.{Path, same_path}
 use Rattle.plain_model.specs.Laws.{IsOutside}
 use Rattle.plain_model.proofs.Paths.{paths_tell, place}
 use Rattle.std.specs.Option.{option_and_then}
+use Rattle.ov_base.specs.declared.attributes.Attributes.{Attributes}
 use Rattle.object_table.specs.declared.dentry.Unlisted.{Unlisted}
 use Rattle.object_table.specs.declared.dentry.Unlisted.TheVariants as unlisted
 use Rattle.object_table.specs.Dentries.{Dentries}
@@ -16,7 +17,7 @@ use Rattle.object_table.specs.Opened as tree
 use Rattle.object_table.specs.Opened.{Location, opened, holders, SameHandles, Opens, AddsApart, SetsApart, SetsHolders}
 use Rattle.object_table.specs.Renames as renames
 use Rattle.object_table.specs.Renames.{Moves}
-use Rattle.object_table.specs.Objects.{Spot, At, Upper, Nowhere, Objects, spot_at, spot_of, holders_of, spot_left, AreFiled, IsVacant, NoneBelow, IsBare, IsHeldWithin, IsPrepared, SameSpots, SetsSpot, Holds, MovesSpots}
+use Rattle.object_table.specs.Objects.{Spot, At, Upper, Nowhere, Objects, spot_at, spot_of, holders_of, spot_left, AreFiled, IsVacant, NoneBelow, IsBare, IsHeldWithin, IsPrepared, SameSpots, SetsSpot, Holds, MovesSpots, left_of}
 
 abbrev pub Files : Type 0
 Files = HashMap ℕ ℕ RandomState
@@ -99,7 +100,8 @@ module _ (d e : Dentries) (f g : Files) where
 
   pub same-spots : SameHandles d e → SameSpots older newer
   unfolding holders_of
-  same-spots same = record { spots = λ n. kept n (same.located n); holders = same.counted }
+  same-spots same = record { spots = λ n. kept n (same.located n); holders = same.counted; places
+      = same.located }
 
   pub opens-holds : (p : Path) (k : ℕ) → Opens d e p k → Holds older newer (At p) k
   unfolding holders_of
@@ -110,6 +112,7 @@ module _ (d e : Dentries) (f g : Files) where
           held = opens.counted;
           other_spots = λ m off. kept m (opens.others.located m off);
           other_holders = opens.others.counted;
+          other_places = opens.others.located;
         };
         was = elim opens.was [
           | inl at ↦ inl (path-spot older k p at)
@@ -133,6 +136,7 @@ module _ (d e : Dentries) (f g : Files) where
     held = adds.counted;
     other_spots = λ m off. kept m (adds.others.located m off);
     other_holders = adds.others.counted;
+    other_places = adds.others.located;
   }
 
   pub adds-holds : (k key : ℕ) → IsVacant older (Upper key) → AddsApart d e k (unlisted.Upper key) → Holds older newer (Upper key) k
@@ -151,7 +155,14 @@ module _ (d e : Dentries) (f g : Files) where
     held = sets.counted k;
     other_spots = λ m off. kept m (sets.others m off);
     other_holders = λ m off. sets.counted m;
+    other_places = sets.others;
   }
+
+  -- where that is nowhere
+  pub nowhere-sets : (k : ℕ) (a : Unlisted) → spot_at (tree.Apart a) ≡ Nowhere →
+      SetsApart d e k a → SetsSpot older newer k (Some Nowhere) (holders_of older k)
+  nowhere-sets k a nowhere sets = subst (λ (x : Spot). SetsSpot older newer k (Some x) (holders_of
+      older k)) nowhere (apart-sets k a sets)
 
   pub holders-sets : (k count : ℕ) → SetsHolders d e k count → SetsSpot older newer k (spot_left count (spot_of older k)) count
   unfolding holders_of spot_of
@@ -160,11 +171,20 @@ module _ (d e : Dentries) (f g : Files) where
     held = sets.counted;
     other_spots = λ m off. kept m (sets.others.located m off);
     other_holders = sets.others.counted;
+    other_places = sets.others.located;
   }
     where
       by : (b : Bool) → option_map spot_at (cond b None (opened d k)) ≡ cond b None (option_map spot_at (opened d k))
       by true = refl
       by false = refl
+
+  -- who is held still stands where it stood
+  pub place-held : (k count : ℕ) → count ≢ 0 → SetsHolders d e k count → opened e k ≡ opened d k
+  place-held k count some sets = sets.located ∙ by (nat_eq count 0) refl
+    where
+      by : (b : Bool) → nat_eq count 0 ≡ b → cond b None (opened d k) ≡ opened d k
+      by true e = absurd (some (eqb-true count 0 e))
+      by false e = refl
 
   -- with more holders it is where it was
   pub more-sets : (k more : ℕ) → ((j : ℕ) → IsSome (opened d j) ↔ 0 < holders d j) → IsSome (spot_of older k) → SetsHolders d e k (holders d k + more) → SetsSpot older newer k (spot_of older k) (holders_of older k + more)
@@ -179,11 +199,11 @@ module _ (d e : Dentries) (f g : Files) where
         | inr held ↦ ap (λ (b : Bool). cond b None (spot_of older k)) held
       ]
 
-  pub moves-spots : (p q : Path) → Moves d e p q (Some unlisted.Nowhere) → MovesSpots older newer p q
+  pub moves-spots : (p q : Path) (left : Unlisted) → spot_at (tree.Apart left) ≡ Nowhere → Moves d e p q (Some left) → MovesSpots older newer p q
   unfolding holders_of
-  moves-spots p q moves = record {
+  moves-spots p q left nowhere moves = record {
     inside = λ n r is. path-spot newer n (r ++ q) (moves.inside n r (opened-path older n (r ++ p) is));
-    replaced = λ n is. location-spot newer n (Some (tree.Apart unlisted.Nowhere)) (moves.removed n unlisted.Nowhere refl (opened-path older n q is));
+    replaced = λ n is. location-spot newer n (Some (tree.Apart left)) (moves.removed n left refl (opened-path older n q is)) ∙ ap Some nowhere;
     outside = λ n off away. kept n (moves.outside n (λ r at. off r (path-spot older n (r ++ p) at)) (λ at. away (path-spot older n q at)));
     holders = moves.counted;
   }
@@ -269,6 +289,11 @@ module _ (old new : Objects) (n count key : ℕ) (filed : AreFiled old) where
             off cc in
             sets.other_spots m other ∙ at
       ]
+
+-- what was replaced is nowhere
+pub left-nowhere : (o : Option Attributes) → spot_at (tree.Apart (left_of o)) ≡ Nowhere
+left-nowhere None = refl
+left-nowhere (Some attributes) = refl
 
 -- a number has no spot exactly where nobody holds it
 pub spots-counted : (t : Objects) → ((k : ℕ) → IsSome (opened t.tree k) ↔ 0 < holders t.tree k) → (n : ℕ) → (spot_of t n ≡ None) ↔ (holders_of t n ≡ 0)
@@ -475,6 +500,7 @@ none-released t n count counted none = record {
   held = omega (arith, none);
   other_spots = λ m off. refl;
   other_holders = λ m off. refl;
+  other_places = λ m off. refl;
 }
   where
     here : (holders_of t n ≡ 0) ⊎ (holders_of t n ≢ 0) → spot_of t n ≡ spot_left (holders_of t n - count) (spot_of t n)
@@ -495,3 +521,23 @@ OnErr-map (Err e) then said = then said
 pub OnOk-map : {X E P Q : Type 0} (r : Result X E) → (P → Q) → OnOk r P → OnOk r Q
 OnOk-map (Ok x) then said = then said
 OnOk-map (Err e) then said = tt
+
+pub IfOk-map : {X E : Type 0} {P Q : X → Type 0} (r : Result X E) → ((x : X) → P x → Q x) →
+    IfOk r P → IfOk r Q
+IfOk-map (Ok x) then said = then x said
+IfOk-map (Err e) then said = tt
+
+pub IfSome-map : {X : Type 0} {P Q : X → Type 0} (o : Option X) → ((x : X) → P x → Q x) →
+    IfSome o P → IfSome o Q
+IfSome-map None then said = tt
+IfSome-map (Some x) then said = then x said
+
+pub IfNone-map : {X P Q : Type 0} (o : Option X) → (P → Q) → IfNone o P → IfNone o Q
+IfNone-map None then said = then said
+IfNone-map (Some x) then said = tt
+
+-- a call changes no key, whether it succeeds or leaves all where it was
+pub keys-result : {X E : Type 0} (old new : Objects) (P : X → Type 0) (r : Result X E) →
+    ((x : X) → P x → KeepsKeys old new) → IfOk r P → OnErr r (SameSpots old new) → KeepsKeys old new
+keys-result old new P (Ok x) then said same = then x said
+keys-result old new P (Err e) then said same = keys-same old new same

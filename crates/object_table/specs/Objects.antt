@@ -9,6 +9,8 @@ use Rattle.indexmap.specs.Layout.{hash_map_code}
 use Rattle.slab.specs.Slab.{slab_code}
 use Rattle.plain_model.specs.Layers.{Name, Path}
 use Rattle.object_table.specs.contracts.dentry.Dentry as stored
+use Rattle.ov_base.specs.declared.attributes.Attributes.{Attributes}
+use Rattle.object_table.specs.declared.dentry.Unlisted.{Unlisted}
 use Rattle.object_table.specs.declared.dentry.Unlisted.TheVariants as unlisted
 use Rattle.object_table.specs.Dentries.{Dentries}
 use Rattle.object_table.specs.Opened as tree
@@ -76,6 +78,7 @@ IsHeldWithin t p = (n : ℕ) × (r : Path) × (spot_of t n ≡ Some (At (r ++ p)
 pub record SameSpots (old new : Objects) : Type 0 where
   pub spots : (n : ℕ) → spot_of new n ≡ spot_of old n
   pub holders : (n : ℕ) → holders_of new n ≡ holders_of old n
+  pub places : (n : ℕ) → opened new.tree n ≡ opened old.tree n
 
 -- the object of one number is here now, and so many hold it; every other is where it was, and as many hold it
 pub record SetsSpot (old new : Objects) (n : ℕ) (spot : Option Spot) (count : ℕ) : Type 0 where
@@ -83,6 +86,16 @@ pub record SetsSpot (old new : Objects) (n : ℕ) (spot : Option Spot) (count : 
   pub held : holders_of new n ≡ count
   pub other_spots : (m : ℕ) → m ≢ n → spot_of new m ≡ spot_of old m
   pub other_holders : (m : ℕ) → m ≢ n → holders_of new m ≡ holders_of old m
+  pub other_places : (m : ℕ) → m ≢ n → opened new.tree m ≡ opened old.tree m
+
+-- each object that is held still is where it was
+abbrev pub AreFewer : Objects → Objects → Type 0
+AreFewer old new = (n : ℕ) (spot : Spot) → spot_of new n ≡ Some spot → spot_of old n ≡ Some spot
+
+-- what is kept of what was replaced: the attributes of a directory, and of anything else nothing
+abbrev pub left_of : Option Attributes → Unlisted
+left_of (Some attributes) = unlisted.Removed attributes
+left_of None = unlisted.Nowhere
 
 -- One more holds the object at this spot, under its number, or under a number that was nobody's where no object was there.
 pub record Holds (old new : Objects) (spot : Spot) (n : ℕ) : Type 0 where

@@ -8,6 +8,4 @@ mod dentry;
 mod table;
 mod tree;
 
-pub use dentry::Unlisted;
 pub use table::ObjectTable;
-pub use tree::ObjectTree;

@@ -17,8 +17,7 @@ use std::marker::Model;
 
 /// The objects that handles and watches hold, each under one number, however many hold it. What
 /// stands at a path, a directory or a file, is kept as a tree with the directories above it, so
-/// that
-/// no handle knows a path. What stands in no directory is kept apart from it.
+/// that no handle knows a path. What stands in no directory is kept apart from it.
 #[derive(Drop)]
 pub struct ObjectTree {
     entries: Slab<Dentry>,
@@ -46,7 +45,7 @@ impl Model for ObjectTree {
 }
 
 impl ObjectTree {
-    /// Nothing is open. Names are hashed with these keys. It fails only when out of memory for the
+    /// Nothing is held. Names are hashed with these keys. It fails only when out of memory for the
     /// root's entry.
     pub fn new(alloc: Global, keys: RandomState) -> Result<ObjectTree, AllocError>
         ensures { IfOk result (λ d. (k : ℕ) → opened d k ≡ None) }
@@ -69,15 +68,7 @@ impl ObjectTree {
         let _ = &self.entries;
     }
 
-    /// The number of the directory that is open at a path.
-    pub fn find(&self, path: &Path) -> Option<usize>
-        ensures found { IfSome result (λ k. opened self.now k ≡ Some (At path.now)) }
-        ensures absent { IfNone result ((k : ℕ) → opened self.now k ≢ Some (At path.now)) }
-    {
-        self.find_names(path.names())
-    }
-
-    /// The number of the directory that is open at the path of names from the root down.
+    /// The number of the object that is held at the path of names from the root down.
     pub fn find_names(&self, names: &[Name]) -> Option<usize>
         ensures found { IfSome result (λ k. opened self.now k ≡ Some (At (reverse names.now))) }
         ensures absent { IfNone result ((k : ℕ) → opened self.now k ≢ Some (At (reverse names.now))) }
@@ -89,17 +80,9 @@ impl ObjectTree {
         Some(directory)
     }
 
-    /// Opens the directory at a path for a handle more, and gives its number. It fails only when
-    /// out of memory, or where as many handles hold the directory as can be counted, and changes
-    /// nothing then.
-    pub fn open(&mut self, path: &Path) -> Result<usize, AllocError>
-        ensures opens { IfOk result (λ k. Opens self.old self.new path.now k) }
-        ensures err { OnErr result (SameHandles self.old self.new) }
-    {
-        self.open_names(path.names())
-    }
-
-    /// Opens the directory at the path of names from the root down in the same way.
+    /// Holds the object at the path of names from the root down for one holder more, and gives its
+    /// number. It fails only when out of memory, or where as many hold it as can be counted, and
+    /// changes nothing then.
     pub fn open_names(&mut self, names: &[Name]) -> Result<usize, AllocError>
         ensures opens { IfOk result (λ k. Opens self.old self.new (reverse names.now) k) }
         ensures err { OnErr result (SameHandles self.old self.new) }
@@ -123,30 +106,9 @@ impl ObjectTree {
         dentries::open_below(&mut self.entries, alloc, keys, directory, name)
     }
 
-    /// Closes a directory for one handle. Where that was the last one, nothing of the directory is
-    /// kept.
-    pub fn close(&mut self, directory: usize)
-        requires { IsSome (opened self.old directory) }
-        ensures { Closes self.old self.new directory }
-    {
-        prune(&mut self.entries, self.pending);
-        dentries::let_go(&mut self.entries, directory, 1);
-    }
-
-    /// Makes the directory that is open at a path a removed one, with the attributes that it has.
-    /// Where none is open there, nothing changes.
-    pub fn remove(&mut self, path: &Path, attributes: Unlisted)
-        requires not_root { path.now ≢ [] }
-        requires below { NoneBelow self.old path.now }
-        ensures { Removes self.old self.new path.now attributes }
-    {
-        prune(&mut self.entries, self.pending);
-        dentries::remove(&mut self.entries, path, attributes);
-    }
-
-    /// Takes the memory that `rename` needs to lead what is open at a path or below it to another
-    /// path: none where nothing is. What is open stays as it is. Any other call that changes what
-    /// is open gives it up.
+    /// Takes the memory that `rename` needs to lead what is held at a path or below it to another
+    /// path: none where nothing is. What is held stays as it is. Any other call that changes what
+    /// is held gives it up.
     pub fn prepare_rename(&mut self, old: &Path, new: &Path) -> Result<(), AllocError>
         requires { old.now ≢ [] }
         ensures same { SameHandles self.old self.new }
@@ -164,9 +126,9 @@ impl ObjectTree {
         Ok(())
     }
 
-    /// Leads what is open at a path or below it to the same places under another path, whatever is
-    /// open there. The directory that is open at that other path, which is replaced, is a removed
-    /// one then, with the attributes that it has. It takes no memory.
+    /// Leads what is held at a path or below it to the same places under another path, whatever is
+    /// held there. What is held at that other path, which is replaced, stands apart then, and this
+    /// is known of it. It takes no memory.
     pub fn rename(&mut self, old: &Path, new: &Path, replaced: Option<Unlisted>)
         requires ready { IsReady self.old old.now new.now }
         requires not_root { new.now ≢ [] }
@@ -195,7 +157,7 @@ impl ObjectTree {
         prune(&mut self.entries, self.pending);
     }
 
-    /// The path of an open directory; none where it was removed.
+    /// The path of an object; none where it stands in no directory.
     pub fn path(&self, alloc: Global, directory: usize) -> Result<Option<Path>, AllocError>
         requires { IsSome (opened self.now directory) }
         ensures { IfOk result (λ path. path ≡ option_and_then path_in (opened self.now directory)) }
@@ -209,7 +171,7 @@ impl ObjectTree {
         }
     }
 
-    /// The attributes that an open directory had when it was removed; none where it wasn't.
+    /// The attributes that a directory had when it was removed; none where it wasn't.
     pub fn removed(&self, directory: usize) -> Option<&Attributes>
         requires { IsSome (opened self.now directory) }
         ensures { option_copied result ≡ option_and_then attributes_in (opened self.now directory) }

@@ -1,5 +1,5 @@
 pub mod Slots
-pub mod Holding
 pub mod TrackedClients
 pub mod TrackedUses
 pub mod TrackedWays
+pub mod Places

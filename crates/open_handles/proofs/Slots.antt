@@ -5,10 +5,13 @@ use Rattle.std.proofs.lemmas.List.{set-get_or}
 use Rattle.std.proofs.lemmas.Bool.{cases_lt, false≢true}
 use Rattle.std.proofs.lemmas.Option.{slice_get_past, slice_get_read}
 use Rattle.std.specs.List.{slice_get}
+use Rattle.std.specs.Option.{option_map_or}
+use Rattle.std.specs.Option.{option_map_or}
 use Rattle.std.specs.declared.alloc.AllocError.{AllocError}
 use Rattle.open_handles.specs.declared.handle.Handle.{Handle}
-use Rattle.open_handles.specs.declared.handle.Handle.TheVariants.{Directory, File}
-use Rattle.open_handles.specs.declared.handle.OpenDirectory.{OpenDirectory}
+use Rattle.open_handles.specs.declared.handle.On.{On}
+use Rattle.open_handles.specs.declared.handle.On.TheVariants.{Directory, File}
+use Rattle.open_handles.specs.Listings.{OpenDirectory, directory_on}
 use Rattle.open_handles.specs.Descriptors.{opened, in_slot, IsLowestFree, SetsSlot}
 use Rattle.open_handles.specs.Listings.{GivesNames, directory_in, names_left, after_names}
 
@@ -65,19 +68,19 @@ lowest-pushed slots d v low past =
     subst (λ k. SetsSlot slots (slots ++ v ∷ []) k v) last (pushes-slot slots v)
 
 -- The next names of a listing, by its slot.
-pub gives-names : (slots : List (Option Handle)) (d count : ℕ) (o after : OpenDirectory) (r : Result (List (List ℕ)) AllocError) → d < length slots → Some (Directory o) ≡ get_or slots d (Some (Directory o)) → IfOk r (λ names. names ≡ take count (names_left (Some o))) → OnOk r (after ≡ record o { listing = option_map (drop count) o.listing }) → OnErr r (after ≡ o) → GivesNames slots (set slots d (Some (Directory after))) d count r
-gives-names slots d count o after (Ok names) h e given left kept =
-    let read : opened slots d ≡ Some (Directory o) = opened-read slots d (Some (Directory o)) h e in
-    let sets : SetsSlot slots (set slots d (Some (Directory after))) d (Some (Directory after)) = sets-slot slots d (Some (Directory after)) h in
+pub gives-names : (slots : List (Option Handle)) (d count : ℕ) (h after : Handle) (r : Result (List (List ℕ)) AllocError) → d < length slots → Some h ≡ get_or slots d (Some h) → IfOk r (λ names. names ≡ take count (names_left (directory_in (Some h)))) → OnOk r (after ≡ after_names count h) → OnErr r (after ≡ h) → GivesNames slots (set slots d (Some after)) d count r
+gives-names slots d count h after (Ok names) within e given left kept =
+    let read : opened slots d ≡ Some h = opened-read slots d (Some h) within e in
+    let sets : SetsSlot slots (set slots d (Some after)) d (Some after) = sets-slot slots d (Some after) within in
     record {
       names = given ∙ sym (ap (λ z. take count (names_left (directory_in z))) read);
-      left = record { here = sets.here ∙ ap (λ z. Some (Directory z)) left ∙ sym (ap (option_map (after_names count)) read); others = sets.others };
+      left = record { here = sets.here ∙ ap (λ z. Some z) left ∙ sym (ap (option_map (after_names count)) read); others = sets.others };
       err = tt;
     }
-gives-names slots d count o after (Err f) h e given left kept = record {
+gives-names slots d count h after (Err f) within e given left kept = record {
   names = tt;
   left = tt;
-  err = ap (λ z. set slots d (Some (Directory z))) kept ∙ ap (λ z. set slots d z) e ∙ set-get_or slots d (Some (Directory o));
+  err = ap (λ z. set slots d (Some z)) kept ∙ ap (λ z. set slots d z) e ∙ set-get_or slots d (Some h);
 }
 
 -- What is open has a slot.
@@ -96,7 +99,13 @@ directory-some None h = h
 directory-some (Some x) h = refl
 
 -- What leads to a directory is a handle on it.
-pub directory-is : (x : Option Handle) (o : OpenDirectory) → directory_in x ≡ Some o → x ≡ Some (Directory o)
-directory-is None o e = cc
-directory-is (Some (Directory y)) o e = ap (option_map Directory) e
-directory-is (Some (File f)) o e = cc
+pub directory-is : (x : Option Handle) (o : OpenDirectory) → directory_in x ≡ Some o → (h : Handle) × (x ≡ Some h) × (h.object ≡ o.directory) × (h.on ≡ Directory o.listing)
+directory-is None o e = absurd (cc)
+directory-is (Some h) o e = let on = by h.on e in (h, refl, on.0, on.1)
+  where
+    by : (on : On) → directory_on h.object on ≡ Some o →
+        (h.object ≡ o.directory) × (on ≡ Directory o.listing)
+    by (Directory listing) e = (ap (λ (z : Option OpenDirectory). option_map_or (λ (y :
+        OpenDirectory). y.directory) z h.object) e, ap (λ (z : Option OpenDirectory). Directory
+        (option_map_or (λ (y : OpenDirectory). y.listing) z None)) e)
+    by (File f) e = absurd (cc)

@@ -1,12 +1,19 @@
 -- The attached clients by their numbers: where one stands, and what a change of one leaves of the others.
-use Rattle.std.proofs.Common.{◌≡◌, ◌≢◌, ℕ, zero, suc, ◌<◌, ◌≤◌, Bool, true, false, cond, not, filter, ◌||◌, ◌&&◌, List, [], ◌∷◌, ◌++◌, length, get_or, set, Result, Ok, Err, MatchResult, refl, sym, ap, subst, ◌∙◌, inl, inr, ◌⊎◌, arith, nat_eq, eqb-true, eq-eqb, ne_eqb}
-use Rattle.std.specs.List.{AllByRecursion, list_any, remove}
-use Rattle.std.specs.List.Sorted.{IsSearchInRange, IsBinarySearchResult, IsNonDecreasingBy}
-use Rattle.std.specs.Ordering.{nat_cmp, ordering_index}
-use Rattle.std.proofs.lemmas.Bool.{cases_Bool, cases_lt, eqb-false, or_left, or_right, or_parts, false_from_ne_true}
-use Rattle.std.proofs.lemmas.Bool.Decides.{nat_tests}
-use Rattle.std.proofs.lemmas.Cmp.{ranked}
-use Rattle.open_handles.specs.TrackedHandles.{TrackedTable, TrackedTables, AreRising, IsPlace, clients_of, is_tracked, slots_of}
+use Rattle.std.proofs.Common.{◌≡◌, ◌≢◌, ℕ, zero, suc, ◌<◌, ◌≤◌, Bool, true, false, cond, not, filter, List, [], ◌∷◌, ◌++◌, length, get_or, set, refl, sym, ap, subst, ◌∙◌, inl, inr, arith, nat_eq, eqb-true, eq-eqb, ne_eqb}
+use Rattle.std.specs.List.{AllByRecursion, remove}
+use Rattle.std.proofs.lemmas.Bool.{cases_Bool}
+use Rattle.open_handles.specs.TrackedHandles.{TrackedTable, TrackedTables, clients_of, slots_of}
+
+-- each number is below those after it
+abbrev pub AreRising : List ℕ → Type 0
+AreRising [] = Unit {0}
+AreRising (c ∷ cs) = AllByRecursion (λ d. c < d) cs × AreRising cs
+
+-- the first client of the number stands at this place
+abbrev pub IsPlace : ℕ → ℕ → TrackedTables → Type 0
+IsPlace c i [] = ⊥
+IsPlace c zero (k ∷ ks) = k.client ≡ c
+IsPlace c (suc i) (k ∷ ks) = (k.client ≢ c) × IsPlace c i ks
 
 -- no client has the number
 abbrev pub IsAbsent : ℕ → TrackedTables → Type 0
@@ -21,24 +28,6 @@ above-absent c (k ∷ ks) above = ((λ same. let first = above.0 in omega arith)
 pub absent-slots : (c : ℕ) (ks : TrackedTables) → IsAbsent c ks → slots_of ks c ≡ []
 absent-slots c [] absent = refl
 absent-slots c (k ∷ ks) absent = ap (λ b. cond b k.slots (slots_of ks c)) (ne_eqb k.client c absent.0) ∙ absent-slots c ks absent.1
-
--- no client has a number that isn't attached
-pub absent-attached : (c : ℕ) (ks : TrackedTables) → IsAbsent c ks → is_tracked ks c ≡ false
-absent-attached c [] absent = refl
-absent-attached c (k ∷ ks) absent = ap (λ b. b || is_tracked ks c) (ne_eqb c k.client (λ same. absent.0 (sym same))) ∙ absent-attached c ks absent.1
-
--- and the other way round
-pub attached-absent : (c : ℕ) (ks : TrackedTables) → is_tracked ks c ≡ false → IsAbsent c ks
-attached-absent c [] none = tt
-attached-absent c (k ∷ ks) none =
-    let parts = or_parts (nat_eq c k.client) (is_tracked ks c) none in
-    ((λ same. eqb-false c k.client parts.0 (sym same)), attached-absent c ks parts.1)
-
--- a client that stands at a place is attached
-pub place-attached : (c i : ℕ) (ks : TrackedTables) → IsPlace c i ks → is_tracked ks c ≡ true
-place-attached c i [] place = absurd place
-place-attached c zero (k ∷ ks) place = or_left (nat_eq c k.client) (is_tracked ks c) (eq-eqb c k.client (sym place))
-place-attached c (suc i) (k ∷ ks) place = or_right (nat_eq c k.client) (is_tracked ks c) (place-attached c i ks place.1)
 
 -- its place is within the list
 pub place-below : (c i : ℕ) (ks : TrackedTables) → IsPlace c i ks → i < length ks
@@ -72,43 +61,6 @@ place-from c (suc i) (k ∷ ks) d rising below is =
     let less : i < length ks = omega arith in
     let above = above-get_or k.client i ks d rising.0 less in
     ((λ same. omega arith), place-from c i ks d rising.1 less is)
-
--- the numbers rise along the clients
-rising-le : (ks : TrackedTables) → AreRising (clients_of ks) → (i j : ℕ) (d : TrackedTable) → i ≤ j → j < length ks → (get_or ks i d).client ≤ (get_or ks j d).client
-rising-le [] rising i j d le below = absurd (omega arith)
-rising-le (k ∷ ks) rising zero zero d le below = omega arith
-rising-le (k ∷ ks) rising zero (suc j) d le below =
-    let less : j < length ks = omega arith in
-    let above = above-get_or k.client j ks d rising.0 less in
-    omega arith
-rising-le (k ∷ ks) rising (suc i) zero d le below = absurd (omega arith)
-rising-le (k ∷ ks) rising (suc i) (suc j) d le below =
-    let less : j < length ks = omega arith in
-    let before : i ≤ j = omega arith in
-    rising-le ks rising.1 i j d before less
-
--- a client that stands nowhere is absent
-absent-from : (c : ℕ) (ks : TrackedTables) → ((i : ℕ) (d : TrackedTable) → i < length ks → (get_or ks i d).client ≢ c) → IsAbsent c ks
-absent-from c [] nowhere = tt
-absent-from c (k ∷ ks) nowhere = (nowhere 0 k (omega arith), absent-from c ks (λ i d below. nowhere (suc i) d (omega arith)))
-
-module _ (ks : TrackedTables) (rising : AreRising (clients_of ks)) (c : ℕ) where
-  -- the comparisons with a number rise along the clients, as a binary search asks
-  comparisons-rise : IsNonDecreasingBy (λ (k : TrackedTable). ordering_index (nat_cmp k.client c)) ks
-  comparisons-rise i j d le below = let up = rising-le ks rising i j d le below in grind (arith, nat_tests)
-
-  -- a binary search by number ends at the client, or tells that it isn't attached
-  pub searched : (r : Result ℕ ℕ) → IsSearchInRange r (length ks) → IsBinarySearchResult (λ (k : TrackedTable). nat_cmp k.client c) ks r → MatchResult r (λ i. IsPlace c i ks) (λ i. is_tracked ks c ≡ false)
-  searched (Ok i) in_range equal =
-      let any : TrackedTable = record { client = 0; slots = [] } in
-      place-from c i ks any rising in_range (ranked _ c _ (sym (equal any)))
-  searched (Err i) in_range parted = absent-attached c ks (absent-from c ks nowhere)
-    where
-      nowhere : (k : ℕ) (d : TrackedTable) → k < length ks → (get_or ks k d).client ≢ c
-      nowhere k d below same = elim (cases_lt k i) [
-        | inl lt ↦ let less = ranked _ c _ (sym ((parted comparisons-rise).0 k d (omega arith) lt)) in omega arith
-        | inr le ↦ let more = ranked _ c _ (sym ((parted comparisons-rise).1 k d le below)) in omega arith
-      ]
 
 -- of two tests with one answer the second is not asked
 asked-once : {X : Type 0} (p : Bool) (x y z : X) → cond p x z ≡ cond p x (cond p y z)
@@ -149,22 +101,6 @@ push-slots [] y absent b = refl
 push-slots (k ∷ ks) y absent b =
     ap (λ xs. cond (nat_eq k.client b) k.slots xs) (push-slots ks y absent.1 b)
     ∙ asked-apart (nat_eq k.client b) (nat_eq y.client b) k.slots y.slots (slots_of ks b) (apart-from k.client y.client b absent.0)
-
--- a number below others is below one more
-above-push : (c : ℕ) (ks : TrackedTables) (y : TrackedTable) → AllByRecursion (λ d. c < d) (clients_of ks) → c < y.client → AllByRecursion (λ d. c < d) (clients_of (ks ++ y ∷ []))
-above-push c [] y above less = (less, tt)
-above-push c (k ∷ ks) y above less = (above.0, above-push c ks y above.1 less)
-
--- the numbers rise with a client whose number is above all others
-pub push-rising : (ks : TrackedTables) (y : TrackedTable) → AreRising (clients_of ks) → ((c : ℕ) → is_tracked ks c ≡ true → c < y.client) → AreRising (clients_of (ks ++ y ∷ []))
-push-rising [] y rising above = (tt, tt)
-push-rising (k ∷ ks) y rising above =
-    let first = above k.client (or_left (nat_eq k.client k.client) (is_tracked ks k.client) (eq-eqb k.client k.client refl)) in
-    (above-push k.client ks y rising.0 first, push-rising ks y rising.1 (λ c attached. above c (or_right (nat_eq c k.client) (is_tracked ks c) attached)))
-
--- a number above all others is no client's
-pub above-all-absent : (c : ℕ) (ks : TrackedTables) → ((b : ℕ) → is_tracked ks b ≡ true → b < c) → IsAbsent c ks
-above-all-absent c ks above = attached-absent c ks (false_from_ne_true (is_tracked ks c) (λ attached. let less = above c attached in omega arith))
 
 -- and below the others where one goes
 above-remove : (c i : ℕ) (ks : TrackedTables) → AllByRecursion (λ d. c < d) (clients_of ks) → AllByRecursion (λ d. c < d) (clients_of (remove ks i))
@@ -209,34 +145,3 @@ remove-clients c zero (k ∷ ks) place rising = sym (
 remove-clients c (suc i) (k ∷ ks) place rising =
     ap (λ bs. k.client ∷ bs) (remove-clients c i ks place.1 rising.1)
     ∙ sym (ap (λ p. cond (not p) (k.client ∷ filter (λ b. not (nat_eq b c)) (clients_of ks)) (filter (λ b. not (nat_eq b c)) (clients_of ks))) (ne_eqb k.client c place.0))
-
--- a number is among others and one more
-pub attached-push : (cs : List ℕ) (c b : ℕ) → list_any (nat_eq b) (cs ++ c ∷ []) ≡ (list_any (nat_eq b) cs || nat_eq b c)
-attached-push [] c b = elim (cases_Bool (nat_eq b c)) [
-  | inl same ↦ ap (λ p. p || false) same ∙ sym same
-  | inr other ↦ ap (λ p. p || false) other ∙ sym other
-]
-attached-push (a ∷ cs) c b = elim (cases_Bool (nat_eq b a)) [
-  | inl same ↦ ap (λ p. p || list_any (nat_eq b) (cs ++ c ∷ [])) same ∙ sym (ap (λ p. (p || list_any (nat_eq b) cs) || nat_eq b c) same)
-  | inr other ↦
-      ap (λ p. p || list_any (nat_eq b) (cs ++ c ∷ [])) other ∙ attached-push cs c b
-      ∙ sym (ap (λ p. (p || list_any (nat_eq b) cs) || nat_eq b c) other)
-]
-
--- a number is among others but one
-pub attached-filter : (cs : List ℕ) (c b : ℕ) → list_any (nat_eq b) (filter (λ a. not (nat_eq a c)) cs) ≡ (list_any (nat_eq b) cs && not (nat_eq b c))
-attached-filter [] c b = refl
-attached-filter (a ∷ cs) c b = by (cases_Bool (nat_eq a c)) (cases_Bool (nat_eq b a)) (attached-filter cs c b)
-  where
-    rest : List ℕ
-    rest = filter (λ x. not (nat_eq x c)) cs
-
-    by : (nat_eq a c ≡ true) ⊎ (nat_eq a c ≡ false) → (nat_eq b a ≡ true) ⊎ (nat_eq b a ≡ false) → list_any (nat_eq b) rest ≡ (list_any (nat_eq b) cs && not (nat_eq b c)) → list_any (nat_eq b) (cond (not (nat_eq a c)) (a ∷ rest) rest) ≡ ((nat_eq b a || list_any (nat_eq b) cs) && not (nat_eq b c))
-    by (inl one) (inl other) more =
-        let both : nat_eq b c ≡ true = eq-eqb b c (eqb-true b a other ∙ eqb-true a c one) in
-        grind (arith, both, one, other, more)
-    by (inl one) (inr other) more = grind (arith, one, other, more)
-    by (inr one) (inl other) more =
-        let apart : nat_eq b c ≡ false = ne_eqb b c (λ same. eqb-false a c one (sym (eqb-true b a other) ∙ same)) in
-        grind (arith, apart, one, other, more)
-    by (inr one) (inr other) more = grind (arith, one, other, more)

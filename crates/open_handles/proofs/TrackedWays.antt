@@ -1,17 +1,16 @@
 -- Handles whose ways change, and what is found among all of them.
-use Rattle.std.proofs.Common.{◌≡◌, ℕ, zero, suc, ◌+◌, ◌*◌, ◌≤◌, Bool, true, false, cond, List, [], ◌∷◌, ◌++◌, All, map, take, drop, length, get_or, Option, Some, None, option_map, sum_by, count_by, refl, sym, ap, subst, ◌∙◌, inl, inr, arith, nat_eq, eqb-true, eq-eqb}
+use Rattle.std.proofs.Common.{◌≡◌, ℕ, zero, suc, ◌+◌, ◌≤◌, Bool, true, false, cond, List, [], ◌∷◌, ◌++◌, map, take, drop, length, Option, Some, None, option_map, sum_by, count_by, refl, sym, ap, subst, ◌∙◌, inl, inr, arith, nat_eq, eqb-true, eq-eqb}
 use Rattle.std.specs.List.{list_any}
 use Rattle.std.proofs.lemmas.Bool.{cases_Bool, or_left, or_right, and_parts}
 use Rattle.std.proofs.lemmas.List.{append-nil, drop_all, length-map, take_all}
-use Rattle.std.proofs.lemmas.List.Elements.{All-map}
 use Rattle.std.proofs.lemmas.List.Folds.{fold-map, Any-from_list_any}
-use Rattle.std.proofs.lemmas.List.Sums.{sum_by-cons, sum_by-le, count_by-le-length}
+use Rattle.std.proofs.lemmas.List.Sums.{sum_by-cons}
 use Rattle.open_handles.specs.Descriptors.{opened}
-use Rattle.open_handles.specs.TrackedHandles.{TrackedTable, TrackedTables, AreRising, AreTracked, IsOn, came_by, clients_of, handles_by, is_way, re_way_of, slot_came_by, slot_is_on, slot_uses, slots_of, tracked_by, uses, way_uses}
-use Rattle.open_handles.specs.declared.tracked_client.Way.{Way}
-use Rattle.open_handles.specs.declared.tracked_client.TrackedHandle.{TrackedHandle}
+use Rattle.open_handles.specs.TrackedHandles.{TrackedTable, TrackedTables, IsOn, came_by, clients_of, handles_by, is_way, re_way_of, slot_came_by, slot_is_on, slot_uses, slots_of, tracked_by, uses, way_uses}
+use Rattle.open_handles.specs.declared.way.Way.{Way}
+use Rattle.open_handles.specs.TrackedHandles.{TrackedHandle}
 use Rattle.open_handles.proofs.Slots.{opened-read}
-use Rattle.open_handles.proofs.TrackedClients.{place-slots, place-from}
+use Rattle.open_handles.proofs.TrackedClients.{AreRising, place-slots, place-from}
 
 -- the slots of a client
 abbrev Slots : Type 0
@@ -92,13 +91,6 @@ module _ (object : ℕ) (from to : Way) where
   clients-re_way [] = refl
   clients-re_way (k ∷ ks) = ap (λ cs. k.client ∷ cs) (clients-re_way ks)
 
-  -- they stay in order, with 64 slots each
-  pub lawful-re_way : (ks : TrackedTables) → AreTracked ks → AreTracked (map re_table ks)
-  lawful-re_way ks lawful = record {
-    rising = subst AreRising (sym (clients-re_way ks)) lawful.rising;
-    whole = All-map (λ (k : TrackedTable). length k.slots ≡ 64) re_table ks (λ i d below. length-map (get_or ks i d).slots re_slot ∙ lawful.whole i d below);
-  }
-
   -- 1 where a slot's handle changes its way
   abbrev share : Option TrackedHandle → ℕ
   share s = cond (slot_came_by object from s) 1 0
@@ -139,14 +131,6 @@ module _ (object : ℕ) (from to : Way) where
           ap (λ m. m + cond (nat_eq from.directory n) (count_by (slot_came_by object from) k.slots) 0) (sum_by-map (slot_uses n) re_slot k.slots)
           ∙ sums-balance (λ s. slot_uses n (re_slot s)) (slot_uses n) share (nat_eq from.directory n) (nat_eq to.directory n) (slot-balance n) k.slots
 
--- at most 64 handles of each client are on an object by a way
-pub handles_by-le : (ks : TrackedTables) (n : ℕ) (w : Way) → AreTracked ks → handles_by ks n w ≤ 64 * length (clients_of ks)
-handles_by-le ks n w lawful =
-    let few : All (λ (k : TrackedTable). count_by (slot_came_by n w) k.slots ≤ 64) ks = λ i d below. (
-    let long = lawful.whole i d below in omega (arith, count_by-le-length (slot_came_by n w) (get_or ks i d).slots)) in
-    let most = sum_by-le (λ (k : TrackedTable). count_by (slot_came_by n w) k.slots) 64 ks few in
-    omega (arith, length-map {A = TrackedTable} ks (λ k. k.client))
-
 -- a slot with an open handle on an object is found
 found-slot : (n : ℕ) (slots : Slots) (d : ℕ) (h : TrackedHandle) → opened slots d ≡ Some h → h.object ≡ n → list_any (slot_is_on n) slots ≡ true
 found-slot n [] d h is on = absurd (cc)
@@ -162,12 +146,12 @@ found-handle n (k ∷ ks) on = elim (cases_Bool (nat_eq k.client on.0)) [
 ]
 
 -- what is found is a client's handle on the object
-pub handle-found : (n : ℕ) (ks : TrackedTables) → AreTracked ks → list_any (λ k. list_any (slot_is_on n) k.slots) ks ≡ true → IsOn ks n
-handle-found n ks lawful found =
+pub handle-found : (n : ℕ) (ks : TrackedTables) → AreRising (clients_of ks) → list_any (λ k. list_any (slot_is_on n) k.slots) ks ≡ true → IsOn ks n
+handle-found n ks rising found =
     let client = Any-from_list_any (λ (k : TrackedTable). list_any (slot_is_on n) k.slots) ks found in
     let k = client.1 in
     let slot = Any-from_list_any (slot_is_on n) k.slots client.4 in
-    let place = place-from k.client client.0 ks k lawful.rising client.2 (ap (λ (x : TrackedTable). x.client) client.3) in
+    let place = place-from k.client client.0 ks k rising client.2 (ap (λ (x : TrackedTable). x.client) client.3) in
     let own : slots_of ks k.client ≡ k.slots = place-slots k.client client.0 ks k place ∙ ap (λ (x : TrackedTable). x.slots) client.3 in
     let read : tracked_by ks k.client slot.0 ≡ slot.1 = ap (λ (xs : Slots). opened xs slot.0) own ∙ opened-read k.slots slot.0 slot.1 slot.2 (sym slot.3) in
     by k.client slot.0 slot.1 read slot.4

@@ -1,33 +1,63 @@
--- How many of a client's descriptors hold a directory, and a file of the upper.
-use Rattle.std.specs.Prelude.{ℕ, ◌+◌, List, [], ◌∷◌, Option, Some, None, cond, nat_eq}
-use Rattle.open_handles.specs.declared.handle.Handle.{Handle}
-use Rattle.open_handles.specs.declared.handle.Handle.TheVariants.{Directory, File}
-use Rattle.open_handles.specs.declared.open_file.FileSource.{FileSource}
-use Rattle.open_handles.specs.declared.open_file.FileSource.TheVariants.{Upper, Lower}
+-- What handles hold among the objects of a mount, and what a handle that is to be opened holds
+-- first.
+use Rattle.std.specs.Prelude.{◌≡◌, ℕ, [], ◌∷◌, Option, Some, None, map}
+use Rattle.std.specs.BTreeMap.{BTreeMap}
+use Rattle.plain_model.specs.Layers.{Path}
+use Rattle.object_table.specs.Objects.{Objects, Spot, At, Nowhere, spot_of, Holds, IsVacant}
+use Rattle.object_table.specs.Objects.{SameSpots, SetsSpot}
+use Rattle.open_handles.specs.declared.descriptors.Descriptors.{Descriptors}
+use Rattle.open_handles.specs.declared.handle.Hold.{Hold}
+use Rattle.open_handles.specs.declared.way.Way.{Way}
+use Rattle.open_handles.specs.Handles.{tracked_in}
+use Rattle.open_handles.specs.TrackedHandles.{TrackedTable, TrackedTables, uses}
 
--- 1 where what stands open holds the directory of this number, else 0
-abbrev pub holds : Option Handle → ℕ → ℕ
-holds None k = 0
-holds (Some (Directory o)) k = cond (nat_eq o.directory k) 1 0
-holds (Some (File f)) k = 0
+-- an attached client, and what each of its descriptors is on
+abbrev pub table_of : (ℕ × Descriptors) → TrackedTable
+table_of e = record { client = e.0; slots = map tracked_in e.1.slots.items }
 
--- how many of these slots hold the directory of this number
-abbrev pub handles_on : List (Option Handle) → ℕ → ℕ
-handles_on [] k = 0
-handles_on (slot ∷ slots) k = holds slot k + handles_on slots k
+-- the attached clients, in the order of their numbers
+abbrev pub tables_in : BTreeMap ℕ Descriptors → TrackedTables
+tables_in attached = map table_of attached.entries
 
--- 1 where bytes are those of the upper's file of this key, else 0
-abbrev pub is_upper : FileSource → ℕ → ℕ
-is_upper (Upper key) k = cond (nat_eq key k) 1 0
-is_upper (Lower layer key) k = 0
+-- how often handles use a number: for what they are on, and for the directories of their ways
+abbrev pub uses_in : BTreeMap ℕ Descriptors → ℕ → ℕ
+uses_in attached n = uses (tables_in attached) n
 
--- 1 where what stands open holds the upper's file of this key, else 0
-abbrev pub holds_file : Option Handle → ℕ → ℕ
-holds_file None k = 0
-holds_file (Some (Directory o)) k = 0
-holds_file (Some (File f)) k = is_upper f.source k
+-- the way in to a path, where its directory is tracked; the root has none
+abbrev pub IsWayTo : Objects → Path → Option Way → Type 0
+IsWayTo objects [] r = r ≡ None
+IsWayTo objects (n ∷ p) None = IsVacant objects (At p)
+IsWayTo objects (n ∷ p) (Some w) = (spot_of objects w.directory ≡ Some (At p)) × (w.name ≡ n)
 
--- how many of these slots hold the upper's file of this key
-abbrev pub files_on : List (Option Handle) → ℕ → ℕ
-files_on [] k = 0
-files_on (slot ∷ slots) k = holds_file slot k + files_on slots k
+-- the way in to a path, by the number of its directory, which is tracked; the root has none
+abbrev pub IsHeldWay : Objects → Path → Option Way → Type 0
+IsHeldWay objects [] r = r ≡ None
+IsHeldWay objects (n ∷ p) None = ⊥
+IsHeldWay objects (n ∷ p) (Some w) = (spot_of objects w.directory ≡ Some (At p)) × (w.name ≡ n)
+
+-- the directory of a path is held once more, for this way in; the root has none
+abbrev pub HoldsWay : Objects → Objects → Path → Option Way → Type 0
+HoldsWay old new [] r = (r ≡ None) × SameSpots old new
+HoldsWay old new (n ∷ p) None = ⊥
+HoldsWay old new (n ∷ p) (Some w) = Holds old new (At p) w.directory × (w.name ≡ n)
+
+-- For a handle by a path on what is at this spot, its way in is held, and then the object.
+pub record HoldsBoth (old new : Objects) (p : Path) (spot : Spot) (h : Hold) : Type 0 where
+  pub mid : Objects
+  pub way : HoldsWay old mid p h.way
+  pub object : Holds mid new spot h.object
+
+-- For a handle on a file that is to be made at p, its way in is held, and then a number that was
+-- nobody's, which is nowhere.
+pub record HoldsNew (old new : Objects) (p : Path) (h : Hold) : Type 0 where
+  pub mid : Objects
+  pub way : HoldsWay old mid p h.way
+  pub unknown : spot_of mid h.object ≡ None
+  pub object : SetsSpot mid new h.object (Some Nowhere) 1
+
+-- what is at this spot is held more often than before, under its number or one that was nobody's;
+-- all else is where it was
+pub record HoldsMore (old new : Objects) (spot : Spot) (n : ℕ) : Type 0 where
+  pub mid : Objects
+  pub holds : Holds old mid spot n
+  pub same : (m : ℕ) → spot_of new m ≡ spot_of mid m

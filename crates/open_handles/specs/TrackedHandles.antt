@@ -1,10 +1,13 @@
 -- What the handles of all clients are on, and the ways by which they were opened, by the numbers of objects.
-use Rattle.std.specs.Prelude.{◌≡◌, ◌≢◌, ℕ, zero, suc, ◌+◌, ◌<◌, Bool, false, cond, ◌&&◌, List, [], ◌∷◌, Option, Some, None, All, length, map, replicate, sum_by, count_by, nat_eq}
-use Rattle.std.specs.List.{AllByRecursion, list_any}
+use Rattle.std.specs.Prelude.{◌≡◌, ◌≢◌, ℕ, ◌+◌, Bool, false, cond, ◌&&◌, List, [], ◌∷◌, Option, Some, None, map, sum_by, count_by, nat_eq}
 use Rattle.plain_model.specs.Layers.{same_name}
 use Rattle.open_handles.specs.Descriptors.{opened}
-use Rattle.open_handles.specs.declared.tracked_client.Way.{Way}
-use Rattle.open_handles.specs.declared.tracked_client.TrackedHandle.{TrackedHandle}
+use Rattle.open_handles.specs.declared.handle.Hold.{Hold}
+use Rattle.open_handles.specs.declared.way.Way.{Way}
+
+-- what a handle is on, by its number, and the way by which it was opened
+abbrev pub TrackedHandle : Type 0
+TrackedHandle = Hold
 
 -- an attached client, and what each of its descriptors is on
 pub record TrackedTable : Type 0 where
@@ -15,17 +18,9 @@ pub record TrackedTable : Type 0 where
 abbrev pub TrackedTables : Type 0
 TrackedTables = List TrackedTable
 
--- a client with nothing open
-abbrev pub free_table : ℕ → TrackedTable
-free_table c = record { client = c; slots = replicate 64 None }
-
 -- the numbers of the attached clients
 abbrev pub clients_of : TrackedTables → List ℕ
 clients_of ks = map {A = TrackedTable} (λ k. k.client) ks
-
--- whether a client is attached
-abbrev pub is_tracked : TrackedTables → ℕ → Bool
-is_tracked ks c = list_any (nat_eq c) (clients_of ks)
 
 -- the slots of a client
 abbrev pub slots_of : TrackedTables → ℕ → List (Option TrackedHandle)
@@ -94,18 +89,7 @@ pub record SetsTracked (old new : TrackedTables) (c d : ℕ) (value : Option Tra
   pub others : (b e : ℕ) → ((b ≡ c) → (e ≡ d) → ⊥) → tracked_by new b e ≡ tracked_by old b e
   pub clients : clients_of new ≡ clients_of old
 
--- each number is below those after it
-abbrev pub AreRising : List ℕ → Type 0
-AreRising [] = Unit {0}
-AreRising (c ∷ cs) = AllByRecursion (λ d. c < d) cs × AreRising cs
-
--- the clients' numbers rise, and each client has 64 slots
-pub record AreTracked (ks : TrackedTables) : Type 0 where
-  pub rising : AreRising (clients_of ks)
-  pub whole : All (λ k. length k.slots ≡ 64) ks
-
--- the first client of the number stands at this place
-abbrev pub IsPlace : ℕ → ℕ → TrackedTables → Type 0
-IsPlace c i [] = ⊥
-IsPlace c zero (k ∷ ks) = k.client ≡ c
-IsPlace c (suc i) (k ∷ ks) = (k.client ≢ c) × IsPlace c i ks
+-- the same clients are attached, and what each of their descriptors is on stays
+pub record SameTracked (old new : TrackedTables) : Type 0 where
+  pub slots : (c d : ℕ) → tracked_by new c d ≡ tracked_by old c d
+  pub clients : clients_of new ≡ clients_of old

@@ -1,8 +1,12 @@
 // The descriptors of a client.
-ghost use Rattle.std.specs.Prelude.{◌≡◌, ◌≤◌, ◌<◌, [], Some, None, true, Ok, OnOk, IfSome, IfNone, ℕ, option_copied, is_some, length, take, IsSome, vec_len};
+ghost use Rattle.std.specs.Prelude.{◌≡◌, ◌≤◌, ◌<◌, [], Some, None, true, IfSome, IfNone, OnOk, ℕ, option_copied, option_map, is_some, length, IsSome, vec_len, count_by, map};
+ghost use Rattle.std.specs.List.{list_any};
 ghost use Rattle.open_handles.specs.Descriptors.{opened, SetsSlot, IsFull, IsLowestFree};
+ghost use Rattle.open_handles.specs.Handles.{handle_came_by, handle_is_on, handle_re_way};
+ghost use Rattle.open_handles.specs.Handles.{slot_has_file};
 
-use crate::handle::{Handle, OpenDirectory};
+use crate::handle::{Handle, On};
+use crate::way::Way;
 use dir_listing::Cursor;
 use ov_base::NameList;
 use std::alloc::{AllocError, Global};
@@ -18,7 +22,7 @@ pub struct Descriptors {
 }
 
 impl Descriptors {
-    ghost use Rattle.open_handles.specs.Listings.{HasRoom, ChangesSlot, Opens, GivesNames, with_listing, with_place, open_directory, open_file};
+    ghost use Rattle.open_handles.specs.Listings.{HasRoom, ChangesSlot, GivesNames, listing_of, with_listing, with_place, open_directory, open_file};
 
     /// No descriptors.
     pub fn new(alloc: Global) -> Descriptors
@@ -42,22 +46,8 @@ impl Descriptors {
         }
     }
 
-    /// Opens a handle under the lowest free descriptor. An allocation failure changes nothing.
-    pub fn open(&mut self, descriptor: u32, handle: Handle) -> Result<(), AllocError>
-        requires { IsLowestFree self.old.slots.items descriptor }
-        ensures { Opens self.old.slots.items self.new.slots.items descriptor handle result }
-    {
-        let slot = descriptor as usize;
-        if slot < self.slots.len() {
-            self.slots[slot] = Some(handle);
-        } else {
-            self.slots.push(Some(handle))?;
-        }
-        Ok(())
-    }
-
-    /// Makes room for a handle under the lowest free descriptor, so that the next `open_reserved`
-    /// takes no memory. Nothing is opened.
+    /// Makes room for a handle under the lowest free descriptor, so that the next `open` takes no
+    /// memory. Nothing is opened.
     pub fn reserve(&mut self, descriptor: u32) -> Result<(), AllocError>
         requires { IsLowestFree self.old.slots.items descriptor }
         ensures same { self.new.slots.items ≡ self.old.slots.items }
@@ -70,7 +60,7 @@ impl Descriptors {
     }
 
     /// Opens a handle under the lowest free descriptor, for which there is room.
-    pub fn open_reserved(&mut self, descriptor: u32, handle: Handle)
+    pub fn open(&mut self, descriptor: u32, handle: Handle)
         requires { HasRoom self.old descriptor }
         ensures { SetsSlot self.old.slots.items self.new.slots.items descriptor (Some handle) }
     {
@@ -92,13 +82,14 @@ impl Descriptors {
         }
     }
 
-    /// The directory to which a descriptor leads, if it leads to one.
-    pub fn directory(&self, descriptor: u32) -> Option<&OpenDirectory>
-        ensures { option_copied result ≡ open_directory self.now.slots.items descriptor }
+    /// How far the directory was listed to which a descriptor leads, if it leads to one.
+    pub fn listing(&self, descriptor: u32) -> Option<&Cursor>
+        ensures { option_copied result ≡
+            option_map listing_of (open_directory self.now.slots.items descriptor) }
     {
-        match self.get(descriptor) {
-            Some(Handle::Directory(directory)) => Some(directory),
-            _ => None,
+        match &self.get(descriptor)?.on {
+            On::Directory(listing) => Some(listing),
+            On::File(_) => None,
         }
     }
 
@@ -107,8 +98,8 @@ impl Descriptors {
         requires { IsSome (open_directory self.old.slots.items descriptor) }
         ensures { ChangesSlot self.old.slots.items self.new.slots.items descriptor (with_listing listing) }
     {
-        if let Some(Handle::Directory(directory)) = &mut self.slots[descriptor as usize] {
-            directory.listing = listing;
+        if let Some(handle) = &mut self.slots[descriptor as usize] {
+            handle.keep_listing(listing);
         }
     }
 
@@ -117,8 +108,8 @@ impl Descriptors {
         requires { IsSome (open_directory self.old.slots.items descriptor) }
         ensures { ChangesSlot self.old.slots.items self.new.slots.items descriptor (with_listing None) }
     {
-        if let Some(Handle::Directory(directory)) = &mut self.slots[descriptor as usize] {
-            directory.listing.rewind();
+        if let Some(handle) = &mut self.slots[descriptor as usize] {
+            handle.rewind();
         }
     }
 
@@ -134,8 +125,8 @@ impl Descriptors {
         ensures { GivesNames self.old.slots.items self.new.slots.items descriptor count result }
     {
         match &mut self.slots[descriptor as usize] {
-            Some(Handle::Directory(directory)) => directory.next_names(alloc, count),
-            _ => Ok(NameList::new(alloc)),
+            Some(handle) => handle.next_names(alloc, count),
+            None => Ok(NameList::new(alloc)),
         }
     }
 
@@ -144,8 +135,8 @@ impl Descriptors {
         requires { IsSome (open_file self.old.slots.items descriptor) }
         ensures { ChangesSlot self.old.slots.items self.new.slots.items descriptor (with_place place) }
     {
-        if let Some(Handle::File(file)) = &mut self.slots[descriptor as usize] {
-            file.place = place;
+        if let Some(handle) = &mut self.slots[descriptor as usize] {
+            handle.move_to(place);
         }
     }
 
@@ -163,6 +154,44 @@ impl Descriptors {
             None
         }
     }
+
+    /// Whether a handle is on an object.
+    pub fn is_on(&self, object: usize) -> bool
+        ensures { result ≡ list_any (handle_is_on object) self.now.slots.items }
+    {
+        self.slots.iter().any(|slot| is_on(slot, object))
+    }
+
+    /// Whether a handle has the file of the upper of a key open.
+    pub fn has_file(&self, key: usize) -> bool
+        ensures { result ≡ list_any (slot_has_file key) self.now.slots.items }
+    {
+        self.slots.iter().any(|slot| has_file(slot, key))
+    }
+
+    /// How many handles are on an object by exactly this way.
+    pub fn count_by(&self, object: usize, way: &Way) -> usize
+        ensures count { result ≡ count_by (handle_came_by object way.now) self.now.slots.items }
+        ensures few { result ≤ 64 }
+    {
+        let mut count = 0;
+        for slot in self.slots.iter() {
+            if came_by(slot, object, way) {
+                count += 1;
+            }
+        }
+        count
+    }
+
+    /// Each handle on an object by exactly one way has another one. It takes no memory.
+    pub fn re_way(&mut self, object: usize, from: &Way, to: &Way)
+        ensures { self.new.slots.items ≡
+            map (option_map (handle_re_way object from.now to.now)) self.old.slots.items }
+    {
+        for slot in self.slots.iter_mut() {
+            re_way(slot, object, from, to);
+        }
+    }
 }
 
 // The first slot of none, or how many slots there are.
@@ -177,4 +206,45 @@ fn first_free(slots: &[Option<Handle>]) -> usize
         }
     }
     slots.len()
+}
+
+// Whether a slot's handle is on an object.
+fn is_on(slot: &Option<Handle>, object: usize) -> bool
+    ensures { result ≡ handle_is_on object slot.now }
+{
+    match slot {
+        Some(handle) => object == handle.object,
+        None => false,
+    }
+}
+
+// Whether a slot's handle has the file of the upper of a key open.
+fn has_file(slot: &Option<Handle>, key: usize) -> bool
+    ensures { result ≡ slot_has_file key slot.now }
+{
+    match slot {
+        Some(handle) => handle.has_file(key),
+        None => false,
+    }
+}
+
+// Whether a slot's handle is on an object by exactly this way.
+fn came_by(slot: &Option<Handle>, object: usize, way: &Way) -> bool
+    ensures { result ≡ handle_came_by object way.now slot.now }
+{
+    match slot {
+        Some(handle) => handle.came_by(object, way),
+        None => false,
+    }
+}
+
+// A slot's handle, if it is on an object by exactly one way, has another one.
+fn re_way(slot: &mut Option<Handle>, object: usize, from: &Way, to: &Way)
+    ensures { slot.new ≡ option_map (handle_re_way object from.now to.now) slot.old }
+{
+    if let Some(handle) = slot {
+        if handle.came_by(object, from) {
+            handle.way = Some(*to);
+        }
+    }
 }

@@ -1,17 +1,17 @@
-//! What clients have open, how many handles hold each file of the upper, the places in an open
-//! file where its calls begin, and what each handle is on for those that watch.
+//! The attached clients of a mount, what each has open, and the objects that their handles hold;
+//! the places in an open file where its calls begin.
 #![tactic(auto)]
 
+mod client_handles;
+mod client_objects;
+mod clients;
 mod descriptors;
 mod handle;
 mod open_file;
-mod open_files;
-mod tracked_client;
-mod tracked_handles;
+mod way;
 
+pub use clients::{CLIENTS_MAX, Clients};
 pub use descriptors::{DESCRIPTORS_MAX, Descriptors};
-pub use handle::{Handle, OpenDirectory};
+pub use handle::{Handle, Hold, On};
 pub use open_file::{FileSource, OpenFile, PLACE_MAX, fitting, sought};
-pub use open_files::OpenFiles;
-pub use tracked_client::{TrackedHandle, Way};
-pub use tracked_handles::TrackedHandles;
+pub use way::Way;

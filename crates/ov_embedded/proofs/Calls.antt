@@ -1,7 +1,7 @@
 -- What a call by a frame comes to, from its parts.
 use Rattle.std.proofs.Common.{◌≡◌, ◌≢◌, ℕ, ◌+◌, Bool, true, false, List, [], ◌∷◌, length, Ok, Err, refl, sym, subst, ap, ◌∙◌}
 use Rattle.doors.specs.owned.Entries.{IsPlayed}
-use Rattle.mount_calls.specs.Attaching.{KeepsAttached}
+use Rattle.open_handles.specs.Attaching.{KeepsAttached}
 use Rattle.mount_calls.specs.Keeping.{takes_no_memory}
 use Rattle.ov_base.specs.Calls.{Call}
 use Rattle.ov_base.specs.declared.errno.Errno.{Errno}

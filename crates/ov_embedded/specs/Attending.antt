@@ -1,6 +1,6 @@
 -- How clients come and go.
 use Rattle.std.specs.Prelude.{◌≡◌, ℕ, ◌≤◌, ◌^◌, false, Result, Ok, Err}
-use Rattle.mount_calls.specs.Attaching.{Attaches, Detaches}
+use Rattle.open_handles.specs.Attaching.{Attaches, Detaches}
 use Rattle.overlay_core.specs.Views.{CoreGoes, CoreKeeps, CoreStays, client_count, core_clients, core_finished, has_client}
 use Rattle.overlay_core.specs.declared.mounted.Core.{Core}
 use Rattle.plain_model.specs.Runs.{Attached, Detached}

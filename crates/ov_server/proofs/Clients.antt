@@ -9,7 +9,7 @@ use Rattle.ov_script.specs.Commands.{command_of}
 use Rattle.ov_script.specs.declared.script.Command.{Command}
 use Rattle.ov_script.specs.declared.script.Command.TheVariants as command
 use Rattle.layer_tree.specs.Tree.{Tree}
-use Rattle.mount_calls.specs.Attaching.{Attaches, Detaches, KeepsAttached}
+use Rattle.open_handles.specs.Attaching.{Attaches, Detaches, KeepsAttached}
 use Rattle.overlay_core.specs.Views.{CoreKeeps, core_clients, core_layers, core_read_only, has_client}
 use Rattle.overlay_core.specs.declared.job.Job.{Job}
 use Rattle.overlay_core.specs.declared.mounted.Core.{Core}

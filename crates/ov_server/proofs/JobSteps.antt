@@ -3,7 +3,7 @@ use Rattle.std.proofs.Common.{◌≡◌, ◌≢◌, ◌∙◌, ◌+◌, ◌≤�
 use Rattle.ov_base.specs.declared.errno.Errno.{Errno}
 use Rattle.ov_base.specs.Calls.{Call}
 use Rattle.plain_model.specs.Runs.{Called}
-use Rattle.mount_calls.specs.Attaching.{KeepsAttached}
+use Rattle.open_handles.specs.Attaching.{KeepsAttached}
 use Rattle.overlay_core.specs.Jobs.{TurnsTo, finished_after}
 use Rattle.overlay_core.specs.Views.{CoreGoes, CoreKeeps, CoreSame, core_clients, core_finished, has_client}
 use Rattle.overlay_core.specs.Histories.{HasPlaces}

@@ -4,12 +4,12 @@ use Rattle.std.proofs.lemmas.Bool.{cases_eq, false≢true}
 use Rattle.std.proofs.lemmas.Option.{cond_some}
 use Rattle.plain_model.specs.Machine.{writable}
 use Rattle.plain_model.specs.Runs.{Deed}
-use Rattle.mount_calls.specs.Attaching.{Attaches, Detaches, KeepsAttached, is_attached}
+use Rattle.open_handles.specs.Attaching.{Attaches, Detaches, KeepsAttached, is_attached}
 use Rattle.mount_calls.specs.declared.mount.Mount.{Mount}
 use Rattle.overlay_core.specs.Histories.{HasPlaces}
 use Rattle.overlay_core.specs.Views.{CoreGoes, CoreSame, CoreStays, core_clients, core_mount, core_watches, has_client}
 use Rattle.overlay_core.specs.Watching.{Agrees}
-use Rattle.notice_laws.specs.Notified.{Notified}
+use Rattle.notifier.specs.Watches.{Watches}
 use Rattle.overlay_core.specs.declared.job.Job.{Job}
 use Rattle.overlay_core.specs.declared.job.Standing.TheVariants as standing
 use Rattle.overlay_core.specs.declared.mounted.Core.{Core}
@@ -51,7 +51,7 @@ module _ {F G : Type 0} {asks : Callback F} {rule : Rule G} where
   pub same_stays : (old new : Core F G asks rule) → CoreSame old new → CoreStays old new
   same_stays old new same s agrees =
       let on_mount = subst (λ (m : Mount). Agrees m (core_watches old) (writable s)) (sym same.mount) agrees.0 in
-      (subst (λ (k : Notified). Agrees (core_mount new) k (writable s)) (sym same.watches) on_mount, agrees.1 ∙ sym same.read_only)
+      (subst (λ (k : Watches). Agrees (core_mount new) k (writable s)) (sym same.watches) on_mount, agrees.1 ∙ sym same.read_only)
 
   -- and goes on, before and after
   pub same_goes : (old mid new : Core F G asks rule) (client : ℕ) (deed : Deed) → CoreSame old mid → CoreGoes mid client deed new → CoreGoes old client deed new

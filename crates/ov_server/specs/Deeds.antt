@@ -4,7 +4,7 @@ use Rattle.ov_base.specs.Calls.{Call}
 use Rattle.ov_base.specs.declared.errno.Errno.{Errno}
 use Rattle.ov_base.specs.declared.errno.Errno.TheVariants.{ENOMEM}
 use Rattle.ov_base.specs.declared.reply.Reply.{Reply}
-use Rattle.mount_calls.specs.Attaching.{KeepsAttached}
+use Rattle.open_handles.specs.Attaching.{KeepsAttached}
 use Rattle.plain_model.specs.Runs as runs
 use Rattle.overlay_core.specs.Jobs.{TurnsTo, finished_after}
 use Rattle.overlay_core.specs.Views.{CoreGoes, CoreStays, core_clients, core_finished, core_layers, core_options, core_read_only}

@@ -20,7 +20,7 @@ use Rattle.plain_model.proofs.Opened.{law_of_merge}
 use Rattle.layer_tree.specs.Tree.{layer_of}
 use Rattle.merged_lookup.specs.declared.layers.Layers.{Layers}
 use Rattle.merged_lookup.specs.Merged.{upper_of, layers_of, lowers_of}
-use Rattle.notice_laws.specs.Notified.{Notified}
+use Rattle.notifier.specs.Watches.{Watches}
 use Rattle.mount_calls.specs.declared.mount.Mount.{Mount}
 use Rattle.overlay_core.specs.Watching.{BeginsUntil, BeginsWith, Goes, HasState, Stays}
 
@@ -29,7 +29,7 @@ pub filled-layers : (U : Layer) (lowers : List Layer) → AreLayers (U ∷ lower
 filled-layers U lowers are = (filled-layer U lowers are.0, are.1)
 
 -- layers have a merge, so some state agrees with their mount
-pub has-state : (m : Mount) (k : Notified) (layers : Layers) (options : MountOptions) → m.layers ≡ layers → AreLayers (layers_of layers) → BeginsWith m.layers options m k → HasState m k
+pub has-state : (m : Mount) (k : Watches) (layers : Layers) (options : MountOptions) → m.layers ≡ layers → AreLayers (layers_of layers) → BeginsWith m.layers options m k → HasState m k
 has-state m k layers options same are begins =
     let U : Layer = upper_of layers in
     let lowers : List Layer = lowers_of layers in
@@ -39,24 +39,24 @@ has-state m k layers options same are begins =
     (opening t options, begins t (subst (λ (l : Layers). IsMerge (upper_of l) (lowers_of l) t) (sym same) merge))
 
 -- what a client does leaves some state
-pub goes-on : (shows : Rule) (old new : Mount) (k l : Notified) (c : ℕ) (deed : Deed) → ∥ HasState old k ∥₁ → Goes shows old k c deed new l → ∥ HasState new l ∥₁
+pub goes-on : (shows : Rule) (old new : Mount) (k l : Watches) (c : ℕ) (deed : Deed) → ∥ HasState old k ∥₁ → Goes shows old k c deed new l → ∥ HasState new l ∥₁
 goes-on shows old new k l c deed has goes = ∥∥₁_map has (λ x. let after = goes x.0 x.1 in (after.0, after.2))
 
 -- and so does what leaves each state
-pub stays-on : (old new : Mount) (k l : Notified) → ∥ HasState old k ∥₁ → Stays old k new l → ∥ HasState new l ∥₁
+pub stays-on : (old new : Mount) (k l : Watches) → ∥ HasState old k ∥₁ → Stays old k new l → ∥ HasState new l ∥₁
 stays-on old new k l has stays = ∥∥₁_map has (λ x. (x.0, stays x.0 x.1))
 
 -- where some state agrees the layers are layers
-pub are-layers : (m : Mount) (k : Notified) → ∥ HasState m k ∥₁ → ∥ AreLayers (layers_of m.layers) ∥₁
+pub are-layers : (m : Mount) (k : Watches) → ∥ HasState m k ∥₁ → ∥ AreLayers (layers_of m.layers) ∥₁
 are-layers m k has = ∥∥₁_map has (λ x. x.1.stands.layers.layers)
 
 -- as long as nothing is finished and the layers are the same, the mount begins as before
-pub begins-on : (finished : ℕ) (options : MountOptions) (old new : Mount) (k l : Notified) → ∥ BeginsUntil finished options old k ∥₁ → new.layers ≡ old.layers → Stays old k new l → ∥ BeginsUntil finished options new l ∥₁
+pub begins-on : (finished : ℕ) (options : MountOptions) (old new : Mount) (k l : Watches) → ∥ BeginsUntil finished options old k ∥₁ → new.layers ≡ old.layers → Stays old k new l → ∥ BeginsUntil finished options new l ∥₁
 begins-on finished options old new k l has same stays =
     ∥∥₁_map has (λ begins none t merge. stays (opening t options) (begins none t (subst (λ (z : Layers). IsMerge (upper_of z) (lowers_of z) t) same merge)))
 
 -- where something was finished, nothing is told of the beginning
-pub has-begun : (finished : ℕ) (options : MountOptions) (m : Mount) (k : Notified) → 0 < finished → ∥ BeginsUntil finished options m k ∥₁
+pub has-begun : (finished : ℕ) (options : MountOptions) (m : Mount) (k : Watches) → 0 < finished → ∥ BeginsUntil finished options m k ∥₁
 has-begun finished options m k some = merely (λ none. absurd (omega (arith, none, some)))
 
 -- the next client's number is at most how many deeds were finished, after one that leaves it

@@ -40,7 +40,7 @@ use Rattle.notifier.specs.Opening.{HoldsObject}
 use Rattle.watch_table.specs.Listening.{slot_refusal}
 use Rattle.watch_table.proofs.Arming.{unwatched-arm}
 use Rattle.mount_calls.specs.declared.mount.Mount.{Mount}
-use Rattle.mount_calls.specs.Attaching.{is_attached}
+use Rattle.open_handles.specs.Attaching.{is_attached}
 use Rattle.mount_calls.specs.States.{Serves}
 use Rattle.overlay_core.specs.PathFaults.{arm_fault}
 use Rattle.overlay_core.specs.Watching.{Agrees, Goes, Stays}

@@ -31,7 +31,7 @@ use Rattle.notice_laws.specs.Notified.{AreBorne, AreKnown, IsSlotOn, Notified, T
 use Rattle.notice_laws.proofs.Clients.{law_of_begun, law_of_joined}
 use Rattle.notifier.specs.Notifying.{IsAsBefore}
 use Rattle.mount_calls.specs.declared.mount.Mount.{Mount}
-use Rattle.mount_calls.specs.Attaching.{Attaches, TakesBack}
+use Rattle.open_handles.specs.Attaching.{Attaches, TakesBack}
 use Rattle.mount_calls.specs.States.{IsStateOf}
 use Rattle.mount_calls.proofs.Coming.{back-same}
 use Rattle.overlay_core.specs.Watching.{Agrees, BeginsWith, Goes, HasState, Stays}

@@ -7,7 +7,7 @@ use Rattle.std.proofs.lemmas.List.{append_assoc, append-nil, take_more}
 use Rattle.std.proofs.lemmas.Bool.{and_parts, false≢true}
 use Rattle.plain_model.specs.Watching as watching
 use Rattle.plain_model.specs.Runs.{Called, Entry, Does, Run}
-use Rattle.mount_calls.specs.declared.clients.Clients.{Clients}
+use Rattle.open_handles.specs.declared.clients.Clients.{Clients}
 use Rattle.overlay_core.specs.declared.job.Job.{Job}
 use Rattle.overlay_core.specs.declared.job.Standing.{Standing}
 use Rattle.overlay_core.specs.declared.job.Standing.TheVariants.{Open, Answered, GivenUp}
@@ -16,7 +16,7 @@ use Rattle.overlay_core.specs.declared.turn.Turn.{Turn}
 use Rattle.overlay_core.specs.Views.{CoreKeeps, CoreStays, core_clients}
 use Rattle.watch_table.specs.declared.hook.Callback.{Ghosts as Callback}
 use Rattle.watch_table.specs.declared.hook.Rule.{Ghosts as Rule}
-use Rattle.mount_calls.specs.Attaching.{KeepsAttached, is_attached}
+use Rattle.open_handles.specs.Attaching.{KeepsAttached, is_attached}
 use Rattle.overlay_core.specs.Jobs.{Advances, reply_of}
 use Rattle.overlay_core.specs.Drives.{call_of, calls_of, AreEntries, Drives, DriveSteps, OneStep, told, Answers, one_if_open, one_if_answered, open_count, answered, replies_to, times, gets, is_due, is_open, GivesNoStep, OpenMakes, PassesOver}
 use Rattle.mount_calls.proofs.Serving.{get-set, get-others}

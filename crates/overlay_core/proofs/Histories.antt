@@ -13,7 +13,7 @@ use Rattle.std.proofs.lemmas.Map.Steps.{length-le_from_keys}
 use Rattle.ov_base.specs.declared.errno.Errno.{Errno}
 use Rattle.ov_base.specs.declared.errno.Errno.TheVariants.{EINVAL, ENFILE, ENOSPC}
 use Rattle.ov_base.specs.declared.options.Options.{Options}
-use Rattle.mount_calls.specs.Attaching.{Attaches, Detaches, KeepsAttached}
+use Rattle.open_handles.specs.Attaching.{Attaches, Detaches, KeepsAttached}
 use Rattle.overlay_core.specs.Jobs.{finished_after}
 use Rattle.overlay_core.specs.Views.{client_count, core_clients, core_finished, core_options, core_room, has_client}
 use Rattle.overlay_core.specs.declared.mounted.Core.{Core}

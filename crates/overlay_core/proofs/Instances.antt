@@ -8,9 +8,9 @@ use Rattle.plain_model.specs.Watching.{Instance}
 use Rattle.plain_model.specs.Alike.{AreAllAlike, Identities}
 use Rattle.plain_model.specs.Machine.{instance_of}
 use Rattle.plain_model.proofs.Clients.{attached-is, hearers_of}
-use Rattle.notice_laws.specs.Notified.{Notified}
+use Rattle.notifier.specs.Watches.{Watches}
 use Rattle.mount_calls.specs.declared.mount.Mount.{Mount}
-use Rattle.mount_calls.specs.Attaching.{is_attached}
+use Rattle.open_handles.specs.Attaching.{is_attached}
 use Rattle.overlay_core.specs.Watching.{HasState}
 
 -- a client has an instance where it has one in the state
@@ -28,7 +28,7 @@ among-instance of (e ∷ es) (f ∷ fs) c z h =
     by false is rest = rest is
 
 -- each client that is attached has an instance
-pub has-instance : (m : Mount) (k : Notified) (c : ℕ) → ∥ HasState m k ∥₁ → is_attached m.clients c ≡ true → IsSome (instance_of k.instances c)
+pub has-instance : (m : Mount) (k : Watches) (c : ℕ) → ∥ HasState m k ∥₁ → is_attached m.clients c ≡ true → IsSome (instance_of k.instances c)
 has-instance m k c has there = by (instance_of k.instances c) refl
   where
     one : (x : HasState m k) → IsSome (instance_of k.instances c)

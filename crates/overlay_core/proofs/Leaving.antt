@@ -29,8 +29,8 @@ use Rattle.merged_lookup.specs.Merged.{lowers_of}
 use Rattle.mount_laws.proofs.Lists.{law_of_bad_descriptors}
 use Rattle.mount_laws.proofs.OneName.{law_of_one_name_kept}
 use Rattle.open_handles.specs.declared.handle.Handle as handles
-use Rattle.open_handles.specs.declared.handle.Handle.TheVariants.{Directory, File}
-use Rattle.open_handles.specs.declared.tracked_client.TrackedHandle.{TrackedHandle}
+use Rattle.open_handles.specs.declared.handle.On.TheVariants.{Directory, File}
+use Rattle.open_handles.specs.TrackedHandles.{TrackedHandle}
 use Rattle.object_table.specs.Dentries.{Dentries}
 use Rattle.object_table.specs.Objects.{Objects}
 use Rattle.open_handles.specs.TrackedHandles.{tracked_by}
@@ -40,8 +40,8 @@ use Rattle.notice_laws.specs.Clients.{Departs, Mutes}
 use Rattle.notice_laws.proofs.Clients.{law_of_departed, law_of_muted}
 use Rattle.notice_laws.proofs.Closing.{law_of_closed}
 use Rattle.mount_calls.specs.declared.mount.Mount.{Mount}
-use Rattle.mount_calls.specs.declared.clients.Clients.{Clients}
-use Rattle.mount_calls.specs.Attaching.{KeepsOthers, is_attached, opened_by}
+use Rattle.open_handles.specs.declared.clients.Clients.{Clients}
+use Rattle.open_handles.specs.Attaching.{KeepsOthers, is_attached, opened_by}
 use Rattle.mount_calls.specs.Living.{KeepsNamed, KeepsPaths}
 use Rattle.mount_calls.proofs.FileSight.{file-not-folder}
 use Rattle.mount_calls.proofs.Serving.{get-others, slot-closed, slot-open}
@@ -151,7 +151,7 @@ module _ (shows : Rule) (old new : Mount) (from to : Notified) (c d : ℕ) (r : 
         named = named s a.stands fine;
       } in
       let bits : closing_bits s (handle_of s.tables c d) ≡ closing o =
-      ap (closing_bits s) h.1 ∙ closing-same (mount_upper old) (lowers_of old.layers) s old.clients.directories o h.0 h.2 in
+      ap (closing_bits s) h.1 ∙ closing-same (mount_upper old) (lowers_of old.layers) s old.clients.objects.tree o h.0 h.2 in
       let on : Resumes shows (mount_upper new) s c (Close d) to =
       law_of_closed shows (mount_upper old) (mount_upper new) (lowers_of old.layers) s c d pass from to a.tracks known
       (subst (Closed shows from to c d) (sym bits) closed) in

@@ -15,10 +15,10 @@ use Rattle.plain_model.proofs.Opened.{law_of_merge}
 use Rattle.merged_lookup.specs.declared.layers.Layers.{Layers}
 use Rattle.merged_lookup.specs.Merged.{upper_of, lowers_of}
 use Rattle.copy_up.specs.Showing.{StaysThin}
-use Rattle.mount_calls.specs.declared.clients.Clients.{Clients}
-use Rattle.mount_calls.specs.Attaching.{KeepsAttached, is_attached}
+use Rattle.open_handles.specs.declared.clients.Clients.{Clients}
+use Rattle.open_handles.specs.Attaching.{KeepsAttached, is_attached}
 use Rattle.mount_calls.specs.declared.mount.Mount.{Mount}
-use Rattle.notice_laws.specs.Notified.{Notified}
+use Rattle.notifier.specs.Watches.{Watches}
 use Rattle.overlay_core.specs.LegalHistories.{IsNumber, Legally, Numbers, Opening, opening_of}
 use Rattle.overlay_core.specs.Mounting.{machine_options}
 use Rattle.overlay_core.specs.Views.{CoreGoes, CoreKeeps, CoreSame, CoreStays, core_clients, core_finished, core_layers, core_mount, core_options, core_read_only, core_watches, has_client, next_client}
@@ -92,7 +92,7 @@ module _ {F G : Type 0} {asks : Callback F} {rule : Rule G} {o : Opening} {es : 
 
 -- ---- a job that is dropped
 
-stays_same : (m n : Mount) (k l : Notified) (a b : Bool) → n ≡ m → l ≡ k → b ≡ a → (s : State) → AgreesAs a m k s → AgreesAs b n l s
+stays_same : (m n : Mount) (k l : Watches) (a b : Bool) → n ≡ m → l ≡ k → b ≡ a → (s : State) → AgreesAs a m k s → AgreesAs b n l s
 stays_same m n k l a b p q r s h = rw (p, q, r) h
 
 -- layers that are the same stay without needless whiteouts

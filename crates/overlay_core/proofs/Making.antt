@@ -13,7 +13,7 @@ use Rattle.merged_lookup.specs.Merged.{lowers_of}
 use Rattle.notice_laws.specs.Notified.{Passes, Resumes}
 use Rattle.notice_laws.specs.Steps.{IsSilent, keeps_handles}
 use Rattle.mount_calls.specs.declared.mount.Mount.{Mount}
-use Rattle.mount_calls.specs.Attaching.{is_attached}
+use Rattle.open_handles.specs.Attaching.{is_attached}
 use Rattle.mount_calls.specs.LeftMarks.{LeavesMarks}
 use Rattle.mount_calls.specs.Making.{MakesCall, TellsCall, TellsEach}
 use Rattle.mount_calls.proofs.LeftMarks.{marks-none}

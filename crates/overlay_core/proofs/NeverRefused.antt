@@ -7,12 +7,12 @@ use Rattle.ov_base.specs.Calls.{Call}
 use Rattle.ov_base.specs.declared.reply.Reply.{Reply}
 use Rattle.plain_model.specs.Machine.{State}
 use Rattle.plain_model.specs.Refusals.{refusal}
-use Rattle.notice_laws.specs.Notified.{Notified}
+use Rattle.notifier.specs.Watches.{Watches}
 use Rattle.mount_calls.specs.declared.mount.Mount.{Mount}
 use Rattle.mount_calls.specs.States.{IsStateOf}
 use Rattle.overlay_core.specs.Watching.{Agrees}
 
-module _ (m : Mount) (n : Notified) (c : ℕ) (k : Call) (r : Result Reply AllocError) where
+module _ (m : Mount) (n : Watches) (c : ℕ) (k : Call) (r : Result Reply AllocError) where
   -- where no state that the mount stands for does
   pub allowed-by : OnErr r ((s : State) → IsStateOf m s → refusal s c k ≡ None) →
       OnErr r ((s : State) → Agrees m n s → refusal s c k ≡ None)

@@ -12,8 +12,8 @@ use Rattle.std.proofs.lemmas.List.{append-nil, get_or-set_other, get_or-set_same
 use Rattle.std.proofs.lemmas.List.Elements.{filter-append}
 use Rattle.std.proofs.lemmas.List.Sums.{length-filter, sum_by-append}
 use Rattle.plain_model.specs.Runs.{Attached, Detached, Entry, is_detach, is_of}
-use Rattle.mount_calls.specs.declared.clients.Clients.{Clients}
-use Rattle.mount_calls.specs.Attaching.{Attaches, Detaches, KeepsAttached, is_attached}
+use Rattle.open_handles.specs.declared.clients.Clients.{Clients}
+use Rattle.open_handles.specs.Attaching.{Attaches, Detaches, KeepsAttached, is_attached}
 use Rattle.overlay_core.specs.LegalHistories.{IsNumber, Numbers}
 
 -- whether there is something

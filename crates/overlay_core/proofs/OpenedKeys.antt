@@ -14,7 +14,7 @@ use Rattle.mount_laws.specs.OpenFiles.{IsLive}
 use Rattle.mount_laws.proofs.Handling.{law_of_new_handle}
 use Rattle.mount_laws.proofs.OpenFiles.{law_of_live_one, law_of_live_shown}
 use Rattle.open_handles.specs.declared.handle.Handle as handles
-use Rattle.open_handles.specs.declared.handle.Handle.TheVariants.{Directory, File}
+use Rattle.open_handles.specs.declared.handle.On.TheVariants.{Directory, File}
 use Rattle.open_handles.specs.declared.open_file.FileSource.{FileSource}
 use Rattle.open_handles.specs.declared.open_file.FileSource.TheVariants.{Upper, Lower}
 use Rattle.open_handles.specs.declared.open_file.OpenFile.{OpenFile}
@@ -22,7 +22,7 @@ use Rattle.open_handles.specs.Listings.{file_in}
 use Rattle.notice_laws.specs.declared.object.Object.TheVariants as object
 use Rattle.notice_laws.specs.Objects.{IsObject}
 use Rattle.mount_calls.specs.declared.mount.Mount.{Mount}
-use Rattle.mount_calls.specs.Attaching.{file_by, opened_by}
+use Rattle.open_handles.specs.Attaching.{file_by, opened_by}
 use Rattle.mount_calls.specs.Files.{IsOf, key_in_upper}
 use Rattle.mount_calls.specs.States.{IsOpenAs, IsSlot, IsStateOf}
 
@@ -51,9 +51,9 @@ module _ (new : Mount) (s : State) (c : ℕ) (p : Path) (f : OpenFlags) (mode fd
   h = new_handle f (opens (node_at s.tree p) s.serial) (way_of s.tree p) (node_of s.tree (node_at s.tree p))
 
   -- the descriptor leads to what the new handle is on
-  slot : IsSlot (IsOpenAs V L t.tree new.clients.directories) (opened_by new.clients c fd) (Some h)
+  slot : IsSlot (IsOpenAs V L t.tree new.clients.objects.tree) (opened_by new.clients c fd) (Some h)
   slot =
-      subst (λ x. IsSlot (IsOpenAs V L t.tree new.clients.directories) (opened_by new.clients c fd) x) (law_of_new_handle s c p f mode fd free)
+      subst (λ x. IsSlot (IsOpenAs V L t.tree new.clients.objects.tree) (opened_by new.clients c fd) x) (law_of_new_handle s c p f mode fd free)
       (stands.tables.slots c fd)
 
   -- whose key is that of the file of the upper that stands at the path
@@ -67,7 +67,7 @@ module _ (new : Mount) (s : State) (c : ℕ) (p : Path) (f : OpenFlags) (mode fd
       source (Upper k) g is on = rw is (sym ((law_of_live_one V t.tree p h.node h.node j k here mine on.0).0 refl))
       source (Lower layer k) g is on = let no : Live ≡ Frozen on.0.bytes on.0.attributes on.0.links = sym sees ∙ on.0.view in cc
 
-      by : (o : Option handles.Handle) → IsSlot (IsOpenAs V L t.tree new.clients.directories) o (Some h) → unwrap_or (key_in_upper (file_in o)) 0 ≡ j
+      by : (o : Option handles.Handle) → IsSlot (IsOpenAs V L t.tree new.clients.objects.tree) o (Some h) → unwrap_or (key_in_upper (file_in o)) 0 ≡ j
       by None on = absurd on
       by (Some (Directory o)) on = absurd (false≢true (sym (ap is_folder mine.node) ∙ on.directory))
       by (Some (File g)) on = source g.source g refl on.source

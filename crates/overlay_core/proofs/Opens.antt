@@ -25,8 +25,8 @@ use Rattle.mount_laws.specs.Opening.{shown_fault}
 use Rattle.mount_laws.proofs.Links.{first-none, second-none}
 use Rattle.mount_laws.proofs.Looks.{at-some, to-parents}
 use Rattle.mount_laws.proofs.Opening.{law_of_open_refusal}
-use Rattle.open_handles.specs.declared.tracked_client.TrackedHandle.{TrackedHandle}
-use Rattle.open_handles.specs.declared.tracked_client.Way.{Way}
+use Rattle.open_handles.specs.TrackedHandles.{TrackedHandle}
+use Rattle.open_handles.specs.declared.way.Way.{Way}
 use Rattle.object_table.specs.Objects.{At, Objects}
 use Rattle.open_handles.specs.TrackedHandles.{is_tracked, tracked_by}
 use Rattle.notice_laws.specs.declared.object.Object.{Object}
@@ -38,11 +38,11 @@ use Rattle.notice_laws.proofs.GivenNumbers.{law_of_held_number}
 use Rattle.notice_laws.proofs.ShownParents.{walked-shown}
 use Rattle.notifier.specs.Opening.{HoldsBoth, HoldsWay, IsBack}
 use Rattle.mount_calls.specs.declared.mount.Mount.{Mount}
-use Rattle.mount_calls.specs.Attaching.{is_attached, opened_by}
+use Rattle.open_handles.specs.Attaching.{is_attached, opened_by}
 use Rattle.mount_calls.specs.States.{IsStateOf}
 use Rattle.mount_calls.proofs.Openings.{lowest-there}
 use Rattle.mount_calls.proofs.Serving.{slot-closed}
-use Rattle.mount_calls.specs.FreeDescriptors.{IsLowestFree}
+use Rattle.open_handles.specs.FreeDescriptors.{IsLowestFree}
 use Rattle.overlay_core.specs.Watching.{Agrees, HasState}
 use Rattle.overlay_core.proofs.Arriving.{any-forth}
 use Rattle.overlay_core.proofs.Leaving.{free-tracked}

@@ -31,10 +31,10 @@ use Rattle.notice_laws.proofs.OpenTold.{law_of_opened}
 use Rattle.notifier.specs.Notifying.{IsFree}
 use Rattle.notifier.specs.Opening.{IsReady, IsReadyNew}
 use Rattle.mount_calls.specs.declared.mount.Mount.{Mount}
-use Rattle.mount_calls.specs.Attaching.{file_by}
+use Rattle.open_handles.specs.Attaching.{file_by}
 use Rattle.mount_calls.specs.Files.{key_in_upper as key_of}
 use Rattle.mount_calls.specs.States.{IsStateOf, Serves}
-use Rattle.mount_calls.specs.FreeDescriptors.{IsLowestFree}
+use Rattle.open_handles.specs.FreeDescriptors.{IsLowestFree}
 use Rattle.overlay_core.specs.Watching.{Agrees, Goes, HasState}
 use Rattle.overlay_core.proofs.Lifted.{free-key, free-squashed, lifted-key}
 use Rattle.overlay_core.proofs.Performing.{Performed, passing}

@@ -13,13 +13,13 @@ use Rattle.plain_model.specs.Refusals.{refusal}
 use Rattle.plain_model.specs.Replies.{reply_of}
 use Rattle.plain_model.specs.Runs.{Called}
 use Rattle.merged_lookup.specs.Merged.{lowers_of}
-use Rattle.open_handles.specs.declared.tracked_client.TrackedHandle.{TrackedHandle}
-use Rattle.open_handles.specs.declared.tracked_client.Way.{Way}
+use Rattle.open_handles.specs.TrackedHandles.{TrackedHandle}
+use Rattle.open_handles.specs.declared.way.Way.{Way}
 use Rattle.object_table.specs.Objects.{SameSpots, Objects, spot_of}
 use Rattle.notice_laws.specs.Notified.{AreKnown, Notified, Passes, Resumes}
 use Rattle.notice_laws.proofs.FewerObjects.{law_of_fewer_numbers}
 use Rattle.mount_calls.specs.declared.mount.Mount.{Mount}
-use Rattle.mount_calls.specs.Attaching.{is_attached}
+use Rattle.open_handles.specs.Attaching.{is_attached}
 use Rattle.mount_calls.specs.Living.{KeepsNamed}
 use Rattle.mount_calls.specs.Making.{MakesCall}
 use Rattle.mount_calls.specs.States.{HasStateOf, IsStateOf, Serves}

@@ -8,7 +8,7 @@ use Rattle.plain_model.specs.Watching.{Rule}
 use Rattle.mount_laws.specs.Renaming.{is_one}
 use Rattle.mount_calls.specs.declared.mount.Mount.{Mount}
 use Rattle.mount_calls.specs.declared.plan.Plan.{Plan}
-use Rattle.mount_calls.specs.Attaching.{is_attached}
+use Rattle.open_handles.specs.Attaching.{is_attached}
 use Rattle.mount_calls.specs.Making.{MakesEach}
 use Rattle.mount_calls.specs.Plans.{IsFoundFor, IsPlanned}
 use Rattle.overlay_core.specs.declared.watched.Watched.{Watched}

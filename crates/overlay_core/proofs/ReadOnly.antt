@@ -16,7 +16,7 @@ use Rattle.plain_model.specs.Layers.{Layer, Object, Directory, Named, Whiteout}
 use Rattle.layer_tree.specs.Tree.{SameObjects, layer_of}
 use Rattle.merged_lookup.specs.declared.layers.Layers.{Layers}
 use Rattle.merged_lookup.specs.Merged.{lowers_of}
-use Rattle.notice_laws.specs.Notified.{Notified}
+use Rattle.notifier.specs.Watches.{Watches}
 use Rattle.work_dir.specs.OpenJobs.{closed_any, held}
 use Rattle.mount_calls.specs.declared.mount.Mount.{Mount}
 use Rattle.overlay_core.specs.Watching.{Agrees, AgreesAs, Goes, GoesAs, HasState, Stays, StaysAs}
@@ -85,7 +85,7 @@ module _ (shows : Rule) (c : ℕ) where
         ),
       )
 
-module _ (m n : Mount) (k l : Notified) where
+module _ (m n : Mount) (k l : Watches) where
   -- what leaves each state leaves each read-only one
   pub stays-as : (b : Bool) → Stays m k n l → StaysAs b m k n l
   stays-as b stays s a = (stays (writable s) a.0, a.1)
@@ -108,7 +108,7 @@ module _ (m n : Mount) (k l : Notified) where
         (g.0, g.1, (subst (Agrees n l) (sym (is-writable g.0 there)) g.2, there))
 
 -- a state agrees as it is where all may be written
-pub agrees-plain : (b : Bool) (m : Mount) (k : Notified) (s : State) → b ≡ false → AgreesAs b m k s → Agrees m k s
+pub agrees-plain : (b : Bool) (m : Mount) (k : Watches) (s : State) → b ≡ false → AgreesAs b m k s → Agrees m k s
 agrees-plain b m k s e a = subst (Agrees m k) (is-writable s (a.1 ∙ e)) a.0
 
 -- the attributes of a root that is held
@@ -141,16 +141,16 @@ held-none None c chunks = refl
 held-none (Some n) c chunks = refl
 
 -- some state agrees as one that is read-only, or isn't, where some state agrees
-given-state : (b : Bool) (m : Mount) (k : Notified) (s : State) → Agrees m k s →
+given-state : (b : Bool) (m : Mount) (k : Watches) (s : State) → Agrees m k s →
     AgreesAs b m k (record s { options = record s.options { read_only = b } })
 given-state b m k s a = (subst (Agrees m k) (sym (is-writable s a.stands.layers.writable)) a, refl)
 
 -- and after what a client does there
-pub state-goes : (b : Bool) (shows : Rule) (m n : Mount) (k l : Notified) (c : ℕ) (deed : Deed) →
+pub state-goes : (b : Bool) (shows : Rule) (m n : Mount) (k l : Watches) (c : ℕ) (deed : Deed) →
     ∥ HasState m k ∥₁ → GoesAs b shows m k c deed n l → ∥ HasState n l ∥₁
 state-goes b shows m n k l c deed has goes =
     ∥∥₁_map has (λ x. let g = goes _ (given-state b m k x.0 x.1) in (writable g.0, g.2.0))
 
-pub state-stays : (b : Bool) (m n : Mount) (k l : Notified) → ∥ HasState m k ∥₁ →
+pub state-stays : (b : Bool) (m n : Mount) (k l : Watches) → ∥ HasState m k ∥₁ →
     StaysAs b m k n l → ∥ HasState n l ∥₁
 state-stays b m n k l has stays = ∥∥₁_map has (λ x. (_, (stays _ (given-state b m k x.0 x.1)).0))

@@ -12,7 +12,7 @@ use Rattle.layer_tree.specs.Tree.{SameObjects, layer_of}
 use Rattle.merged_lookup.specs.declared.layers.Layers.{Layers}
 use Rattle.merged_lookup.specs.Merged.{upper_of, lowers_of}
 use Rattle.mount_laws.specs.Renaming.{is_one}
-use Rattle.notice_laws.specs.Notified.{Notified}
+use Rattle.notifier.specs.Watches.{Watches}
 use Rattle.ov_base.specs.declared.place.Place.{Place}
 use Rattle.work_dir.specs.Beginnings.{Beginning}
 use Rattle.work_dir.specs.OpenJobs.{held}
@@ -191,7 +191,7 @@ idle-on work w j is none =
     is ∙ ap (λ (x : List (Option OpenJob)). without x j) none ∙ closed-none j.number j.client
 
 -- so they may where a call that was planned lacks something
-pub lacks-writes : (b : Bool) (m : Mount) (k : Notified) (j : Job) (l : Lack) →
+pub lacks-writes : (b : Bool) (m : Mount) (k : Watches) (j : Job) (l : Lack) →
     (b ≡ true → ReadsOnly m k j) → lack_by m j ≡ l → (l ≡ Nothing → ⊥) → b ≡ false
 lacks-writes true m k j l reads is some =
     let none = (reads refl).1 in

@@ -18,13 +18,13 @@ use Rattle.work_dir.specs.OpenJobs.{Same}
 use Rattle.work_dir.specs.declared.next.Next.{Next}
 use Rattle.work_dir.specs.declared.next.Next.TheVariants.{Finish, Place, Begin, Copy, AtOnce}
 use Rattle.work_dir.specs.declared.table.OpenJob.{OpenJob}
-use Rattle.mount_calls.specs.Attaching.{is_attached, KeepsAttached}
+use Rattle.open_handles.specs.Attaching.{is_attached, KeepsAttached}
 use Rattle.mount_calls.specs.ComingUp.{BringsUp}
 use Rattle.mount_calls.specs.Keeping.{LeavesPaths}
 use Rattle.mount_calls.specs.LeftMarks.{LeavesMarks}
 use Rattle.mount_calls.specs.Lacks.{lack_size, may_lack}
 use Rattle.mount_calls.proofs.ComingUp.{brings-up}
-use Rattle.mount_calls.specs.declared.clients.Clients.{Clients}
+use Rattle.open_handles.specs.declared.clients.Clients.{Clients}
 use Rattle.mount_calls.specs.declared.mount.Mount.{Mount}
 use Rattle.mount_calls.proofs.Frames.{same-layers}
 use Rattle.overlay_core.specs.declared.job.Job.{Job}

@@ -21,8 +21,8 @@ use Rattle.plain_model.specs.Subjects.{by_handle}
 use Rattle.plain_model.proofs.Looking.{or-first, or-second, when-not}
 use Rattle.merged_lookup.specs.Merged.{upper_of, lowers_of}
 use Rattle.open_handles.specs.declared.handle.Handle as handles
-use Rattle.open_handles.specs.declared.handle.Handle.TheVariants.{Directory, File}
-use Rattle.open_handles.specs.declared.tracked_client.TrackedHandle.{TrackedHandle}
+use Rattle.open_handles.specs.declared.handle.On.TheVariants.{Directory, File}
+use Rattle.open_handles.specs.TrackedHandles.{TrackedHandle}
 use Rattle.object_table.specs.Objects.{Objects}
 use Rattle.open_handles.specs.TrackedHandles.{tracked_by}
 use Rattle.notice_laws.specs.Notified.{AreKnown, Bearers, IsSlotOn, Notified, Passes, Resumes, Tracks}
@@ -31,7 +31,7 @@ use Rattle.notice_laws.proofs.Making.{law_of_read}
 use Rattle.notice_laws.proofs.Staying.{law_of_silent}
 use Rattle.notice_laws.proofs.Writing.{law_of_truncated, law_of_written}
 use Rattle.mount_calls.specs.declared.mount.Mount.{Mount}
-use Rattle.mount_calls.specs.Attaching.{opened_by}
+use Rattle.open_handles.specs.Attaching.{opened_by}
 use Rattle.mount_calls.specs.States.{IsOpenAs, IsSlot, IsStateOf}
 use Rattle.mount_calls.proofs.FileSight.{file-not-folder}
 use Rattle.overlay_core.specs.Watching.{Agrees, Goes, HasState}
@@ -79,7 +79,7 @@ writer-file : (m : Mount) (s : State) → IsStateOf m s → (c fd : ℕ) → can
 writer-file m s st c fd = by (opened_by m.clients c fd) (handle_of s.tables c fd) (st.tables.slots c fd)
   where
     by : (o : Option handles.Handle) (h : Option Handle) →
-        IsSlot (IsOpenAs (upper_of m.layers) (lowers_of m.layers) s.tree m.clients.directories) o h →
+        IsSlot (IsOpenAs (upper_of m.layers) (lowers_of m.layers) s.tree m.clients.objects.tree) o h →
         can_write h ≡ true → is_folder (handle_node s.tree h) ≡ false
     by None None on writes = absurd (false≢true writes)
     by None (Some h) on writes = absurd on

@@ -20,7 +20,7 @@ use Rattle.notice_laws.specs.Notified.{AreKnown, Notified}
 use Rattle.notice_laws.proofs.Clients.{law_of_asked}
 use Rattle.notice_laws.proofs.ArmedWatches.{law_of_disarmed, law_of_taken}
 use Rattle.mount_calls.specs.declared.mount.Mount.{Mount}
-use Rattle.mount_calls.specs.Attaching.{is_attached}
+use Rattle.open_handles.specs.Attaching.{is_attached}
 use Rattle.mount_calls.specs.States.{Serves}
 use Rattle.overlay_core.specs.Watching.{Agrees, Goes}
 use Rattle.overlay_core.proofs.Watching.{goes-agreed, passes, mount_upper, with-instances}

@@ -22,7 +22,7 @@ use Rattle.mount_laws.proofs.OneName.{law_of_one_name_kept}
 use Rattle.notice_laws.specs.Notified.{Notified, Tracks, Passes, Resumes}
 use Rattle.notice_laws.proofs.Staying.{law_of_staying}
 use Rattle.mount_calls.specs.declared.mount.Mount.{Mount}
-use Rattle.mount_calls.specs.Attaching.{is_attached}
+use Rattle.open_handles.specs.Attaching.{is_attached}
 use Rattle.mount_calls.specs.Living.{KeepsNamed, StaysLive}
 use Rattle.mount_calls.specs.States.{IsStateOf, Serves, StaysState}
 use Rattle.overlay_core.specs.Watching.{Agrees, Goes, Stays}

@@ -10,8 +10,8 @@ use Rattle.std.proofs.lemmas.List.Sums.{length-filter}
 use Rattle.ov_base.specs.Calls.{Call}
 use Rattle.ov_base.specs.declared.reply.Reply.{Reply}
 use Rattle.plain_model.specs.Runs.{Attached, Called, Detached, Entry, is_of}
-use Rattle.mount_calls.specs.declared.clients.Clients.{Clients}
-use Rattle.mount_calls.specs.Attaching.{is_attached}
+use Rattle.open_handles.specs.declared.clients.Clients.{Clients}
+use Rattle.open_handles.specs.Attaching.{is_attached}
 use Rattle.overlay_core.proofs.Driving.{call-here, calls-set}
 use Rattle.overlay_core.proofs.LegalHistories.{legal_attach, legal_begins, legal_due, legal_stays, numbers_begin, same_clients, same_keeps, same_stays}
 use Rattle.overlay_core.proofs.Numbering.{number_is, numbers_attach, numbers_call, numbers_detach, numbers_stay}

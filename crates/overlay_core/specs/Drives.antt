@@ -4,7 +4,7 @@ use Rattle.ov_base.specs.Calls.{Call}
 use Rattle.ov_base.specs.declared.reply.Reply.{Reply}
 use Rattle.plain_model.specs.Machine.{State}
 use Rattle.plain_model.specs.Runs.{Called, Entry, Run}
-use Rattle.mount_calls.specs.declared.clients.Clients.{Clients}
+use Rattle.open_handles.specs.declared.clients.Clients.{Clients}
 use Rattle.overlay_core.specs.declared.job.Job.{Job}
 use Rattle.overlay_core.specs.declared.job.Standing.{Standing}
 use Rattle.overlay_core.specs.declared.job.Standing.TheVariants.{Open, Answered, GivenUp}
@@ -12,7 +12,7 @@ use Rattle.overlay_core.specs.declared.mounted.Core.{Core}
 use Rattle.overlay_core.specs.Jobs.{Advances, reply_of}
 use Rattle.overlay_core.specs.Views.{CoreAgrees, CoreGoes, core_clients}
 use Rattle.overlay_core.specs.declared.turn.Turn.{Turn}
-use Rattle.mount_calls.specs.Attaching.{is_attached}
+use Rattle.open_handles.specs.Attaching.{is_attached}
 use Rattle.watch_table.specs.declared.hook.Callback.{Ghosts as Callback}
 use Rattle.watch_table.specs.declared.hook.Rule.{Ghosts as Rule}
 

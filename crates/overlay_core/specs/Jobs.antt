@@ -13,7 +13,7 @@ use Rattle.overlay_core.specs.declared.mounted.Core.{Core}
 use Rattle.overlay_core.specs.declared.turn.Turn.{Turn}
 use Rattle.overlay_core.specs.declared.turn.Turn.TheVariants.{More, Done, NoMemory}
 use Rattle.work_dir.specs.declared.next.Next.{Next}
-use Rattle.mount_calls.specs.Attaching.{KeepsAttached}
+use Rattle.open_handles.specs.Attaching.{KeepsAttached}
 use Rattle.mount_calls.specs.ComingUp.{BringsUp}
 use Rattle.mount_calls.specs.Keeping.{KeepsLayers, takes_no_memory}
 use Rattle.mount_calls.specs.Lacks.{may_lack}

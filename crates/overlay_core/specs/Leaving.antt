@@ -8,36 +8,42 @@ use Rattle.plain_model.specs.Settling.{IsSettled}
 use Rattle.plain_model.specs.Runs.{Closes, Step}
 use Rattle.mount_laws.specs.Nodes.{HaveOneName}
 use Rattle.open_handles.specs.declared.handle.Handle as handles
-use Rattle.open_handles.specs.declared.handle.Handle.TheVariants.{Directory, File}
+use Rattle.open_handles.specs.declared.handle.On.{On}
+use Rattle.open_handles.specs.declared.handle.On.TheVariants.{Directory, File}
 use Rattle.merged_lookup.specs.Merged.{upper_of}
-use Rattle.notice_laws.specs.Notified.{Notified, Tracks}
+use Rattle.notice_laws.specs.Notified.{Tracks}
+use Rattle.notifier.specs.Notifying.{notified}
+use Rattle.notifier.specs.Watches.{Watches}
 use Rattle.mount_calls.specs.declared.mount.Mount.{Mount}
-use Rattle.mount_calls.specs.Attaching.{opened_by}
+use Rattle.open_handles.specs.Attaching.{opened_by}
 use Rattle.mount_calls.specs.States.{IsStateOf}
 
 -- by what bits the close of an open handle is told
+abbrev pub closing_on : On → ℕ
+closing_on (Directory listing) = CLOSE_NOWRITE + ISDIR
+closing_on (File f) = cond f.writes CLOSE_WRITE CLOSE_NOWRITE
+
 abbrev pub closing : handles.Handle → ℕ
-closing (Directory o) = CLOSE_NOWRITE + ISDIR
-closing (File f) = cond f.writes CLOSE_WRITE CLOSE_NOWRITE
+closing h = closing_on h.on
 
 -- A state agrees but for its instances: with some in their place it is one that runs lead to.
-pub record Follows (m : Mount) (k : Notified) (s : State) : Type 0 where
+pub record Follows (m : Mount) (k : Watches) (s : State) : Type 0 where
   pub stands : IsStateOf m s
   pub settled : (es : List Instance) × IsSettled (record s { instances = es })
   pub one : HaveOneName s.tree
-  pub tracks : Tracks (upper_of m.layers) s k
+  pub tracks : Tracks (upper_of m.layers) s (notified m.clients k)
 
 -- some state agrees so
-abbrev pub IsFollowed : Mount → Notified → Type 0
+abbrev pub IsFollowed : Mount → Watches → Type 0
 IsFollowed m k = (s : State) × Follows m k s
 
 -- from each state that agrees so, the close of a client's descriptor leads to one that does
-abbrev pub Shuts : Rule → Mount → Notified → ℕ → ℕ → Reply → Mount → Notified → Type 0
+abbrev pub Shuts : Rule → Mount → Watches → ℕ → ℕ → Reply → Mount → Watches → Type 0
 Shuts shows old k client d reply new l =
     (s : State) → Follows old k s → (t : State) × Step shows s client (Close d) reply t × Follows new l t
 
 -- a client closes each handle that it has, the lowest descriptor first, and has none then
-pub record ClosesEach (shows : Rule) (s : State) (client : ℕ) (new : Mount) (l : Notified) : Type 0 where
+pub record ClosesEach (shows : Rule) (s : State) (client : ℕ) (new : Mount) (l : Watches) : Type 0 where
   pub last : State
   pub closes : Closes shows s client 0 (handles_of s.tables client) last
   pub follows : Follows new l last

@@ -6,8 +6,8 @@ use Rattle.plain_model.specs.Merging.{IsMerge}
 use Rattle.plain_model.specs.Machine.{MountOptions, State, opening}
 use Rattle.plain_model.specs.Runs.{Entry, IsLegal, is_of, is_detach}
 use Rattle.merged_lookup.specs.Merged.{upper_of, lowers_of}
-use Rattle.mount_calls.specs.declared.clients.Clients.{Clients}
-use Rattle.mount_calls.specs.Attaching.{is_attached}
+use Rattle.open_handles.specs.declared.clients.Clients.{Clients}
+use Rattle.open_handles.specs.Attaching.{is_attached}
 use Rattle.overlay_core.specs.Mounting.{machine_options}
 use Rattle.overlay_core.specs.Views.{CoreAgrees, core_layers, core_options, core_read_only}
 use Rattle.overlay_core.specs.declared.mounted.Core.{Core}

@@ -12,7 +12,7 @@ use Rattle.plain_model.specs.Runs.{Called}
 use Rattle.plain_model.specs.Watching.{Rule}
 use Rattle.layer_tree.specs.Tree.{SameObjects, layer_of}
 use Rattle.merged_lookup.specs.Merged.{upper_of, lowers_of}
-use Rattle.notice_laws.specs.Notified.{Notified}
+use Rattle.notifier.specs.Watches.{Watches}
 use Rattle.copy_up.specs.Needs.{first_names}
 use Rattle.copy_up.specs.Showing.{GainsParent, StaysThin}
 use Rattle.work_dir.specs.Beginnings.{Beginning, empty_beginning, longer_beginning}
@@ -25,7 +25,7 @@ use Rattle.work_dir.specs.declared.next.Next.{Next}
 use Rattle.work_dir.specs.declared.next.Next.TheVariants.{Finish, Place, Begin, Copy, AtOnce}
 use Rattle.ov_base.specs.declared.place.Place as source
 use Rattle.work_dir.specs.declared.table.OpenJob.{OpenJob}
-use Rattle.mount_calls.specs.Attaching.{KeepsAttached}
+use Rattle.open_handles.specs.Attaching.{KeepsAttached}
 use Rattle.mount_calls.specs.Keeping.{KeepsLayers}
 use Rattle.mount_calls.specs.LeftMarks.{LeavesMarks}
 use Rattle.mount_calls.specs.Lacks.{bytes_at, changed_paths, lack_of, lack_size, path_of_call}
@@ -155,19 +155,19 @@ EndsBy k (Ok r) turn = (turn ≡ Done r) × (k.standing ≡ standing.Answered) �
 EndsBy k (Err a) turn = (turn ≡ NoMemory) × (k.standing ≡ standing.GivenUp) × (k.number ≡ None)
 
 -- this is why each state that agrees refuses a job's call, if any reason is
-abbrev pub IsRefusal : Bool → Mount → Notified → Job → Option Errno → Type 0
+abbrev pub IsRefusal : Bool → Mount → Watches → Job → Option Errno → Type 0
 IsRefusal read_only m k j why =
     (s : State) → AgreesAs read_only m k s → refusal s j.client j.call ≡ why
 
 -- a job's call writes nothing, and changes no path
-abbrev pub ReadsOnly : Mount → Notified → Job → Type 0
+abbrev pub ReadsOnly : Mount → Watches → Job → Type 0
 ReadsOnly m k j =
     ((s : State) → AgreesAs true m k s → writes s j.call ≡ false)
     × (changed_paths (upper_of m.layers) (lowers_of m.layers) j.call ≡ [])
 
 -- WHAT IS REFUSED NEVER RUNS OUT OF MEMORY: where a step of this job does, no state that agreed
 -- refuses its call
-abbrev pub FailsAllowed : Bool → Turn → Mount → Notified → Job → Type 0
+abbrev pub FailsAllowed : Bool → Turn → Mount → Watches → Job → Type 0
 FailsAllowed read_only turn m k j = turn ≡ NoMemory → IsRefusal read_only m k j None
 
 -- the job is the same client's and the same call's, with one step more

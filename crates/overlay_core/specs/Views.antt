@@ -10,11 +10,11 @@ use Rattle.plain_model.specs.Tree.{Tree}
 use Rattle.layer_tree.specs.Tree.{layer_of}
 use Rattle.merged_lookup.specs.declared.layers.Layers.{Layers}
 use Rattle.merged_lookup.specs.Merged.{upper_of, lowers_of}
-use Rattle.notice_laws.specs.Notified.{Notified}
+use Rattle.notifier.specs.Watches.{Watches}
 use Rattle.copy_up.specs.Showing.{StaysThin}
-use Rattle.mount_calls.specs.declared.clients.Clients.{Clients}
+use Rattle.open_handles.specs.declared.clients.Clients.{Clients}
 use Rattle.mount_calls.specs.declared.mount.Mount.{Mount}
-use Rattle.mount_calls.specs.Attaching.{is_attached}
+use Rattle.open_handles.specs.Attaching.{is_attached}
 use Rattle.work_dir.specs.declared.table.OpenJob.{OpenJob}
 use Rattle.overlay_core.specs.Mounting.{machine_options, places_left}
 use Rattle.overlay_core.specs.Watching.{AgreesAs}
@@ -27,7 +27,7 @@ module _ {F G : Type 0} {asks : Callback F} {rule : Rule G} where
   abbrev pub core_mount : Core F G asks rule → Mount
   core_mount core = core.watched.mount
 
-  abbrev pub core_watches : Core F G asks rule → Notified
+  abbrev pub core_watches : Core F G asks rule → Watches
   core_watches core = core.watched.notifier
 
   abbrev pub core_options : Core F G asks rule → Options

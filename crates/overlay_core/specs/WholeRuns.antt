@@ -3,8 +3,8 @@ use Rattle.std.specs.Prelude.{◌≡◌, ℕ, suc, List, [], ◌∷◌, ◌++◌
 use Rattle.ov_base.specs.Calls.{Call}
 use Rattle.ov_base.specs.declared.reply.Reply.{Reply}
 use Rattle.plain_model.specs.Runs.{Attached, Called, Deed, Detached, Entry, is_of}
-use Rattle.mount_calls.specs.declared.clients.Clients.{Clients}
-use Rattle.mount_calls.specs.Attaching.{Attaches, Detaches, KeepsAttached, is_attached}
+use Rattle.open_handles.specs.declared.clients.Clients.{Clients}
+use Rattle.open_handles.specs.Attaching.{Attaches, Detaches, KeepsAttached, is_attached}
 use Rattle.overlay_core.specs.Drives.{DriveSteps, calls_of}
 use Rattle.overlay_core.specs.Jobs.{TurnsTo}
 use Rattle.overlay_core.specs.LegalHistories.{Legally, opening_of}

@@ -10,7 +10,7 @@ ghost use Rattle.layer_tree.specs.Tree.{inode_of};
 ghost use Rattle.merged_lookup.specs.Merged.{fill_at, layers_of, lowers_of, upper_of, IsTopmost};
 ghost use Rattle.mount_laws.specs.Looks.{walk_fault};
 ghost use Rattle.notice_laws.specs.Objects.{IsObject};
-ghost use Rattle.mount_calls.specs.Attaching.{is_attached};
+ghost use Rattle.open_handles.specs.Attaching.{is_attached};
 ghost use Rattle.overlay_core.specs.PathFaults.{arm_fault};
 ghost use Rattle.overlay_core.specs.Watching.{Agrees, Goes, HasState, Stays};
 
@@ -103,12 +103,16 @@ impl<F: Callback, R: Rule> Watched<F, R> {
             Ok(object) => object,
             Err(errno) => return Ok(Reply::Refused(errno)),
         };
-        if let Some(errno) = self.notifier.arm_refusal(client, slot, path, object) {
+        let number = self.mount.number_of(path, object);
+        if let Some(errno) = self.notifier.arm_refusal(client, slot, number) {
             return Ok(Reply::Refused(errno));
         }
         let alloc = self.mount.alloc();
-        let armed = self.notifier.armed(alloc, client, slot, path, object, mask);
-        self.notifier.lawful();
+        let clients = &mut self.mount.clients;
+        let armed = self
+            .notifier
+            .armed(clients, alloc, client, slot, path, object, mask);
+        self.mount.clients.lawful();
         let number = armed?;
         Ok(Reply::Watch(number as i32))
     }

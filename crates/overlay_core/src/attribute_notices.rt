@@ -4,7 +4,7 @@ ghost use Rattle.std.specs.Prelude.{◌≡◌, true};
 ghost use Rattle.ov_base.specs.declared.call.CallOf.TheVariants as Call;
 ghost use Rattle.mount_calls.specs.Altering.{IsTarget};
 ghost use Rattle.mount_calls.specs.AttributeCalls.{call_at};
-ghost use Rattle.mount_calls.specs.Attaching.{is_attached};
+ghost use Rattle.open_handles.specs.Attaching.{is_attached};
 ghost use Rattle.mount_calls.specs.Looking.{IsLook};
 ghost use Rattle.overlay_core.specs.Performing.{Performs};
 ghost use Rattle.overlay_core.specs.Watching.{HasState};
@@ -33,12 +33,14 @@ impl<F: Callback, R: Rule> Watched<F, R> {
         requires found { IsTarget self.old.mount.layers path.now call (found.0.now, found.1) }
         ensures { Performs R.shows client (call_at path.now call.entry) self.old self.new result }
     {
-        self.notifier.lawful();
         let object = self.mount.object_seen(look);
-        self.notifier.prepare_lift(path, object)?;
+        let known = self.mount.known_at(path, object);
+        self.mount.prepare_lift(known.number, object)?;
         let key = self.mount.alter(path, found, call)?;
-        self.notifier.altered(path, object, key);
-        self.notifier.lawful();
+        self.mount.lift(known.number, object, key);
+        self.notifier
+            .altered(&mut self.mount.clients, &known, object);
+        self.mount.clients.lawful();
         Ok(Reply::Done)
     }
 
@@ -60,12 +62,14 @@ impl<F: Callback, R: Rule> Watched<F, R> {
         ensures { Performs R.shows client (Call.Hardlink old.now new.now) self.old self.new
             result }
     {
-        self.notifier.lawful();
         let object = self.mount.object_seen(from);
-        self.notifier.prepare_lift(old, object)?;
+        let number = self.mount.number_of(old, object);
+        self.mount.prepare_lift(number, object)?;
         let key = self.mount.give_name(old, new, found)?;
-        self.notifier.linked(old, new, object, key);
-        self.notifier.lawful();
+        self.mount.lift(number, object, key);
+        let way = self.mount.clients.way_to(new);
+        self.notifier.linked(&mut self.mount.clients, &way, number);
+        self.mount.clients.lawful();
         Ok(Reply::Done)
     }
 }

@@ -7,7 +7,7 @@ ghost use Rattle.plain_model.specs.Layers.{AreLayers};
 ghost use Rattle.plain_model.specs.Machine.{State, instance_of};
 ghost use Rattle.merged_lookup.specs.Merged.{layers_of};
 ghost use Rattle.plain_model.specs.Runs.{Attached, Detached};
-ghost use Rattle.mount_calls.specs.Attaching.{Attaches, Detaches, KeepsAttached, KeepsOthers, attach_refusal, is_attached};
+ghost use Rattle.open_handles.specs.Attaching.{Attaches, Detaches, KeepsAttached, KeepsOthers, attach_refusal, is_attached};
 ghost use Rattle.mount_calls.specs.Living.{KeepsPaths};
 ghost use Rattle.overlay_core.specs.Leaving.{ClosesEach, Follows, IsFollowed, Shuts, closing};
 ghost use Rattle.overlay_core.specs.Mounting.{machine_options};
@@ -20,21 +20,20 @@ use crate::watched::Watched;
 use merged_lookup::Layers;
 use mount_calls::Mount;
 use notifier::{CLOSE_NOWRITE, CLOSE_WRITE, ISDIR, Notifier};
-use open_handles::{DESCRIPTORS_MAX, Handle};
+use open_handles::{DESCRIPTORS_MAX, Handle, On};
 use ov_base::{Errno, Options, Reply};
 use std::alloc::{AllocError, Global};
 use std::hash::RandomState;
 use watch_table::{Callback, Hook, NotAttached, Rule};
 
-// By what bits the close of what a descriptor leads to is told; none where it isn't open.
-fn closing_of(handle: Option<&Handle>) -> Option<u32>
-    ensures { result ≡ option_map closing (option_copied handle.entry) }
+// By what bits the close of a handle is told.
+fn closing_of(handle: &Handle) -> u32
+    ensures { result ≡ closing handle.now }
 {
-    match handle {
-        Some(Handle::Directory(_)) => Some(CLOSE_NOWRITE + ISDIR),
-        Some(Handle::File(file)) if file.writes => Some(CLOSE_WRITE),
-        Some(Handle::File(_)) => Some(CLOSE_NOWRITE),
-        None => None,
+    match &handle.on {
+        On::Directory(_) => CLOSE_NOWRITE + ISDIR,
+        On::File(file) if file.writes => CLOSE_WRITE,
+        On::File(_) => CLOSE_NOWRITE,
     }
 }
 
@@ -62,10 +61,10 @@ impl<F: Callback, R: Rule> Watched<F, R> {
             options.metacopy,
             options.file_limit,
         )?;
-        let Ok(notifier) = Notifier::new(alloc, keys) else {
-            return Err(mount.into_layers());
-        };
-        Ok(Watched { mount, notifier })
+        Ok(Watched {
+            mount,
+            notifier: Notifier::new(alloc),
+        })
     }
 
     /// Attaches a client with its hooks, which has all descriptors free, and gives its number. Out
@@ -97,10 +96,7 @@ impl<F: Callback, R: Rule> Watched<F, R> {
             }
         };
         match self.notifier.attach(alloc, client, hooks) {
-            Ok(()) => {
-                self.notifier.lawful();
-                Ok(client)
-            }
+            Ok(()) => Ok(client),
             Err(fault) => {
                 self.mount.take_back(client);
                 Err(fault)
@@ -120,12 +116,17 @@ impl<F: Callback, R: Rule> Watched<F, R> {
         ensures thin { StaysThin self.old.mount.layers self.new.mount.layers }
         ensures refused { (errno : Errno) → result ≡ Reply.Refused errno → self.new.mount.layers ≡ self.old.mount.layers }
     {
-        let bits = closing_of(self.mount.opened(client, descriptor));
+        let Some(handle) = self.mount.opened(client, descriptor) else {
+            return Reply::Refused(Errno::EBADF);
+        };
+        let bits = closing_of(handle);
+        let hold = handle.hold();
+        let is_lost = self.mount.clients.objects().is_lost(hold.object);
         let reply = self.mount.close(client, descriptor);
-        if let Some(bits) = bits {
-            self.notifier.closed(client, descriptor, bits);
-        }
-        self.notifier.lawful();
+        let ended = self.mount.end_of(Some(hold.object), is_lost);
+        self.notifier
+            .closed(&mut self.mount.clients, &hold, ended, bits);
+        self.mount.clients.lawful();
         reply
     }
 
@@ -165,12 +166,10 @@ impl<F: Callback, R: Rule> Watched<F, R> {
         ensures layers { KeepsPaths self.old.mount.layers self.new.mount.layers }
         ensures thin { StaysThin self.old.mount.layers self.new.mount.layers }
     {
-        let hooks = self.notifier.muted(client);
-        self.notifier.lawful();
+        let hooks = self.notifier.muted(&mut self.mount.clients, client);
+        self.mount.clients.lawful();
         self.shut_each(client);
         self.mount.depart(client);
-        self.notifier.depart(client);
-        self.notifier.lawful();
         hooks
     }
 }

@@ -4,7 +4,7 @@ ghost use Rattle.std.specs.Prelude.{IfOk, OnOk};
 ghost use Rattle.merged_lookup.specs.Merged.{lowers_of};
 ghost use Rattle.work_dir.specs.Beginnings.{Beginning};
 ghost use Rattle.work_dir.specs.declared.table.OpenJob.{OpenJob};
-ghost use Rattle.mount_calls.specs.Attaching.{is_attached};
+ghost use Rattle.open_handles.specs.Attaching.{is_attached};
 ghost use Rattle.mount_calls.specs.Keeping.{takes_no_memory};
 ghost use Rattle.mount_calls.specs.Lacks as lacks;
 ghost use Rattle.mount_calls.specs.Looking.{AreLooks};

@@ -1,7 +1,7 @@
 // What renames tell: both directories, what is replaced, and what moved.
 ghost use Rattle.std.specs.Prelude.{◌≡◌, true};
 ghost use Rattle.ov_base.specs.declared.call.CallOf.TheVariants as Call;
-ghost use Rattle.mount_calls.specs.Attaching.{is_attached};
+ghost use Rattle.open_handles.specs.Attaching.{is_attached};
 ghost use Rattle.mount_calls.specs.Looking.{IsLook};
 ghost use Rattle.overlay_core.specs.Performing.{Performs};
 ghost use Rattle.overlay_core.specs.Watching.{HasState};
@@ -9,6 +9,7 @@ ghost use Rattle.rename_redirect.specs.Judging.{MayMove};
 
 use crate::watched::Watched;
 use mount_calls::Look;
+use notice_laws::Object;
 use ov_base::{Path, Reply};
 use rename_redirect::JudgedRename;
 use std::alloc::AllocError;
@@ -34,21 +35,24 @@ impl<F: Callback, R: Rule> Watched<F, R> {
             moving }
         ensures { Performs R.shows client (Call.Rename old.now new.now) self.old self.new result }
     {
+        self.notifier.may_move()?;
         let object = self.mount.object_seen(from);
-        let replaced = self.mount.object_seen(onto);
-        self.notifier.lawful();
-        let prepared = self.notifier.prepare_move(old, new, object);
-        self.notifier.lawful();
-        prepared?;
-        match self.mount.rename_moving(old, new, onto, moving) {
+        let over = self.mount.object_seen(onto);
+        let course = self.mount.prepare_move(old, new, object, over)?;
+        match self.mount.rename_moving(old, new, onto, moving, &course) {
             Ok(key) => {
-                self.notifier.moved(old, new, object, replaced, key);
-                self.notifier.lawful();
+                match object {
+                    Object::Directory => (),
+                    _ => self.mount.move_file(&course, key),
+                }
+                self.mount.lead_ways(&course);
+                self.notifier.moved(&mut self.mount.clients, &course);
+                self.mount.clients.lawful();
                 Ok(Reply::Done)
             }
             Err(fault) => {
-                self.notifier.cancel_move();
-                self.notifier.lawful();
+                self.mount.cancel_move(&course);
+                self.mount.clients.lawful();
                 Err(fault)
             }
         }

@@ -3,15 +3,16 @@ ghost use Rattle.std.specs.Prelude.{◌≡◌, None, true};
 ghost use Rattle.std.specs.Result.{result_err};
 ghost use Rattle.ov_base.specs.declared.call.CallOf.TheVariants as Call;
 ghost use Rattle.ov_base.specs.Targets.{target_of};
-ghost use Rattle.mount_calls.specs.Attaching.{is_attached};
+ghost use Rattle.open_handles.specs.Attaching.{is_attached};
 ghost use Rattle.mount_calls.specs.JudgedNames.{IsMakeable, IsRemovable, IsUnlinkable};
 ghost use Rattle.mount_calls.specs.Looking.{IsLook};
 ghost use Rattle.overlay_core.specs.Performing.{Performs};
 ghost use Rattle.overlay_core.specs.Watching.{HasState};
 
 use crate::watched::Watched;
-use merged_lookup::Stack;
+use merged_lookup::{Stack, Topmost};
 use mount_calls::Look;
+use notice_laws::Object;
 use notifier::{CREATE, ISDIR};
 use ov_base::{Bytes, Mode, Path, Place, Reply};
 use std::alloc::AllocError;
@@ -31,8 +32,10 @@ impl<F: Callback, R: Rule> Watched<F, R> {
         ensures { Performs R.shows client (Call.Mkdir path.now mode) self.old self.new result }
     {
         self.mount.mkdir(path, directory, mode)?;
-        self.notifier.made(path, CREATE + ISDIR);
-        self.notifier.lawful();
+        let way = self.mount.clients.way_to(path);
+        self.notifier
+            .made(&mut self.mount.clients, &way, CREATE + ISDIR);
+        self.mount.clients.lawful();
         Ok(Reply::Done)
     }
 
@@ -51,8 +54,9 @@ impl<F: Callback, R: Rule> Watched<F, R> {
             result }
     {
         self.mount.symlink(target, path, directory)?;
-        self.notifier.made(path, CREATE);
-        self.notifier.lawful();
+        let way = self.mount.clients.way_to(path);
+        self.notifier.made(&mut self.mount.clients, &way, CREATE);
+        self.mount.clients.lawful();
         Ok(Reply::Done)
     }
 
@@ -70,9 +74,14 @@ impl<F: Callback, R: Rule> Watched<F, R> {
         requires found { IsUnlinkable self.old.mount.layers path.now directory.now place }
         ensures { Performs R.shows client (Call.Unlink path.now) self.old self.new result }
     {
-        let object = self.mount.unlink_telling(path, directory, place)?;
-        self.notifier.unlinked(path, object);
-        self.notifier.lawful();
+        let object = self.mount.object_of(Topmost::Inode(place));
+        let known = self.mount.known_at(path, object);
+        let ended = self.mount.ended(known.number, object);
+        self.mount.unlink(path, directory, place, known.number)?;
+        self.mount.lose_name(known.number, object);
+        self.notifier
+            .unlinked(&mut self.mount.clients, &known, ended);
+        self.mount.clients.lawful();
         Ok(Reply::Done)
     }
 
@@ -91,9 +100,12 @@ impl<F: Callback, R: Rule> Watched<F, R> {
         requires found { IsRemovable self.old.mount.layers path.now directory.now }
         ensures { Performs R.shows client (Call.Rmdir path.now) self.old self.new result }
     {
-        self.mount.rmdir(path, look, directory)?;
-        self.notifier.removed(path);
-        self.notifier.lawful();
+        let known = self.mount.known_at(path, Object::Directory);
+        let ended = self.mount.ended(known.number, Object::Directory);
+        self.mount.rmdir(path, look, directory, known.number)?;
+        self.notifier
+            .removed(&mut self.mount.clients, &known.way, ended);
+        self.mount.clients.lawful();
         Ok(Reply::Done)
     }
 }

@@ -5,7 +5,7 @@ ghost use Rattle.plain_model.specs.Runs.{Called};
 ghost use Rattle.merged_lookup.specs.Merged.{upper_of, lowers_of};
 ghost use Rattle.notice_laws.specs.declared.object.Object.TheVariants as stands;
 ghost use Rattle.notice_laws.specs.Objects.{IsObject};
-ghost use Rattle.mount_calls.specs.Attaching.{is_attached};
+ghost use Rattle.open_handles.specs.Attaching.{is_attached};
 ghost use Rattle.mount_calls.specs.Looking.{IsJudged, IsLook};
 ghost use Rattle.overlay_core.specs.Performing.{Performs};
 ghost use Rattle.overlay_core.specs.Watching.{Goes, HasState, Keeps, Stays};
@@ -39,20 +39,24 @@ impl<F: Callback, R: Rule> Watched<F, R> {
         ensures kept { Keeps (Call.Open path.now flags judged.mode) self.old.mount self.new.mount }
     {
         let descriptor = judged.descriptor;
-        self.notifier.lawful();
-        let prepared = self.notifier.prepare_open(client, descriptor, path, object);
-        self.notifier.lawful();
-        prepared?;
-        match self.mount.open_judged(client, path, look, flags, judged) {
+        let hold = self.mount.prepare_open(client, descriptor, path, object)?;
+        match self
+            .mount
+            .open_judged(client, path, look, flags, judged, &hold)
+        {
             Ok(()) => {
-                let key = self.mount.key_opened(client, descriptor);
-                self.notifier.opened(client, descriptor, object, key, flags);
-                self.notifier.lawful();
+                if flags.writes {
+                    let key = self.mount.key_opened(client, descriptor);
+                    self.mount.lift(Some(hold.object), object, key);
+                }
+                self.notifier
+                    .opened(&mut self.mount.clients, &hold, object, flags.truncate);
+                self.mount.clients.lawful();
                 Ok(())
             }
             Err(fault) => {
-                self.notifier.cancel_open(client, descriptor);
-                self.notifier.lawful();
+                self.mount.cancel_open(&hold);
+                self.mount.clients.lawful();
                 Err(fault)
             }
         }
@@ -78,20 +82,23 @@ impl<F: Callback, R: Rule> Watched<F, R> {
         ensures kept { Keeps (Call.Open path.now flags judged.mode) self.old.mount self.new.mount }
     {
         let descriptor = judged.descriptor;
-        self.notifier.lawful();
-        let prepared = self.notifier.prepare_new(client, descriptor, path);
-        self.notifier.lawful();
-        prepared?;
-        match self.mount.open_judged(client, path, look, flags, judged) {
+        let hold = self
+            .mount
+            .prepare_open(client, descriptor, path, Object::Other)?;
+        match self
+            .mount
+            .open_judged(client, path, look, flags, judged, &hold)
+        {
             Ok(()) => {
                 let key = self.mount.key_opened(client, descriptor);
-                self.notifier.opened_new(client, descriptor, key);
-                self.notifier.lawful();
+                self.mount.lift_new(hold.object, key);
+                self.notifier.opened_new(&mut self.mount.clients, &hold);
+                self.mount.clients.lawful();
                 Ok(())
             }
             Err(fault) => {
-                self.notifier.cancel_open(client, descriptor);
-                self.notifier.lawful();
+                self.mount.cancel_open(&hold);
+                self.mount.clients.lawful();
                 Err(fault)
             }
         }

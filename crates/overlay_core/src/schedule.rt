@@ -1,7 +1,7 @@
 // Jobs that are given steps in the order of a schedule.
 ghost use Rattle.std.specs.Prelude.{◌≡◌, ◌+◌, ◌<◌, ◌≤◌, ◌^◌, ℕ, false, None, IfOk, IfSome, OnErr, OnOk, slice_get, length, nat_eq, cond};
 ghost use Rattle.overlay_core.specs.Views.{CoreKeeps, CoreStays, core_clients, core_finished};
-ghost use Rattle.mount_calls.specs.Attaching.{KeepsAttached};
+ghost use Rattle.open_handles.specs.Attaching.{KeepsAttached};
 ghost use Rattle.overlay_core.specs.Drives.{Answers, Drives, DriveSteps, GivesNoStep, OneStep, PassesOver, answered, calls_of, count_some, is_due, one_if_some, open_count, replies_to, times};
 
 use crate::job::{Job, Standing};

@@ -9,7 +9,7 @@ ghost use Rattle.work_dir.specs.Beginnings.{Beginning};
 ghost use Rattle.work_dir.specs.OpenJobs.{job_at, Same, Changes};
 ghost use Rattle.work_dir.specs.declared.next.Lack.TheVariants as Lacking;
 ghost use Rattle.work_dir.specs.declared.table.OpenJob.{OpenJob};
-ghost use Rattle.mount_calls.specs.Attaching.{is_attached};
+ghost use Rattle.open_handles.specs.Attaching.{is_attached};
 ghost use Rattle.mount_calls.specs.Keeping.{takes_no_memory};
 ghost use Rattle.mount_calls.specs.Lacks as lacks;
 ghost use Rattle.mount_calls.specs.Lacks.{lack_size, CanBeHad};

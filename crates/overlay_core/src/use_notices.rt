@@ -3,7 +3,7 @@ ghost use Rattle.std.specs.Prelude.{◌≡◌, true, length, None, Ok, OnErr};
 ghost use Rattle.ov_base.specs.declared.call.CallOf.TheVariants as Call;
 ghost use Rattle.plain_model.specs.Machine.{State};
 ghost use Rattle.plain_model.specs.Refusals.{refusal};
-ghost use Rattle.mount_calls.specs.Attaching.{is_attached};
+ghost use Rattle.open_handles.specs.Attaching.{is_attached};
 ghost use Rattle.mount_calls.specs.Reading.{read_reply, KeepsRoom};
 ghost use Rattle.overlay_core.specs.Performing.{Performs};
 ghost use Rattle.overlay_core.specs.Watching.{Agrees, HasState};
@@ -32,8 +32,9 @@ impl<F: Callback, R: Rule> Watched<F, R> {
         let reply = self.mount.read(client, descriptor, count)?;
         if let Reply::Read(bytes) = &reply {
             if !bytes.as_slice().is_empty() {
-                self.notifier.used(client, descriptor, ACCESS);
-                self.notifier.lawful();
+                self.notifier
+                    .used(&mut self.mount.clients, client, descriptor, ACCESS);
+                self.mount.clients.lawful();
             }
         }
         Ok(reply)
@@ -57,8 +58,9 @@ impl<F: Callback, R: Rule> Watched<F, R> {
             Err(errno) => return Err(errno),
         };
         if count > 0 {
-            self.notifier.used(client, descriptor, ACCESS);
-            self.notifier.lawful();
+            self.notifier
+                .used(&mut self.mount.clients, client, descriptor, ACCESS);
+            self.mount.clients.lawful();
         }
         Ok(count)
     }
@@ -79,8 +81,9 @@ impl<F: Callback, R: Rule> Watched<F, R> {
         let reply = self.mount.write(client, descriptor, bytes)?;
         if let Reply::Written(_) = reply {
             if !bytes.as_slice().is_empty() {
-                self.notifier.used(client, descriptor, MODIFY);
-                self.notifier.lawful();
+                self.notifier
+                    .used(&mut self.mount.clients, client, descriptor, MODIFY);
+                self.mount.clients.lawful();
             }
         }
         Ok(reply)
@@ -102,8 +105,9 @@ impl<F: Callback, R: Rule> Watched<F, R> {
     {
         let reply = self.mount.truncate(client, descriptor, size)?;
         if let Reply::Done = reply {
-            self.notifier.used(client, descriptor, MODIFY);
-            self.notifier.lawful();
+            self.notifier
+                .used(&mut self.mount.clients, client, descriptor, MODIFY);
+            self.mount.clients.lawful();
         }
         Ok(reply)
     }

@@ -4,7 +4,7 @@ ghost use Rattle.ov_base.specs.declared.call.CallOf.TheVariants as Call;
 ghost use Rattle.plain_model.specs.Machine.{State};
 ghost use Rattle.plain_model.specs.Refusals.{refusal};
 ghost use Rattle.plain_model.specs.Runs.{Called};
-ghost use Rattle.mount_calls.specs.Attaching.{is_attached};
+ghost use Rattle.open_handles.specs.Attaching.{is_attached};
 ghost use Rattle.overlay_core.specs.Watching.{Agrees, Goes, HasState};
 
 use crate::watched::Watched;
@@ -27,8 +27,9 @@ impl<F: Callback, R: Rule> Watched<F, R> {
         if !self.notifier.has_watch(client, watch) {
             return Reply::Refused(Errno::EINVAL);
         }
-        self.notifier.disarmed(client, watch);
-        self.notifier.lawful();
+        self.notifier
+            .disarmed(&mut self.mount.clients, client, watch);
+        self.mount.clients.lawful();
         Reply::Done
     }
 

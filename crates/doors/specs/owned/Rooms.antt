@@ -1,8 +1,8 @@
 -- What room the history of a core has for the calls of a session.
 use Rattle.std.specs.Prelude.{◌≡◌, ℕ, ◌<◌, List, [], ◌∷◌}
 use Rattle.ov_base.specs.declared.errno.Errno.TheVariants.{ENOSPC}
-use Rattle.mount_calls.specs.Attaching.{Detaches, KeepsAttached}
-use Rattle.mount_calls.specs.declared.clients.Clients.{Clients}
+use Rattle.open_handles.specs.Attaching.{Detaches, KeepsAttached}
+use Rattle.open_handles.specs.declared.clients.Clients.{Clients}
 use Rattle.ov_frames.specs.declared.answer.Answer.TheVariants.{NotTaken}
 use Rattle.ov_session.specs.declared.exchange.Exchange.{Exchange}
 use Rattle.ov_session.specs.declared.exchange.Exchange.TheVariants.{Called, HeldBack, Departed}

@@ -2,7 +2,7 @@
 ghost use Rattle.std.specs.Prelude.{◌≡◌, ◌+◌, ◌<◌, ◌^◌, length, true};
 ghost use Rattle.ov_base.specs.declared.call.CallOf.TheVariants as Call;
 ghost use Rattle.plain_model.specs.Runs.{Called};
-ghost use Rattle.mount_calls.specs.Attaching.{KeepsAttached};
+ghost use Rattle.open_handles.specs.Attaching.{KeepsAttached};
 ghost use Rattle.mount_calls.specs.Keeping.{KeepsLayers};
 ghost use Rattle.mount_calls.specs.Reading.{read_reply, KeepsRoom};
 

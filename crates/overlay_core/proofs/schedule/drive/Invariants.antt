@@ -1,6 +1,6 @@
 use Rattle.std.proofs.Common.{◌≡◌, ℕ, ◌+◌, ◌≤◌, vec_len, slice_get, take, length}
 use Rattle.std.specs.Vec.{vec_capacity}
-use Rattle.mount_calls.specs.Attaching.{KeepsAttached}
+use Rattle.open_handles.specs.Attaching.{KeepsAttached}
 use Rattle.overlay_core.specs.Views.{CoreKeeps, core_clients, core_finished}
 use Rattle.overlay_core.specs.Drives.{calls_of, Drives, DriveSteps, open_count, answered, replies_to, times, GivesNoStep, PassesOver}
 use Rattle.overlay_core.proofs.schedule.drive.Given as goal

@@ -2,7 +2,7 @@ use Rattle.std.proofs.Common.{rules, arith, ◌≡◌, ◌∙◌, ◌≢◌, ℕ
 use Rattle.std.specs.BTreeMap.{btree_map_len, get}
 use Rattle.std.specs.Ordering.{nat_cmp}
 use Rattle.plain_model.specs.Runs as runs
-use Rattle.mount_calls.specs.Attaching.{Attaches}
+use Rattle.open_handles.specs.Attaching.{Attaches}
 use Rattle.overlay_core.specs.Views.{CoreGoes, client_count, core_clients}
 use Rattle.locked_history.specs.declared.entry.Deed.TheVariants.{Attached}
 use Rattle.overlay_core.proofs.LegalHistories.{legal_stays}

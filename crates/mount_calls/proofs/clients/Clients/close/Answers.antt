@@ -21,7 +21,7 @@ returns-in_default c =
 
 pub invariant_of-self : goal.invariant_of-self
 invariant_of-self c =
-    counts-same _ _ _ _ _ (becomes (goal.at.invariant_of-self c).After-take) c.args.self.now.directories c.args.self.now.files c.in_default.ensures.none
+    counts-same _ _ _ _ _ (becomes (goal.at.invariant_of-self c).After-take) c.args.self.now.objects.tree c.args.self.now.files c.in_default.ensures.none
     (record { located = λ j. refl; counted = λ j. refl }) (λ k. refl)
 
 pub close_handle-requires-clause-directories : goal.close_handle-requires-clause-directories
@@ -37,11 +37,11 @@ close_handle-requires-clause-files c =
 pub invariant_of-self-2 : goal.invariant_of-self-2
 invariant_of-self-2 c =
     let x = goal.at.invariant_of-self-2 c in
-    counts-closes _ _ _ _ _ (becomes x.After-take) c.args.descriptor c.in-Some.handle (stood x.In-Some) c.take.ensures.slot c.close_handle.new.directories c.close_handle.new.files c.close_handle.ensures.directories c.close_handle.ensures.files
+    counts-closes _ _ _ _ _ (becomes x.After-take) c.args.descriptor c.in-Some.handle (stood x.In-Some) c.take.ensures.slot c.close_handle.new.objects.tree c.close_handle.new.files c.close_handle.ensures.directories c.close_handle.ensures.files
 
 pub returns : goal.returns
 returns c =
     let x = goal.at.returns c in
     client-changes _ _ _ _ _ _ (becomes x.After-take)
     (record { closes = c.take.ensures.slot; was_open = stood x.In-Some; not_open = tt; refused = tt })
-    (placed-closes _ _ _ _ _ (becomes x.After-take) c.args.descriptor c.in-Some.handle (stood x.In-Some) c.take.ensures.slot c.close_handle.new.directories c.close_handle.new.files c.close_handle.ensures.directories c.close_handle.ensures.files) refl
+    (placed-closes _ _ _ _ _ (becomes x.After-take) c.args.descriptor c.in-Some.handle (stood x.In-Some) c.take.ensures.slot c.close_handle.new.objects.tree c.close_handle.new.files c.close_handle.ensures.directories c.close_handle.ensures.files) refl

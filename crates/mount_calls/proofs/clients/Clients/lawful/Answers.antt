@@ -1,7 +1,7 @@
 use Rattle.std.proofs.Common.{arith, ◌<◌}
 use Rattle.std.specs.BTreeMap.{get}
 use Rattle.std.specs.Ordering.{nat_cmp}
-use Rattle.open_handles.specs.declared.handle.Handle.TheVariants.{File}
+use Rattle.open_handles.specs.declared.handle.On.TheVariants.{File}
 use Rattle.mount_calls.specs.Held.{files_below}
 use Rattle.mount_calls.proofs.Counting.{file-find, file-some, has-client}
 use Rattle.mount_calls.proofs.clients.Clients.lawful.Goals as goal

@@ -13,10 +13,10 @@ becomes : (c : After-open-2) → Becomes c.args.self.now c.args.client c.unwrap.
 becomes c = record { was = search rules; is = search rules; others = search rules }
 
 -- what is opened and closed again stands as it stood
-undone : (c : After-open-2) (new : Dentries) → places.Closes c.«open».new.self new c.in-Ok.directory → SameHandles c.args.self.now.directories new
+undone : (c : After-open-2) (new : Dentries) → places.Closes c.«open».new.self new c.in-Ok.directory → SameHandles c.args.self.now.objects.tree new
 undone c new closes =
     let counted = c.lawful.ensures.counted c.in-Ok.directory in
-    open-and-close c.args.self.now.directories c.«open».new.self new c.args.path.now c.in-Ok.directory counted.0 counted.1 c.in-Ok.ensures.opens closes
+    open-and-close c.args.self.now.objects.tree c.«open».new.self new c.args.path.now c.in-Ok.directory counted.0 counted.1 c.in-Ok.ensures.opens closes
 
 pub open-requires-2 : goal.open-requires-2
 open-requires-2 c = lowest-slot c.args.self.now c.args.client c.args.descriptor c.unwrap.result.now (search rules) c.requires.free
@@ -36,7 +36,7 @@ returns-in-Ok-open c = record {
   stands = c.in-Ok.ensures.opens.located;
   changes =
       client-changes _ _ _ _ _ _ (becomes (goal.at.returns-in-Ok-open c).After-open-2) (rw c.in-Ok-open.is at c.open-2.ensures)
-      (λ b d o l there at. placed-opens c.args.self.now.directories c.«open».new.self c.args.path.now c.in-Ok.directory c.in-Ok.ensures.opens o.directory l at) refl;
+      (λ b d o l there at. placed-opens c.args.self.now.objects.tree c.«open».new.self c.args.path.now c.in-Ok.directory c.in-Ok.ensures.opens o.directory l at) refl;
 }
 
 pub returns-in-Err-open : goal.returns-in-Err-open

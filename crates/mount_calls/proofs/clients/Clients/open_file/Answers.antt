@@ -24,7 +24,7 @@ invariant_of-self-in-Ok c =
 
 pub invariant_of-self-in-Err : goal.invariant_of-self-in-Err
 invariant_of-self-in-Err c =
-    counts-same _ _ _ _ _ (becomes (goal.at.invariant_of-self-in-Err c).After-open) c.args.self.now.directories c.close_file.new.files (rw c.in-Err.is at c.open.ensures.err) (record { located = λ j. refl; counted = λ j. refl })
+    counts-same _ _ _ _ _ (becomes (goal.at.invariant_of-self-in-Err c).After-open) c.args.self.now.objects.tree c.close_file.new.files (rw c.in-Err.is at c.open.ensures.err) (record { located = λ j. refl; counted = λ j. refl })
     (hold-and-close c.args.self.now.files c.hold_file.new.files c.close_file.new.files c.args.file.source c.in_ok-hold_file.ensures.ok c.close_file.ensures)
 
 pub returns-in-Ok : goal.returns-in-Ok

@@ -3,7 +3,7 @@ use Rattle.std.proofs.lemmas.Int.{to_z-of_z}
 use mir.Syntax.{w64}
 use Rattle.ov_base.specs.declared.call.CallOf.TheVariants as call
 use Rattle.ov_base.specs.declared.reply.Reply.TheVariants as reply
-use Rattle.mount_calls.specs.Attaching.{opened_by}
+use Rattle.open_handles.specs.Attaching.{opened_by}
 use Rattle.mount_calls.specs.Opening.{seek_fault}
 use Rattle.mount_calls.proofs.MakingCalls.{attached-same, makes-read}
 use Rattle.mount_calls.proofs.Seeking.{seek-done, seek-refused}

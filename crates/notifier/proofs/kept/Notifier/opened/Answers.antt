@@ -1,6 +1,6 @@
 use Rattle.std.proofs.Common.{◌≡◌, ℕ, [], ◌++◌, Some, cond, is_some, sym, ap, subst, ◌∙◌}
 use Rattle.plain_model.specs.Watching.{MODIFY, OPEN}
-use Rattle.open_handles.specs.declared.tracked_client.TrackedHandle.{TrackedHandle}
+use Rattle.open_handles.specs.TrackedHandles.{TrackedHandle}
 use Rattle.open_handles.specs.TrackedHandles.{TrackedTables, SetsTracked}
 use Rattle.notice_laws.specs.Notified.{Notified}
 use Rattle.notice_laws.specs.Objects.{IsNumberOf}

@@ -1,6 +1,6 @@
 use Rattle.std.proofs.Common.{◌≡◌, List, ◌++◌, Some, is_some, sym, ap, subst, ◌∙◌}
 use Rattle.plain_model.specs.Watching.{CREATE, OPEN, Instance, AllHear}
-use Rattle.open_handles.specs.declared.tracked_client.TrackedHandle.{TrackedHandle}
+use Rattle.open_handles.specs.TrackedHandles.{TrackedHandle}
 use Rattle.object_table.specs.Objects.{Upper, spot_of}
 use Rattle.open_handles.specs.TrackedHandles.{TrackedTables, SetsTracked, tracked_by}
 use Rattle.notice_laws.specs.Notified.{Notified}

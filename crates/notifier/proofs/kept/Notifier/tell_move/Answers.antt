@@ -4,8 +4,10 @@ use Rattle.notifier.specs.Notifying.{IsTold}
 use Rattle.notifier.proofs.Told.{told-none}
 use Rattle.notifier.proofs.kept.Notifier.tell_move.Goals as goal
 
-pub returns-in_default : goal.returns-in_default
-returns-in_default g c =
+pub returns-in_default-clause-told : goal.returns-in_default-clause-told
+returns-in_default-clause-told g c =
     let shows = g.R.Rule.shows in
     let self = c.args.self.now in
-    subst (λ r. IsTold shows self self (in_way r c.args.bits c.args.cookie)) (sym c.in_default.is) (told-none shows self)
+    let clients = c.args.clients.now in
+    subst (λ r. IsTold shows clients clients self self (in_way r c.args.bits c.args.cookie)) (sym c.in_default.is)
+    (told-none shows clients self c.requires.counted)

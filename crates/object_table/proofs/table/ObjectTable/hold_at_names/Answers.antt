@@ -1,6 +1,6 @@
 use Rattle.std.proofs.Common.{reverse, refl, subst}
+use Rattle.std.specs.Prelude.{IfOk, OnErr}
 use Rattle.object_table.specs.Objects.{At, Objects, Holds, SameSpots}
-use Rattle.object_table.proofs.Walking.{on_err}
 use Rattle.object_table.proofs.Spots as spots
 use Rattle.object_table.proofs.Spots.{objects_by}
 use Rattle.object_table.proofs.table.ObjectTable.hold_at_names.Goals as goal
@@ -9,21 +9,17 @@ pub invariant_of-self : goal.invariant_of-self
 invariant_of-self c =
     let was = objects_by c.self.inside.tree c.self.inside.files in
     let new = objects_by c.open_names.new.self c.self.inside.files in
-    spots.filed-same was new c.self.invariant (spots.keys-same was new (spots.same-spots _ _ _ _ c.in_err-number.ensures.err)) (λ key. refl)
-
-pub invariant_of-self-2 : goal.invariant_of-self-2
-invariant_of-self-2 c =
-    let was = objects_by c.self.inside.tree c.self.inside.files in
-    let new = objects_by c.open_names.new.self c.self.inside.files in
-    spots.filed-same was new c.self.invariant (spots.keys-holds was new c.in_ok-number.number _ (spots.opens-holds _ _ _ _ (reverse c.args.names.now) c.in_ok-number.number c.in_ok-number.ensures.opens) (λ key e. cc)) (λ key. refl)
+    spots.filed-same was new c.self.invariant (spots.keys-result was new _ c.open_names.result
+    (λ k opens. spots.keys-holds was new k _ (spots.opens-holds _ _ _ _ (reverse c.args.names.now) k opens) (λ key e. cc))
+    c.open_names.ensures.opens (spots.OnErr-map c.open_names.result (spots.same-spots _ _ _ _) c.open_names.ensures.err)) (λ key. refl)
 
 pub returns-clause-holds : goal.returns-clause-holds
 returns-clause-holds c =
     let new = objects_by c.open_names.new.self c.self.inside.files in
-    subst (λ (t : Objects). Holds t new (At (reverse c.args.names.now)) c.in_ok-number.number) c.self.view_is
-    (spots.opens-holds _ _ _ _ (reverse c.args.names.now) c.in_ok-number.number c.in_ok-number.ensures.opens)
+    subst (λ (t : Objects). IfOk c.open_names.result (Holds t new (At (reverse c.args.names.now)))) c.self.view_is
+    (spots.IfOk-map c.open_names.result (λ k opens. spots.opens-holds _ _ _ _ (reverse c.args.names.now) k opens) c.open_names.ensures.opens)
 
-pub returns-in_err-number-clause-err : goal.returns-in_err-number-clause-err
-returns-in_err-number-clause-err c =
+pub returns-clause-err : goal.returns-clause-err
+returns-clause-err c =
     let new = objects_by c.open_names.new.self c.self.inside.files in
-    on_err c.from_residual.result (subst (λ (t : Objects). SameSpots t new) c.self.view_is (spots.same-spots _ _ _ _ c.in_err-number.ensures.err))
+    subst (λ (t : Objects). OnErr c.open_names.result (SameSpots t new)) c.self.view_is (spots.OnErr-map c.open_names.result (spots.same-spots _ _ _ _) c.open_names.ensures.err)

@@ -1,5 +1,5 @@
 use Rattle.std.proofs.Common.{◌≡◌, ◌≢◌, ◌≤◌, ◌-◌, ℕ, Some, None, IsSome, refl, sym, subst, ◌∙◌}
-use Rattle.object_table.specs.Opened.{holders}
+use Rattle.object_table.specs.Opened.{holders, opened}
 use Rattle.object_table.specs.Objects.{Upper, Objects, SetsSpot, spot_left, spot_of, holders_of}
 use Rattle.object_table.proofs.Spots as spots
 use Rattle.object_table.proofs.Spots.{objects_by}
@@ -66,3 +66,33 @@ unfolding holders_of
 returns-in_default-clause-releases c =
     let new = objects_by c.release.new.self c.self.inside.files in
     subst (λ (t : Objects). SetsSpot t new c.args.number (spot_left (holders_of t c.args.number - c.args.count) (spot_of t c.args.number)) (holders_of t c.args.number - c.args.count)) c.self.view_is (spots.holders-sets c.self.inside.tree c.release.new.self c.self.inside.files c.self.inside.files c.args.number _ c.release.ensures)
+
+pub returns-then-last-clause-place : goal.returns-then-last-clause-place
+unfolding holders_of
+returns-then-last-clause-place c = λ some.
+    let left = subst (λ (t : Objects). holders_of t c.args.number - c.args.count ≢ 0) (sym
+        c.self.view_is) some in
+    subst (λ (t : Objects). opened c.release.new.self c.args.number ≡
+        opened t.tree c.args.number) c.self.view_is
+    (spots.place-held c.self.inside.tree c.release.new.self c.self.inside.files
+        c.swap_remove.new.self c.args.number _ left c.release.ensures)
+
+pub returns-else-last-clause-place : goal.returns-else-last-clause-place
+unfolding holders_of
+returns-else-last-clause-place c = λ some.
+    let left = subst (λ (t : Objects). holders_of t c.args.number - c.args.count ≢ 0) (sym
+        c.self.view_is) some in
+    subst (λ (t : Objects). opened c.release.new.self c.args.number ≡
+        opened t.tree c.args.number) c.self.view_is
+    (spots.place-held c.self.inside.tree c.release.new.self c.self.inside.files
+        c.self.inside.files c.args.number _ left c.release.ensures)
+
+pub returns-in_default-clause-place : goal.returns-in_default-clause-place
+unfolding holders_of
+returns-in_default-clause-place c = λ some.
+    let left = subst (λ (t : Objects). holders_of t c.args.number - c.args.count ≢ 0) (sym
+        c.self.view_is) some in
+    subst (λ (t : Objects). opened c.release.new.self c.args.number ≡
+        opened t.tree c.args.number) c.self.view_is
+    (spots.place-held c.self.inside.tree c.release.new.self c.self.inside.files
+        c.self.inside.files c.args.number _ left c.release.ensures)

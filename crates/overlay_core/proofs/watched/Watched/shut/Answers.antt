@@ -1,7 +1,7 @@
 use Rattle.std.proofs.Common.{◌≡◌, Some, option_map, sym, ap, ◌∙◌, subst}
 use Rattle.notice_laws.specs.Notified.{AreKnown}
 use Rattle.notice_laws.specs.Steps.{Closed}
-use Rattle.mount_calls.specs.Attaching.{opened_by}
+use Rattle.open_handles.specs.Attaching.{opened_by}
 use Rattle.overlay_core.specs.Leaving.{closing}
 use Rattle.overlay_core.proofs.Leaving.{closing-from, closing-none, shuts-free, shuts-open, tracked-open}
 use Rattle.overlay_core.proofs.watched.Watched.shut.Goals as goal

@@ -1,6 +1,6 @@
 use Rattle.plain_model.specs.Machine.{State}
 use Rattle.copy_up.specs.Showing.{StaysThin}
-use Rattle.mount_calls.specs.Attaching.{KeepsOthers}
+use Rattle.open_handles.specs.Attaching.{KeepsOthers}
 use Rattle.mount_calls.specs.Living.{KeepsPaths}
 use Rattle.overlay_core.specs.Leaving.{Follows}
 use Rattle.overlay_core.proofs.Leaving.{ClosesBelow}
