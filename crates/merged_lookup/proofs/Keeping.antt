@@ -17,7 +17,7 @@ use Rattle.merged_lookup.specs.declared.found.Topmost.TheVariants as shown
 use Rattle.merged_lookup.specs.declared.kept.Kept.{Kept}
 use Rattle.merged_lookup.specs.declared.layers.Layers.{Layers}
 use Rattle.ov_base.specs.declared.place.Place.{Place}
-use Rattle.merged_lookup.specs.Merged.{trees, upper_of, layers_of, lowers_of, place_in, unless_cut, places_at, way_fault, IsTopmost}
+use Rattle.merged_lookup.specs.Merged.{trees, upper_of, layers_of, lowers_of, parent, place_in, unless_cut, places_at, way_fault, IsTopmost}
 use Rattle.merged_lookup.specs.Descent.{holds_in, places_from, descend, first, place_shown, leads, without_upper}
 use Rattle.merged_lookup.specs.Locating.{place_of}
 use Rattle.merged_lookup.specs.Passing.{directory_key, holds_under}
@@ -191,21 +191,42 @@ kept-first Ls (f ∷ entries) key k names e same right =
     let one : f ≡ (key, k) = cc in
     subst (λ ns. IsKept Ls (reverse ns) k) same (right key k (subst (Contains (f ∷ entries)) one (Contains-head f entries)))
 
--- and what the one before it shows
+-- the one before the most recently used is kept
+pub second-there : (entries : List (Vec Name × Kept)) (f d : Vec Name × Kept)
+    (rest : List (Vec Name × Kept)) → entries ≡ f ∷ d ∷ rest → Contains entries d
+second-there entries f d rest e =
+    subst (λ es. Contains es d) (sym e) (Contains-tail f (d ∷ rest) d (Contains-head d rest))
+
+-- and what it shows
 pub kept-second : (Ls : List Layer) (entries : List (Vec Name × Kept)) (f : Vec Name × Kept) (key : Vec Name) (k : Kept) (rest : List (Vec Name × Kept)) (names : List Name) →
     entries ≡ f ∷ (key, k) ∷ rest → key.items ≡ names → AllKept Ls entries → IsKept Ls (reverse names) k
 kept-second Ls entries f key k rest names e same right =
-    let there : Contains (f ∷ (key, k) ∷ rest) (key, k) = Contains-tail f ((key, k) ∷ rest) (key, k) (Contains-head (key, k) rest) in
-    subst (λ ns. IsKept Ls (reverse ns) k) same (right key k (subst (λ es. Contains es (key, k)) (sym e) there))
+    subst (λ ns. IsKept Ls (reverse ns) k) same
+    (right key k (second-there entries f (key, k) rest e))
 
 -- a key that is equal has the same names
 pub names-of : (names : List Name) (j : Vec Name) → pointwise (pointwise ◌==◌) names j.items ≡ true → names ≡ j.items
 names-of names j e = (names-decide names j.items).0 e
 
--- the places of a merged directory by what is kept for a name in it
+-- the places of a merged directory by those of the lower layers
+pub stack-over : (l : Layers) (p : Path) (dir : Option ℕ) (s places : List Place) →
+    HandsDown l.upper p dir → s ≡ places_at 1 (lowers_of l) p →
+    places ≡ place_in 0 dir ++ s → places ≡ places_at 0 (layers_of l) p
+stack-over l p dir s places down below is =
+    is ∙ ap (λ x. place_in 0 dir ++ x) below ∙ sym (kept-places l p dir down)
+
+-- and by what is kept for a name in it
 pub kept-stack : (l : Layers) (p : Path) (n : Name) (dir : Option ℕ) (k : Kept) (places : List Place) → HandsDown l.upper p dir → IsKept (lowers_of l) (n ∷ p) k →
     places ≡ place_in 0 dir ++ k.directory.items → places ≡ places_at 0 (layers_of l) p
-kept-stack l p n dir k places down kept is = is ∙ ap (λ s. place_in 0 dir ++ s) kept.directory ∙ sym (kept-places l p dir down)
+kept-stack l p n dir k places down kept is =
+    stack-over l p dir k.directory.items places down kept.directory is
+
+-- what is kept of a name in a directory has the directories of the lower layers there
+pub kept-beside : (Ls : List Layer) (entries : List (Vec Name × Kept)) (key : Vec Name) (k : Kept)
+    (n : Name) (p : Path) → AllKept Ls entries → Contains entries (key, k) →
+    reverse key.items ≡ n ∷ p → k.directory.items ≡ places_at 1 Ls p
+kept-beside Ls entries key k n p right there is =
+    (right key k there).directory ∙ ap (λ q. places_at 1 Ls (parent q)) is
 
 -- there is no fault on the way to it, where it has places
 pub kept-way : (l : Layers) (p : Path) (places : List Place) → places ≡ places_at 0 (layers_of l) p → 0 < length places → way_fault (layers_of l) p ≡ None
@@ -226,10 +247,22 @@ pub some-upper : (dir : Option ℕ) (s : List Place) → is_some dir ≡ true �
 some-upper None s h = absurd (false≢true h)
 some-upper (Some k) s h = omega arith
 
--- few directories are kept
+-- few directories of the lower layers stand at a path
+pub few-below : (l : Layers) (p : Path) (s : List Place) → s ≡ places_at 1 (lowers_of l) p →
+    length s < 17
+few-below l p s is =
+    omega (
+      arith,
+      ap length is,
+      length-places 1 (lowers_of l) p,
+      length-map l.lowers.items layer_of,
+      l.few_lowers,
+      l.lowers.ok.0,
+    )
+
+-- so few are kept
 pub kept-few : (l : Layers) (p : Path) (n : Name) (k : Kept) → IsKept (lowers_of l) (n ∷ p) k → length k.directory.items < 17
-kept-few l p n k kept =
-    omega (arith, ap length kept.directory, length-places 1 (lowers_of l) p, length-map l.lowers.items layer_of, l.few_lowers, l.lowers.ok.0)
+kept-few l p n k kept = few-below l p k.directory.items kept.directory
 
 -- the places of the lower layers among those of a directory that the upper hands down
 pub handed-places : (l : Layers) (p : Path) (dir : Option ℕ) (s : List Place) → HandsDown l.upper p dir → s ≡ places_at 0 (layers_of l) p →

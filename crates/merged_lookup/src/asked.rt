@@ -11,6 +11,8 @@ pub(crate) struct Asked {
     key: u64,
     words: Vec<u64>,
     marks: usize,
+    // The hash of the directory in which they stood the last time.
+    last: Option<u64>,
 }
 
 impl Asked {
@@ -25,6 +27,7 @@ impl Asked {
             key,
             words,
             marks: 0,
+            last: None,
         })
     }
 
@@ -37,7 +40,7 @@ impl Asked {
     }
 
     // Whether these names were asked for before; from now on they were.
-    pub(crate) fn again(&mut self, names: &[Name]) -> bool {
+    fn again(&mut self, names: &[Name]) -> bool {
         let hash = self.hash(names);
         let bit = 1u64 << (hash & 63);
         let Some(at) = (hash >> 6).checked_rem(self.words.len() as u64) else {
@@ -52,6 +55,21 @@ impl Asked {
         }
         self.mark(at as usize, bit);
         false
+    }
+
+    // Whether a look-up at these names is to be kept: they are asked for again, where that counts,
+    // or their directory is in a row, where none of it is near.
+    pub(crate) fn wants(&mut self, names: &[Name], again: bool, near: bool) -> bool {
+        again && self.again(names) || !near && self.in_a_row(names)
+    }
+
+    // Whether the names asked for before stood in the same directory.
+    fn in_a_row(&mut self, names: &[Name]) -> bool {
+        let Some((_, parents)) = names.split_last() else {
+            return false;
+        };
+        let hash = self.hash(parents);
+        self.last.replace(hash) == Some(hash)
     }
 
     fn is_marked(&self, at: usize, bit: u64) -> bool {

@@ -46,6 +46,8 @@ pub struct Layers {
     pub(crate) keeps: bool,
     // Whether a path of the call that is made now is among them.
     pub(crate) has_kept: bool,
+    // Whether another one of the directory of such a path may be.
+    pub(crate) has_near: bool,
     pub(crate) asked: Asked,
 }
 
@@ -108,6 +110,7 @@ impl Layers {
             kept,
             keeps: true,
             has_kept: false,
+            has_near: false,
             asked,
         })
     }
@@ -284,7 +287,7 @@ impl Layers {
             *places = kept.places;
             return Ok(shown);
         }
-        self.go_down(parents, places)?;
+        self.reach(parents, places)?;
         Ok(topmost(self, places.as_slice(), name))
     }
 
@@ -344,8 +347,28 @@ impl Layers {
         ensures refused { IfErr result (λ e. way_fault (layers_of self.now) (reverse names.now) ≡ Some e) }
     {
         let mut places = roots(self, 0);
-        self.go_down(names, &mut places)?;
+        self.reach(names, &mut places)?;
         Ok(Stack { places })
+    }
+
+    // From the roots to the directory that names lead to, by what is kept of it or name by name.
+    fn reach(&self, names: &[Name], places: &mut Places) -> Result<(), Errno>
+        requires roots { places.old.items ≡ places_at 0 (layers_of self.now) [] }
+        requires some { 0 < length places.old.items }
+        ensures way { OnOk result (way_fault (layers_of self.now) (reverse names.now) ≡ None) }
+        ensures reached { OnOk result
+            (places.new.items ≡ places_at 0 (layers_of self.now) (reverse names.now)) }
+        ensures some { OnOk result (0 < length places.new.items) }
+        ensures refused { IfErr result
+            (λ e. way_fault (layers_of self.now) (reverse names.now) ≡ Some e) }
+    {
+        match self.near(names) {
+            Some(near) => {
+                *places = near;
+                Ok(())
+            }
+            None => self.go_down(names, places),
+        }
     }
 
     // From the roots to the directory that names lead to, name by name as long as no more than one of

@@ -1,5 +1,6 @@
 // Look-ups in the lower layers that are kept, and answers by them.
-ghost use Rattle.std.specs.Prelude.{◌≡◌, ◌≤◌, ◌∷◌, [], ℕ, Option, IfSome, IfOk, None, reverse};
+ghost use Rattle.std.specs.Prelude.{◌≡◌, ◌<◌, ◌≤◌, ◌∷◌, [], ℕ, List, Option, IfSome, IfOk};
+ghost use Rattle.std.specs.Prelude.{IsTrue, None, length, reverse};
 ghost use Rattle.merged_lookup.specs.Merged.{layers_of, parent, way_fault, IsStackOf, IsTopmost};
 
 use crate::descent::topmost;
@@ -41,20 +42,58 @@ impl Layers {
         if self.count() < KEPT_FROM {
             return;
         }
-        self.has_kept = self.is_remembered(alloc, path);
+        self.has_kept = false;
+        self.has_near = false;
+        self.note(alloc, path, true);
         if let Some(other) = other {
-            self.has_kept |= self.is_remembered(alloc, other);
+            self.note(alloc, other, true);
         }
     }
 
-    // Whether a look-up of this path is kept; from the second time on that it is asked for it is.
-    fn is_remembered(&mut self, alloc: Global, path: &Path) -> bool
+    /// The same for the path of a call that removes what it shows, which isn't asked for again.
+    pub fn recall(&mut self, alloc: Global, path: &Path)
         ensures { self.new ≡ self.old }
     {
-        if self.kept.promote(path.names()) {
-            return true;
+        if self.count() < KEPT_FROM {
+            return;
         }
-        self.asked.again(path.names()) && self.look_below(alloc, path)
+        self.has_kept = false;
+        self.has_near = false;
+        self.note(alloc, path, false);
+    }
+
+    // Notes whether a look-up of a path is kept, or one of its directory. One is from the second
+    // time on that the path is asked for, if it may be `again`, and where one path of a directory
+    // follows another.
+    fn note(&mut self, alloc: Global, path: &Path, again: bool)
+        ensures { self.new ≡ self.old }
+    {
+        let Some((_, parents)) = path.split_last() else {
+            return;
+        };
+        if self.promote(path) {
+            self.has_kept = true;
+            return;
+        }
+        let near = parents.is_empty() || self.beside(parents).is_some();
+        self.has_near |= near;
+        if self.is_wanted(path, again, near) && self.look_below(alloc, path) {
+            self.has_kept = true;
+        }
+    }
+
+    // Whether a look-up of a path is to be kept, where one of its directory is `near` or not.
+    fn is_wanted(&mut self, path: &Path, again: bool, near: bool) -> bool
+        ensures { self.new ≡ self.old }
+    {
+        self.asked.wants(path.names(), again, near)
+    }
+
+    // Makes the look-up that is kept of a path the latest, if there is one.
+    fn promote(&mut self, path: &Path) -> bool
+        ensures { self.new ≡ self.old }
+    {
+        self.kept.promote(path.names())
     }
 
     // Keeps what the lower layers show at a path, where the upper hands it down as it is and there
@@ -124,6 +163,45 @@ impl Layers {
         }
     }
 
+    // The places of the merged directory at these names, by what is kept of a name in it.
+    pub(crate) fn near(&self, names: &[Name]) -> Option<Places>
+        ensures way { IfSome result
+            (λ _. way_fault (layers_of self.now) (reverse names.now) ≡ None) }
+        ensures reached { IfSome result
+            (λ places. places.items ≡ places_at 0 (layers_of self.now) (reverse names.now)) }
+        ensures some { IfSome result (λ places. 0 < length places.items) }
+    {
+        if !self.has_near || names.is_empty() {
+            return None;
+        }
+        let directory = self.beside(names)?;
+        let dir = handed_down(self.upper(), names)?;
+        let places = places_over(dir, directory);
+        if places.is_empty() {
+            return None;
+        }
+        Some(places)
+    }
+
+    // The lower directories at these names, where the look-up of a name in them is among the two
+    // that were used last.
+    fn beside(&self, names: &[Name]) -> Option<&Places>
+        ensures { IfSome result
+            (λ places. places.now.items ≡ places_at 1 (lowers_of self.now) (reverse names.now)) }
+    {
+        let mut entries = self.kept.iter();
+        let (key, kept) = entries.next()?;
+        if stand_in(key.as_slice(), names) {
+            return Some(&kept.directory);
+        }
+        let (key, kept) = entries.next()?;
+        if stand_in(key.as_slice(), names) {
+            Some(&kept.directory)
+        } else {
+            None
+        }
+    }
+
     // The merged directory of a path's last name and what it shows, by what is kept.
     pub(crate) fn kept_look(&self, path: &Path) -> Option<(Stack, Option<Topmost>)>
         ensures way { IfSome result (λ _. way_fault (layers_of self.now) (parent path.now) ≡ None) }
@@ -153,5 +231,15 @@ impl Layers {
             return None;
         }
         Some(topmost_over(self.upper(), dir, name, kept.shown))
+    }
+}
+
+// Whether the last of these names stands in this directory.
+fn stand_in(names: &[Name], directory: &[Name]) -> bool
+    ensures { IsTrue result → (name : List ℕ) × (reverse names.now ≡ name ∷ reverse directory.now) }
+{
+    match names.split_last() {
+        Some((_, parents)) => parents == directory,
+        None => false,
     }
 }

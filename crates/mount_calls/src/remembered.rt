@@ -21,9 +21,8 @@ impl Mount {
             | Call::Mkdir { path, .. }
             | Call::Symlink { path, .. }
             | Call::Open { path, .. }
-            | Call::Unlink { path }
-            | Call::Rmdir { path }
             | Call::Arm { path, .. } => self.layers.remember(self.alloc, path, None),
+            Call::Unlink { path } | Call::Rmdir { path } => self.layers.recall(self.alloc, path),
             Call::Hardlink { old, new } | Call::Rename { old, new } => {
                 self.layers.remember(self.alloc, old, Some(new));
             }

@@ -15,4 +15,4 @@ pub returns-2-clause-topmost : goal.returns-2-clause-topmost
 returns-2-clause-topmost c =
     let few : length (trees c.args.self.now) ≤ 17 = omega (arith, c.args.self.now.few_lowers) in
     subst (λ (p : Path). IsTopmost c.args.self.now p c.topmost.result) (sym c.in-Some.ensures)
-    (topmost-shown c.args.self.now c.as_slice.result.now c.in-Some.name.now few (reverse c.in-Some.parents.now) (c.as_slice.ensures.value ∙ c.in_ok-go_down.ensures.reached) c.topmost.result c.topmost.ensures.place c.topmost.ensures.directory)
+    (topmost-shown c.args.self.now c.as_slice.result.now c.in-Some.name.now few (reverse c.in-Some.parents.now) (c.as_slice.ensures.value ∙ c.in_ok-reach.ensures.reached) c.topmost.result c.topmost.ensures.place c.topmost.ensures.directory)
