@@ -3,3 +3,8 @@ pub mod TrackedClients
 pub mod TrackedUses
 pub mod TrackedWays
 pub mod Places
+pub mod Entries
+pub mod Counting
+pub mod Leading
+pub mod Holding
+pub mod Changing

@@ -16,8 +16,9 @@ use Rattle.open_handles.proofs.TrackedClients.{AreRising, place-slots, place-fro
 abbrev Slots : Type 0
 Slots = List (Option TrackedHandle)
 
--- a sum over changed elements
-sum_by-map : {X : Type 0} (f : X → ℕ) (h : X → X) (xs : List X) → sum_by f (map h xs) ≡ sum_by (λ x. f (h x)) xs
+-- a sum over what elements are made into
+pub sum_by-map : {X Y : Type 0} (f : Y → ℕ) (h : X → Y) (xs : List X) →
+    sum_by f (map h xs) ≡ sum_by (λ x. f (h x)) xs
 sum_by-map f h xs = fold-map (λ a x. a + f x) h 0 xs
 
 -- a list all of whose elements were changed in turn, put back in place of the old one

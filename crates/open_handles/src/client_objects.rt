@@ -12,7 +12,7 @@ ghost use Rattle.object_table.specs.declared.dentry.Unlisted.TheVariants as unli
 ghost use Rattle.open_handles.specs.Attaching.{beside, HoldsNoMore, HoldsOne, KeepsClients};
 ghost use Rattle.open_handles.specs.Attaching.{KeepsPlaces, LetsGo, SameBeside};
 ghost use Rattle.open_handles.specs.Holding.{HoldsBoth, HoldsMore, HoldsNew, HoldsWay, IsHeldWay};
-ghost use Rattle.open_handles.specs.Holding.{IsWayTo};
+ghost use Rattle.open_handles.specs.Holding.{IsWayTo, ReleasesWay};
 ghost use Rattle.open_handles.specs.TrackedHandles.{handle_uses, way_uses};
 
 use crate::clients::Clients;
@@ -208,6 +208,7 @@ impl Clients {
     fn release_way(&mut self, way: &Option<Way>)
         requires { (n : ℕ) → way_uses n way.now ≤ beside self.old n }
         ensures lets { LetsGo self.old self.new }
+        ensures releases { ReleasesWay self.old.objects self.new.objects way.now }
         ensures beside { (n : ℕ) → beside self.new n + way_uses n way.now ≡ beside self.old n }
     {
         if let Some(way) = way {
