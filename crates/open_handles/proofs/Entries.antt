@@ -1,17 +1,16 @@
 -- What the tables of attached clients have by client and descriptor, and how often they use a
 -- number after one client changed, came or went.
-use Rattle.std.proofs.Common.{◌≡◌, ◌≢◌, ◌∙◌, ℕ, zero, suc, ◌+◌, ◌<◌, ◌≤◌, Bool, cond, List, [], ◌∷◌}
-use Rattle.std.proofs.Common.{◌++◌, Option, None, Some, refl, sym, ap, subst, inl, inr, arith, map}
+use Rattle.std.proofs.Common.{◌≡◌, ◌≢◌, ◌∙◌, ℕ, zero, suc, ◌+◌, ◌<◌, Bool, cond, List, [], ◌∷◌}
+use Rattle.std.proofs.Common.{◌++◌, Option, None, Some, refl, sym, ap, inl, inr, arith, map}
 use Rattle.std.proofs.Common.{sum_by, filter, not, nat_eq, option_map, true, false}
 use Rattle.std.specs.Prelude.{is_some, unwrap_or}
 use Rattle.std.specs.Option.{option_and_then}
 use Rattle.std.specs.BTreeMap.{BTreeMap, IsOrdered, get, insert_entry, is_at}
 use Rattle.std.specs.List.{AllByRecursion}
-use Rattle.std.specs.List.Sorted.{IsStrictlySortedBy}
 use Rattle.std.specs.Map.{keys_of, lookup, remove_entry, set_value, values_of}
 use Rattle.std.specs.Cmp.{eq_by_cmp_equiv, nat_cmp_is}
 use Rattle.std.specs.Ordering.{match_ordering, nat_cmp}
-use Rattle.std.specs.declared.cmp.Ordering.TheVariants.{Greater, Less}
+use Rattle.std.specs.declared.cmp.Ordering.TheVariants.{Greater}
 use Rattle.std.proofs.lemmas.Bool.{cases_Bool, cases_eq}
 use Rattle.std.proofs.lemmas.Cmp.{nat_cmp_total}
 use Rattle.std.proofs.lemmas.List.Elements.{recursion_from_All}
@@ -19,7 +18,6 @@ use Rattle.std.proofs.lemmas.List.Sums.{sum_by-cons}
 use Rattle.std.proofs.lemmas.Map.{keys-set_value}
 use Rattle.std.proofs.lemmas.Map.Entries.{sum_by-insert_entry, sum_by-remove_entry}
 use Rattle.std.proofs.lemmas.Map.Entries.{sum_by-set_value}
-use Rattle.std.proofs.lemmas.Map.Keys.{sorted_head, sorted_tail}
 use Rattle.std.proofs.lemmas.Map.Views.{All-keys_from_lookup}
 use Rattle.open_handles.specs.declared.descriptors.Descriptors.{Descriptors}
 use Rattle.open_handles.specs.declared.handle.Handle.{Handle}
@@ -29,7 +27,6 @@ use Rattle.open_handles.specs.Holding.{table_of, tables_in, uses_in}
 use Rattle.open_handles.specs.TrackedHandles.{SameTracked, SetsTracked, TrackedHandle}
 use Rattle.open_handles.specs.TrackedHandles.{TrackedTable, clients_of, slot_uses, slots_of}
 use Rattle.open_handles.specs.TrackedHandles.{tracked_by, uses}
-use Rattle.open_handles.proofs.TrackedClients.{AreRising}
 use Rattle.open_handles.proofs.TrackedUses.{none-uses_in}
 use Rattle.open_handles.proofs.TrackedWays.{sum_by-map}
 
@@ -103,23 +100,6 @@ tracked-read attached c d =
 pub clients-keys : (es : List (ℕ × Descriptors)) → clients_of (map table_of es) ≡ keys_of es
 clients-keys [] = refl
 clients-keys (e ∷ es) = ap (λ cs. e.0 ∷ cs) (clients-keys es)
-
--- the keys of a map in order rise
-pub keys-rise : (ks : List ℕ) → IsStrictlySortedBy nat_cmp ks → AreRising ks
-keys-rise [] sorted = tt
-keys-rise (k ∷ ks) sorted =
-    (above ks (sorted_head nat_cmp k ks sorted), keys-rise ks (sorted_tail nat_cmp k ks sorted))
-  where
-    above : (js : List ℕ) → AllByRecursion (λ j. nat_cmp k j ≡ Less) js →
-        AllByRecursion (λ j. k < j) js
-    above [] less = tt
-    above (j ∷ js) less = (grind (arith, less.0), above js less.1)
-
--- so do the clients of a map in order
-pub clients-rise : (attached : Attached) → IsOrdered nat_cmp attached →
-    AreRising (clients_of (tables_in attached))
-clients-rise attached ordered =
-    subst AreRising (sym (clients-keys attached.entries)) (keys-rise _ ordered)
 
 -- what the tables use is the sum of what the clients use
 pub uses-sum : (n : ℕ) (es : List (ℕ × Descriptors)) →

@@ -1,5 +1,4 @@
 pub mod Slots
-pub mod TrackedClients
 pub mod TrackedUses
 pub mod TrackedWays
 pub mod Places
@@ -8,3 +7,5 @@ pub mod Counting
 pub mod Leading
 pub mod Holding
 pub mod Changing
+pub mod Found
+pub mod Ways

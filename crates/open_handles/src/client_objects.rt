@@ -72,6 +72,7 @@ impl Clients {
         ensures room { room self.old.objects ≤ room self.new.objects }
         ensures err { OnErr result (HoldsNoMore self.old self.new) }
     {
+        self.objects.lawful();
         let number = self.objects.hold_at_names(names)?;
         match self.objects.hold(number, count - 1) {
             Ok(()) => Ok(number),
@@ -105,6 +106,7 @@ impl Clients {
         ensures room { room self.old.objects ≤ room self.new.objects }
         ensures err { OnErr result (HoldsNoMore self.old self.new) }
     {
+        self.objects.lawful();
         let way = self.hold_way(path)?;
         match self.hold_step(path, &way) {
             Ok(object) => Ok(Hold { object, way }),
@@ -126,6 +128,7 @@ impl Clients {
             beside self.new n ≡ beside self.old n + handle_uses n h) }
         ensures err { OnErr result (HoldsNoMore self.old self.new) }
     {
+        self.objects.lawful();
         let way = self.hold_way(path)?;
         match self.objects.hold_key(key) {
             Ok(object) => Ok(Hold { object, way }),
@@ -147,7 +150,9 @@ impl Clients {
         ensures room { room self.old.objects ≤ room self.new.objects }
         ensures err { OnErr result (HoldsNoMore self.old self.new) }
     {
+        self.objects.lawful();
         let way = self.hold_way(path)?;
+        self.objects.lawful();
         match self.objects.hold_new() {
             Ok(object) => Ok(Hold { object, way }),
             Err(fault) => {

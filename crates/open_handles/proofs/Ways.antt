@@ -1,0 +1,122 @@
+-- What holding the directory of a way, and letting it go, makes of the objects and the clients.
+use Rattle.std.proofs.Common.{◌≡◌, ◌≢◌, ◌∙◌, ℕ, ◌+◌, ◌≤◌, Option, None, Some, [], ◌∷◌, refl, sym, ap}
+use Rattle.std.proofs.Common.{subst, inl, inr, arith}
+use Rattle.std.proofs.lemmas.Bool.{cases_eq}
+use Rattle.plain_model.specs.Layers.{Path}
+use Rattle.object_table.specs.Objects.{At, Nowhere, Objects, SameSpots, SetsSpot, holders_of}
+use Rattle.object_table.specs.Objects.{spot_of}
+use Rattle.object_table.proofs.Spots.{none-opened}
+use Rattle.open_handles.specs.declared.clients.Clients.{Clients}
+use Rattle.open_handles.specs.declared.way.Way.{Way}
+use Rattle.open_handles.specs.Attaching.{KeepsClients, KeepsPlaces, LetsGo, beside}
+use Rattle.open_handles.specs.Holding.{HoldsWay, IsHeldWay, ReleasesWay}
+use Rattle.open_handles.specs.Listings.{directory_in}
+use Rattle.open_handles.specs.TrackedHandles.{way_uses}
+use Rattle.open_handles.proofs.Counting.{beside-less, holds-counted, only-same, release-counted}
+use Rattle.open_handles.proofs.Entries.{opened_at}
+use Rattle.open_handles.proofs.Holding.{IsCounted, at-there, hold-undone, lets-go, uses-kept}
+use Rattle.open_handles.proofs.Places.{Stay, stay-holds, stay-same}
+
+-- what stays over two steps of what is held stays over both
+pub places-then : (a b c : Clients) → KeepsClients b c → KeepsPlaces a b → KeepsPlaces b c →
+    KeepsPlaces a c
+places-then a b c clients first second e d o l there at =
+    second e d o l there (first e d o l (sym (ap (λ x. directory_in (opened_at x e d))
+        clients.attached) ∙ there) at)
+
+pub clients-then : (a b c : Clients) → KeepsClients a b → KeepsClients b c → KeepsClients a c
+clients-then a b c first second = record {
+  attached = second.attached ∙ first.attached;
+  next = second.next ∙ first.next;
+}
+
+pub spots-then : (a b c : Objects) → SameSpots a b → SameSpots b c → SameSpots a c
+spots-then a b c first second = record {
+  spots = λ n. second.spots n ∙ first.spots n;
+  holders = λ n. second.holders n ∙ first.holders n;
+  places = λ n. second.places n ∙ first.places n;
+}
+
+-- what is the same objects has the same spots
+pub spots-equal : (a b : Objects) → b ≡ a → SameSpots a b
+spots-equal a b same = subst (λ t. SameSpots a t) (sym same)
+    (record { spots = λ n. refl; holders = λ n. refl; places = λ n. refl })
+
+-- the directory of a way is held once more
+pub way-counted : (old new : Objects) (p : Path) (r : Option Way) → HoldsWay old new p r →
+    (n : ℕ) → holders_of new n ≡ holders_of old n + way_uses n r
+way-counted old new [] r holds n =
+    let none : way_uses n r ≡ 0 = ap (way_uses n) holds.0 in
+    omega (arith, none, holds.1.holders n)
+way-counted old new (x ∷ p) None holds n = absurd holds
+way-counted old new (x ∷ p) (Some w) holds n =
+    holds-counted old new (At p) w.directory holds.0 n
+
+-- all else stands where it stood
+pub way-stay : (old new : Objects) (p : Path) (r : Option Way) → HoldsWay old new p r →
+    Stay old new
+way-stay old new [] r holds = stay-same old new holds.1
+way-stay old new (x ∷ p) None holds = absurd holds
+way-stay old new (x ∷ p) (Some w) holds =
+    stay-holds old new (At p) w.directory (at-there p) holds.0
+
+-- the way is held then
+pub way-held : (old new : Objects) (p : Path) (r : Option Way) → HoldsWay old new p r →
+    IsHeldWay new p r
+way-held old new [] r holds = holds.0
+way-held old new (x ∷ p) None holds = absurd holds
+way-held old new (x ∷ p) (Some w) holds = (holds.0.sets.here, holds.1)
+
+-- a way that is held and let go again leaves all as it was
+pub way-undone : (a b c d : Objects) (p : Path) (r : Option Way) → IsCounted a →
+    HoldsWay a b p r → SameSpots b c → ReleasesWay c d r → SameSpots a d
+way-undone a b c d [] r counted holds same releases =
+    let kept : d ≡ c = subst (λ (o : Option Way). ReleasesWay c d o) holds.0 releases in
+    spots-then a b d holds.1 (spots-then b c d same (spots-equal c d kept))
+way-undone a b c d (x ∷ p) None counted holds same releases = absurd holds
+way-undone a b c d (x ∷ p) (Some w) counted holds same releases =
+    hold-undone a b c d (At p) w.directory (at-there p) counted holds.0 same releases
+
+-- what is let go of a way is counted once less
+pub way-released : (old new : Objects) (r : Option Way) → ReleasesWay old new r →
+    ((n : ℕ) → way_uses n r ≤ holders_of old n) → (n : ℕ) →
+    holders_of new n + way_uses n r ≡ holders_of old n
+way-released old new None releases enough n =
+    let same = ap (λ t. holders_of t n) releases in omega arith
+way-released old new (Some w) releases enough n =
+    let one = only-same w.directory 1 w.directory refl in
+    let some = enough w.directory in
+    release-counted old new w.directory 1 releases (omega (arith, one, some)) n
+
+-- only what was held for the way is let go
+pub way-lets-go : (old new : Clients) (r : Option Way) → KeepsClients old new →
+    ReleasesWay old.objects new.objects r → LetsGo old new
+way-lets-go old new None clients releases = record {
+  clients = clients;
+  fewer = λ n spot is. sym (ap (λ t. spot_of t n) releases) ∙ is;
+  places = λ c d o l there at. stay-same old.objects new.objects
+      (spots-equal old.objects new.objects releases) o.directory l at;
+}
+way-lets-go old new (Some w) clients releases =
+    lets-go old new clients w.directory 1 releases
+
+-- what is let go was held beside the handles
+pub way-beside : (old new : Clients) (r : Option Way) → KeepsClients old new →
+    ReleasesWay old.objects new.objects r → ((n : ℕ) → way_uses n r ≤ beside old n) → (n : ℕ) →
+    beside new n + way_uses n r ≡ beside old n
+way-beside old new r clients releases enough n =
+    beside-less old new n (way_uses n r) (uses-kept old new clients n)
+        (way-released old.objects new.objects r releases (λ m. most m) n)
+  where
+    most : (m : ℕ) → way_uses m r ≤ holders_of old.objects m
+    most m = let some = enough m in omega arith
+
+-- where a number that was nobody's is nowhere, all else stands where it stood
+pub stay-new : (old new : Objects) (n : ℕ) → spot_of old n ≡ None →
+    SetsSpot old new n (Some Nowhere) 1 → Stay old new
+stay-new old new n unknown sets m l at = elim (cases_eq m n) [
+  | inl e ↦
+      let no : None ≡ Some l = sym (none-opened old m (ap (spot_of old) e ∙ unknown)) ∙ at in
+      absurd (cc)
+  | inr off ↦ sets.other_places m off ∙ at
+]
