@@ -1,20 +1,20 @@
 -- How often objects are held, and how often beside the handles that use them, after some were held
 -- or let go.
 use Rattle.std.proofs.Common.{◌≡◌, ◌≢◌, ◌∙◌, ℕ, ◌+◌, ◌-◌, ◌<◌, ◌≤◌, cond, nat_eq, Option, None}
-use Rattle.std.proofs.Common.{Bool, true, false, Some, refl, sym, ap, subst, inl, inr, arith, ne_eqb, eq-eqb}
+use Rattle.std.proofs.Common.{◌↔◌, Bool, true, false, IsSome, Some, refl, sym, ap, subst, inl, inr}
+use Rattle.std.proofs.Common.{arith, ne_eqb, eq-eqb}
 use Rattle.std.proofs.lemmas.Bool.{cases_eq}
-use Rattle.object_table.specs.Objects.{AreFewer, Holds, Objects, SameSpots, SetsSpot, Spot}
+use Rattle.object_table.specs.Objects.{AreFewer, Holds, Objects, SetsSpot, Spot}
 use Rattle.object_table.specs.Objects.{holders_of, spot_of}
-use Rattle.object_table.specs.Opened.{Location}
 use Rattle.object_table.specs.Opened as places
 use Rattle.open_handles.specs.declared.clients.Clients.{Clients}
 use Rattle.open_handles.specs.declared.handle.Handle.{Handle}
-use Rattle.open_handles.specs.Attaching.{KeepsPlaces, SameBeside, beside, directory_by, opened_by}
+use Rattle.open_handles.specs.Attaching.{KeepsPlaces, beside, directory_by, opened_by}
 use Rattle.open_handles.specs.Attaching.{tables_of}
 use Rattle.open_handles.specs.Handles.{tracked_in, tracked_of}
 use Rattle.open_handles.specs.Holding.{Releases, uses_in}
 use Rattle.open_handles.specs.Listings.{OpenDirectory}
-use Rattle.open_handles.specs.TrackedHandles.{handle_uses, tracked_by, way_uses}
+use Rattle.open_handles.specs.TrackedHandles.{handle_uses}
 use Rattle.open_handles.proofs.Entries.{tracked-read}
 use Rattle.open_handles.proofs.Slots.{directory-is}
 use Rattle.open_handles.proofs.TrackedUses.{handle-le}
@@ -147,3 +147,15 @@ pub beside-same : (old new : Clients) (n : ℕ) →
     uses_in new.attached n ≡ uses_in old.attached n →
     holders_of new.objects n ≡ holders_of old.objects n → beside new n ≡ beside old n
 beside-same old new n uses holders = omega arith
+
+-- each number is known exactly while somebody holds it
+abbrev pub IsCounted : Objects → Type 0
+IsCounted t = (n : ℕ) → (spot_of t n ≡ None) ↔ (holders_of t n ≡ 0)
+
+-- so what is held is somewhere
+pub held-there : (t : Objects) (n : ℕ) → IsCounted t → 0 < holders_of t n → IsSome (spot_of t n)
+held-there t n counted held = by (spot_of t n) refl
+  where
+    by : (o : Option Spot) → spot_of t n ≡ o → IsSome o
+    by None is = let none = (counted n).0 is in absurd (omega arith)
+    by (Some x) is = refl

@@ -412,3 +412,16 @@ module _ (old new : Attached) (k : ℕ) (none : (d : ℕ) → opened_at old k d 
   pub goes-uses : (n : ℕ) → uses_in new n ≡ uses_in old n
   goes-uses n = omega (arith, uses-removed n k old new removed, none-uses n (get nat_cmp old k)
       none)
+
+-- who is there when a client went was there, and is another
+pub goes-rising : (old new : Attached) (k : ℕ) → get nat_cmp new k ≡ None →
+    ((m : ℕ) → m ≢ k → get nat_cmp new m ≡ get nat_cmp old m) → (n : ℕ) →
+    is_some (get nat_cmp new n) ≡ true → (n ≢ k) × (is_some (get nat_cmp old n) ≡ true)
+goes-rising old new k gone others n there = (apart, sym (ap (λ (o : Option Descriptors). is_some o)
+    (others n apart)) ∙ there)
+  where
+    apart : n ≢ k
+    apart e =
+        let no : false ≡ true = sym (ap (λ (o : Option Descriptors). is_some o)
+            (ap (get nat_cmp new) e ∙ gone)) ∙ there in
+        absurd (cc)

@@ -1,6 +1,6 @@
 -- Which client has a handle that passes a test, and how many handles came by a way.
-use Rattle.std.proofs.Common.{◌≡◌, ◌↔◌, ◌∙◌, ℕ, zero, suc, Bool, true, false, cond, List, [], ◌∷◌}
-use Rattle.std.proofs.Common.{Option, None, Some, count_by, map, nat_eq, eqb-true, eq-eqb, refl, sym}
+use Rattle.std.proofs.Common.{◌≡◌, ◌∙◌, ℕ, zero, suc, Bool, true, false, cond, List, [], ◌∷◌}
+use Rattle.std.proofs.Common.{Option, None, Some, count_by, map, eqb-true, eq-eqb, refl, sym}
 use Rattle.std.proofs.Common.{ap, sum_by}
 use Rattle.std.specs.Option.{option_and_then}
 use Rattle.std.specs.BTreeMap.{IsOrdered, get}
@@ -22,14 +22,14 @@ use Rattle.open_handles.specs.declared.open_file.FileSource.{FileSource}
 use Rattle.open_handles.specs.declared.open_file.FileSource.TheVariants.{Lower, Upper}
 use Rattle.open_handles.specs.declared.open_file.OpenFile.{OpenFile}
 use Rattle.open_handles.specs.declared.way.Way.{Way}
-use Rattle.open_handles.specs.Attaching.{HasFile, file_by}
+use Rattle.open_handles.specs.Attaching.{HasFile}
 use Rattle.open_handles.specs.Descriptors.{opened}
 use Rattle.open_handles.specs.Handles.{handle_came_by, handle_is_on, is_on_file, is_upper}
 use Rattle.open_handles.specs.Handles.{slot_has_file, tracked_in, tracked_of}
 use Rattle.open_handles.specs.Holding.{table_of, tables_in}
 use Rattle.open_handles.specs.Listings.{file_in, file_on}
 use Rattle.open_handles.specs.TrackedHandles.{IsOn, TrackedHandle, TrackedTable, handles_by}
-use Rattle.open_handles.specs.TrackedHandles.{slot_came_by, tracked_by}
+use Rattle.open_handles.specs.TrackedHandles.{slot_came_by}
 use Rattle.open_handles.proofs.Entries.{Attached, opened_at, tracked-read, tracked_slots}
 use Rattle.open_handles.proofs.Slots.{opened-read}
 use Rattle.open_handles.proofs.TrackedWays.{sum_by-map}

@@ -1,7 +1,6 @@
 -- What holding an object, and letting one go, makes of the clients.
-use Rattle.std.proofs.Common.{◌≡◌, ◌≢◌, ◌↔◌, ◌∙◌, ℕ, ◌+◌, ◌-◌, ◌<◌, ◌≤◌, cond, nat_eq, Option, None}
-use Rattle.std.proofs.Common.{Some, [], ◌∷◌, refl, sym, ap, subst, inl, inr, arith, ne_eqb, eq-eqb}
-use Rattle.std.proofs.Common.{Bool, true, false}
+use Rattle.std.proofs.Common.{◌≡◌, ◌≢◌, ◌∙◌, ℕ, ◌+◌, ◌-◌, ◌≤◌, cond, Option, None, Some, refl}
+use Rattle.std.proofs.Common.{sym, ap, inl, inr, arith, ne_eqb, eq-eqb, Result, Ok, Err, IfOk, OnErr}
 use Rattle.std.proofs.lemmas.Bool.{cases_eq}
 use Rattle.plain_model.specs.Layers.{Path}
 use Rattle.object_table.specs.Objects.{At, Holds, Nowhere, Objects, SameSpots, SetsSpot, Spot}
@@ -11,17 +10,11 @@ use Rattle.object_table.proofs.Spots.{location-spot, none-opened}
 use Rattle.open_handles.specs.declared.clients.Clients.{Clients}
 use Rattle.open_handles.specs.Attaching.{HoldsNoMore, HoldsOne, KeepsClients, LetsGo, SameBeside}
 use Rattle.open_handles.specs.Attaching.{beside}
-use Rattle.open_handles.specs.Holding.{HoldsWay, IsHeldWay, Releases, ReleasesWay, uses_in}
-use Rattle.open_handles.specs.TrackedHandles.{way_uses}
-use Rattle.open_handles.specs.declared.way.Way.{Way}
-use Rattle.open_handles.proofs.Counting.{HeldStay, beside-less, beside-more, held-places}
+use Rattle.open_handles.specs.Holding.{Releases, uses_in}
+use Rattle.open_handles.proofs.Counting.{IsCounted, beside-less, beside-more, held-places}
 use Rattle.open_handles.proofs.Counting.{holds-counted, only, release-counted, release-fewer}
 use Rattle.open_handles.proofs.Counting.{release-stay}
-use Rattle.open_handles.proofs.Places.{Stay, places-stay, stay-holds, stay-same, stay-then}
-
--- each number is known exactly while somebody holds it
-abbrev pub IsCounted : Objects → Type 0
-IsCounted t = (n : ℕ) → (spot_of t n ≡ None) ↔ (holders_of t n ≡ 0)
+use Rattle.open_handles.proofs.Places.{places-stay, stay-holds, stay-same}
 
 -- a path is somewhere, and so is a key
 pub at-there : (p : Path) → At p ≢ Nowhere
@@ -160,3 +153,32 @@ module _ (a b c d : Objects) (spot : Spot) (n : ℕ) (there : spot ≢ Nowhere)
         | inl was ↦ undone-there was
         | inr none ↦ undone-none none.1
       ]
+
+-- where an object was held once more, or all is as it was, each is held as often at least
+pub hold-more : {E : Type 0} (old new : Objects) (spot : Spot) (r : Result ℕ E) →
+    IfOk r (Holds old new spot) → OnErr r (SameSpots old new) → (n : ℕ) →
+    holders_of old n ≤ holders_of new n
+hold-more old new spot (Ok k) holds err n = omega (arith, holds-counted old new spot k holds n)
+hold-more old new spot (Err e) holds err n = omega (arith, err.holders n)
+
+-- where an object goes elsewhere and as many hold it, each is held as often
+pub moved-same : (old new : Objects) (n : ℕ) (spot : Option Spot) →
+    SetsSpot old new n spot (holders_of old n) → (m : ℕ) → holders_of new m ≡ holders_of old m
+moved-same old new n spot sets m = elim (cases_eq m n) [
+  | inl e ↦ ap (holders_of new) e ∙ sets.held ∙ sym (ap (holders_of old) e)
+  | inr off ↦ sets.other_holders m off
+]
+
+-- where each object is held as often, handles use no more than is held
+pub same-held : (old : Clients) (t : Objects) →
+    ((n : ℕ) → holders_of t n ≡ holders_of old.objects n) → (n : ℕ) →
+    uses_in old.attached n ≤ holders_of t n
+same-held old t same n = let enough = old.held n in let now = same n in omega arith
+
+-- and as much is held beside them
+pub beside-kept : (old new : Clients) → KeepsClients old new →
+    ((n : ℕ) → holders_of new.objects n ≡ holders_of old.objects n) → SameBeside old new
+beside-kept old new clients same n =
+    let used = uses-kept old new clients n in
+    let now = same n in
+    omega arith

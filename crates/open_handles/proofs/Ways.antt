@@ -1,20 +1,24 @@
 -- What holding the directory of a way, and letting it go, makes of the objects and the clients.
-use Rattle.std.proofs.Common.{◌≡◌, ◌≢◌, ◌∙◌, ℕ, ◌+◌, ◌≤◌, Option, None, Some, [], ◌∷◌, refl, sym, ap}
+use Rattle.std.proofs.Common.{◌≡◌, ◌∙◌, ℕ, ◌+◌, ◌≤◌, Option, None, Some, [], ◌∷◌, refl, sym, ap}
 use Rattle.std.proofs.Common.{subst, inl, inr, arith}
 use Rattle.std.proofs.lemmas.Bool.{cases_eq}
 use Rattle.plain_model.specs.Layers.{Path}
-use Rattle.object_table.specs.Objects.{At, Nowhere, Objects, SameSpots, SetsSpot, holders_of}
-use Rattle.object_table.specs.Objects.{spot_of}
+use Rattle.object_table.specs.Objects.{AreFewer, At, Nowhere, Objects, SameSpots, SetsSpot}
+use Rattle.object_table.specs.Objects.{holders_of, spot_of}
+use Rattle.object_table.specs.Opened as places
 use Rattle.object_table.proofs.Spots.{none-opened}
 use Rattle.open_handles.specs.declared.clients.Clients.{Clients}
+use Rattle.open_handles.specs.declared.handle.Hold.{Hold}
 use Rattle.open_handles.specs.declared.way.Way.{Way}
 use Rattle.open_handles.specs.Attaching.{KeepsClients, KeepsPlaces, LetsGo, beside}
-use Rattle.open_handles.specs.Holding.{HoldsWay, IsHeldWay, ReleasesWay}
+use Rattle.open_handles.specs.Holding.{HoldsWay, IsHeldWay, Releases, ReleasesWay}
 use Rattle.open_handles.specs.Listings.{directory_in}
-use Rattle.open_handles.specs.TrackedHandles.{way_uses}
-use Rattle.open_handles.proofs.Counting.{beside-less, holds-counted, only-same, release-counted}
+use Rattle.open_handles.specs.TrackedHandles.{handle_uses, way_uses}
+use Rattle.open_handles.proofs.Counting.{HeldStay, IsCounted, beside-less, fewer-then}
+use Rattle.open_handles.proofs.Counting.{held-stay-then, holds-counted, only, only-same}
+use Rattle.open_handles.proofs.Counting.{release-counted, release-fewer, release-stay}
 use Rattle.open_handles.proofs.Entries.{opened_at}
-use Rattle.open_handles.proofs.Holding.{IsCounted, at-there, hold-undone, lets-go, uses-kept}
+use Rattle.open_handles.proofs.Holding.{at-there, hold-undone, lets-go, uses-kept}
 use Rattle.open_handles.proofs.Places.{Stay, stay-holds, stay-same}
 
 -- what stays over two steps of what is held stays over both
@@ -35,6 +39,14 @@ spots-then a b c first second = record {
   spots = λ n. second.spots n ∙ first.spots n;
   holders = λ n. second.holders n ∙ first.holders n;
   places = λ n. second.places n ∙ first.places n;
+}
+
+-- what was let go in two steps was let go
+pub lets-then : (a b c : Clients) → LetsGo b c → LetsGo a b → LetsGo a c
+lets-then a b c second first = record {
+  clients = clients-then a b c first.clients second.clients;
+  fewer = fewer-then a.objects b.objects c.objects first.fewer second.fewer;
+  places = places-then a b c second.clients first.places second.places;
 }
 
 -- what is the same objects has the same spots
@@ -120,3 +132,49 @@ stay-new old new n unknown sets m l at = elim (cases_eq m n) [
       absurd (cc)
   | inr off ↦ sets.other_places m off ∙ at
 ]
+
+-- where the directory of a way is let go, each object that is there is where it was
+pub way-fewer : (old new : Objects) (r : Option Way) → ReleasesWay old new r → AreFewer old new
+way-fewer old new None releases n spot is = sym (ap (λ t. spot_of t n) releases) ∙ is
+way-fewer old new (Some w) releases = release-fewer old new w.directory 1 releases
+
+-- what is held still stands where it stood
+pub way-held-stay : (old new : Objects) (r : Option Way) → ReleasesWay old new r →
+    HeldStay old new
+way-held-stay old new None releases n held = ap (λ t. places.opened t.tree n) releases
+way-held-stay old new (Some w) releases = release-stay old new w.directory 1 releases
+
+-- what a handle holds is let go: its object, and then the directory of its way
+module _ (a b c : Objects) (h : Hold) (enough : (n : ℕ) → handle_uses n h ≤ holders_of a n)
+    (first : Releases a b h.object 1) where
+  -- the object is held at least once
+  pub hold-object : 1 ≤ holders_of a h.object
+  hold-object =
+      let one : only h.object 1 h.object ≡ 1 = only-same h.object 1 h.object refl in
+      let some = enough h.object in
+      omega (arith, one, some)
+
+  -- when it is let go, the directory of the way is still held for it
+  pub hold-way : (n : ℕ) → way_uses n h.way ≤ holders_of b n
+  hold-way n =
+      let some = enough n in
+      let less = release-counted a b h.object 1 first hold-object n in
+      omega arith
+
+  module _ (second : ReleasesWay b c h.way) where
+    -- each is counted less by what the handle used
+    pub hold-released : (n : ℕ) → holders_of c n + handle_uses n h ≡ holders_of a n
+    hold-released n =
+        let less = release-counted a b h.object 1 first hold-object n in
+        let left = way-released b c h.way second hold-way n in
+        omega arith
+
+    -- each that is there is where it was
+    pub hold-fewer : AreFewer a c
+    hold-fewer = fewer-then a b c (release-fewer a b h.object 1 first) (way-fewer b c h.way second)
+
+    -- each that is held still stands where it stood
+    pub hold-stay : HeldStay a c
+    hold-stay = held-stay-then a b c (release-stay a b h.object 1 first)
+        (way-held-stay b c h.way second) (λ n. let left = way-released b c h.way second hold-way n
+        in omega arith)
