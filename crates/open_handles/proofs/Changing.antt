@@ -241,11 +241,12 @@ closes-none old new c d x y b none same next objects places = record {
 length-remove_entry-le : (test : ℕ → Bool) (es : List (ℕ × Descriptors)) →
     length (remove_entry test es) ≤ length es
 length-remove_entry-le test [] = omega arith
-length-remove_entry-le test (e ∷ es) = by (test e.0)
+length-remove_entry-le test (e ∷ es) = by (length-remove_entry-le test es) (test e.0)
   where
-    by : (b : Bool) → length (cond b es (e ∷ remove_entry test es)) ≤ length (e ∷ es)
-    by true = omega arith
-    by false = let rest = length-remove_entry-le test es in omega arith
+    by : length (remove_entry test es) ≤ length es → (b : Bool) →
+        length (cond b es (e ∷ remove_entry test es)) ≤ length (e ∷ es)
+    by rest true = omega arith
+    by rest false = omega arith
 
 -- no more clients are attached when one went
 pub goes-few : (old : Clients) (new : Attached) (k : ℕ) →

@@ -50,14 +50,15 @@ client-with attached c d h is = by (get nat_cmp attached c) refl is
 any-value : (p : Descriptors → Bool) (test : ℕ → Bool) (es : List (ℕ × Descriptors))
     (x : Descriptors) → lookup test es ≡ Some x → p x ≡ true → list_any p (values_of es) ≡ true
 any-value p test [] x is passes = absurd (cc)
-any-value p test (e ∷ es) x is passes = by (test e.0) is
+any-value p test (e ∷ es) x is passes =
+    by (λ at. any-value p test es x at passes) (test e.0) is
   where
-    by : (b : Bool) → cond b (Some e.1) (lookup test es) ≡ Some x →
-        list_any p (values_of (e ∷ es)) ≡ true
-    by true at =
+    by : (lookup test es ≡ Some x → list_any p (values_of es) ≡ true) → (b : Bool) →
+        cond b (Some e.1) (lookup test es) ≡ Some x → list_any p (values_of (e ∷ es)) ≡ true
+    by rest true at =
         let same : e.1 ≡ x = cc in
         or_left (p e.1) (list_any p (values_of es)) (ap p same ∙ passes)
-    by false at = or_right (p e.1) (list_any p (values_of es)) (any-value p test es x at passes)
+    by rest false at = or_right (p e.1) (list_any p (values_of es)) (rest at)
 
 -- where a value passes, a client is found that has it
 value-found : (attached : Attached) → IsOrdered nat_cmp attached → (p : Descriptors → Bool) →

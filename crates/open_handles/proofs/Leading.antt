@@ -1,18 +1,27 @@
 -- The clients after their handles on an object by one way were led to another.
-use Rattle.std.proofs.Common.{◌≡◌, ◌∙◌, ℕ, zero, suc, Bool, true, false, cond, List, [], ◌∷◌, map}
-use Rattle.std.proofs.Common.{Option, None, Some, option_map, refl, sym, ap, subst}
+use Rattle.std.proofs.Common.{◌≡◌, ◌∙◌, ℕ, zero, suc, ◌+◌, ◌-◌, ◌≤◌, Bool, true, false, cond, List}
+use Rattle.std.proofs.Common.{[], ◌∷◌, map, Option, None, Some, option_map, refl, sym, ap, subst}
+use Rattle.std.proofs.Common.{arith, inl, inr}
 use Rattle.std.specs.Prelude.{is_some}
 use Rattle.std.specs.Option.{option_and_then}
 use Rattle.std.specs.Map.{lookup}
 use Rattle.std.specs.Map.Calls.{RetainsPairs}
+use Rattle.std.proofs.lemmas.Bool.{cases_eq}
+use Rattle.object_table.specs.Objects.{Objects, holders_of}
+use Rattle.open_handles.specs.declared.clients.Clients.{Clients}
 use Rattle.open_handles.specs.declared.descriptors.Descriptors.{Descriptors}
 use Rattle.open_handles.specs.declared.handle.Handle.{Handle}
 use Rattle.open_handles.specs.declared.way.Way.{Way}
+use Rattle.open_handles.specs.Attaching.{beside, tables_of}
 use Rattle.open_handles.specs.Descriptors.{opened}
 use Rattle.open_handles.specs.Handles.{handle_re_way, tracked_in, tracked_of}
-use Rattle.open_handles.specs.Holding.{table_of}
-use Rattle.open_handles.specs.TrackedHandles.{TrackedHandle, TrackedTable, came_by}
-use Rattle.open_handles.proofs.TrackedWays.{re_slot, re_table}
+use Rattle.open_handles.specs.Holding.{Releases, table_of, tables_in, uses_in}
+use Rattle.open_handles.specs.TrackedHandles.{TrackedHandle, TrackedTable, came_by, handles_by}
+use Rattle.open_handles.specs.TrackedHandles.{uses}
+use Rattle.open_handles.proofs.Counting.{only, only-other, only-same, release-counted}
+use Rattle.open_handles.proofs.Entries.{Attached}
+use Rattle.open_handles.proofs.Holding.{only-enough}
+use Rattle.open_handles.proofs.TrackedWays.{re_slot, re_table, uses-re_way}
 
 module _ (object : ℕ) (from to : Way) where
   -- a slot whose handle has the new way, if it had the old one
@@ -109,3 +118,56 @@ module _ (object : ℕ) (from to : Way) where
             Led (cond b (Some e.1) (lookup test es)) (cond b (Some w) (lookup test rest))
         by w first rest later true = (w, refl, first)
         by w first rest later false = later
+
+-- the handles on an object by one way were led to another, for whose directory enough was held
+module _ (old : Clients) (new : Attached) (object : ℕ) (from to : Way) (count : ℕ)
+    (tables : tables_in new ≡ map (re_table object from to) (tables_in old.attached))
+    (all : count ≡ handles_by (tables_of old) object from)
+    (enough : count ≤ beside old to.directory) where
+  -- the one directory is used as often less as the other more
+  lead-uses : (n : ℕ) → uses_in new n + only from.directory count n ≡
+      uses_in old.attached n + only to.directory count n
+  lead-uses n =
+      ap (λ ks. uses ks n + only from.directory count n) tables
+      ∙ ap (λ k. uses (map (re_table object from to) (tables_of old)) n + only from.directory k n)
+          all
+      ∙ uses-re_way object from to n (tables_of old)
+      ∙ ap (λ k. uses_in old.attached n + only to.directory k n) (sym all)
+
+  -- the one is held as often as it is let go
+  pub lead-most : count ≤ holders_of old.objects from.directory
+  lead-most = elim (cases_eq from.directory to.directory) [
+    | inl e ↦
+        let same : beside old from.directory ≡ beside old to.directory = ap (beside old) e in
+        omega arith
+    | inr off ↦
+        let changed = lead-uses from.directory in
+        let taken = only-same from.directory count from.directory refl in
+        let given = only-other to.directory count from.directory off in
+        let was = old.held from.directory in
+        omega arith
+  ]
+
+  module _ (t : Objects) (releases : Releases old.objects t from.directory count) where
+    -- it is let go as often
+    lead-less : (n : ℕ) → holders_of t n + only from.directory count n ≡ holders_of old.objects n
+    lead-less = release-counted old.objects t from.directory count releases lead-most
+
+    -- handles use no more than is held
+    pub lead-held : (n : ℕ) → uses_in new n ≤ holders_of t n
+    lead-held n =
+        let changed = lead-uses n in
+        let less = lead-less n in
+        let some = only-enough old to.directory count enough n in
+        let was = old.held n in
+        omega arith
+
+    -- the other directory is held as often less beside them
+    pub lead-beside : (n : ℕ) → holders_of t n - uses_in new n + only to.directory count n ≡
+        beside old n
+    lead-beside n =
+        let changed = lead-uses n in
+        let less = lead-less n in
+        let some = only-enough old to.directory count enough n in
+        let was = old.held n in
+        omega arith

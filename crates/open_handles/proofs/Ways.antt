@@ -10,7 +10,8 @@ use Rattle.object_table.proofs.Spots.{none-opened}
 use Rattle.open_handles.specs.declared.clients.Clients.{Clients}
 use Rattle.open_handles.specs.declared.handle.Hold.{Hold}
 use Rattle.open_handles.specs.declared.way.Way.{Way}
-use Rattle.open_handles.specs.Attaching.{KeepsClients, KeepsPlaces, LetsGo, beside}
+use Rattle.open_handles.specs.Attaching.{HoldsNoMore, KeepsClients, KeepsPlaces, LetsGo, SameBeside}
+use Rattle.open_handles.specs.Attaching.{beside}
 use Rattle.open_handles.specs.Holding.{HoldsWay, IsHeldWay, Releases, ReleasesWay}
 use Rattle.open_handles.specs.Listings.{directory_in}
 use Rattle.open_handles.specs.TrackedHandles.{handle_uses, way_uses}
@@ -18,7 +19,8 @@ use Rattle.open_handles.proofs.Counting.{HeldStay, IsCounted, beside-less, fewer
 use Rattle.open_handles.proofs.Counting.{held-stay-then, holds-counted, only, only-same}
 use Rattle.open_handles.proofs.Counting.{release-counted, release-fewer, release-stay}
 use Rattle.open_handles.proofs.Entries.{opened_at}
-use Rattle.open_handles.proofs.Holding.{at-there, hold-undone, lets-go, uses-kept}
+use Rattle.open_handles.proofs.Holding.{at-there, hold-undone, holds-no-more, lets-go}
+use Rattle.open_handles.proofs.Holding.{uses-kept}
 use Rattle.open_handles.proofs.Places.{Stay, stay-holds, stay-same}
 
 -- what stays over two steps of what is held stays over both
@@ -135,13 +137,13 @@ stay-new old new n unknown sets m l at = elim (cases_eq m n) [
 
 -- where the directory of a way is let go, each object that is there is where it was
 pub way-fewer : (old new : Objects) (r : Option Way) → ReleasesWay old new r → AreFewer old new
-way-fewer old new None releases n spot is = sym (ap (λ t. spot_of t n) releases) ∙ is
+way-fewer old new None releases = λ n spot is. sym (ap (λ t. spot_of t n) releases) ∙ is
 way-fewer old new (Some w) releases = release-fewer old new w.directory 1 releases
 
 -- what is held still stands where it stood
 pub way-held-stay : (old new : Objects) (r : Option Way) → ReleasesWay old new r →
     HeldStay old new
-way-held-stay old new None releases n held = ap (λ t. places.opened t.tree n) releases
+way-held-stay old new None releases = λ n held. ap (λ t. places.opened t.tree n) releases
 way-held-stay old new (Some w) releases = release-stay old new w.directory 1 releases
 
 -- what a handle holds is let go: its object, and then the directory of its way
@@ -178,3 +180,22 @@ module _ (a b c : Objects) (h : Hold) (enough : (n : ℕ) → handle_uses n h �
     hold-stay = held-stay-then a b c (release-stay a b h.object 1 first)
         (way-held-stay b c h.way second) (λ n. let left = way-released b c h.way second hold-way n
         in omega arith)
+
+-- where a way is held, handles use no more than is held
+pub way-more : (old new : Objects) (p : Path) (r : Option Way) → HoldsWay old new p r →
+    (n : ℕ) → holders_of old n ≤ holders_of new n
+way-more old new p r holds n = omega (arith, way-counted old new p r holds n)
+
+-- a way that was held is let go again: nothing more is held
+pub way-given_up : (a b c d : Clients) (p : Path) (r : Option Way) → IsCounted a.objects →
+    KeepsClients a d → HoldsWay a.objects b.objects p r → SameSpots b.objects c.objects →
+    ReleasesWay c.objects d.objects r → HoldsNoMore a d
+way-given_up a b c d p r counted clients holds same releases =
+    holds-no-more a d clients
+    (way-undone a.objects b.objects c.objects d.objects p r counted holds same releases)
+
+-- it is held beside the handles until then
+pub way-enough : (a b c : Clients) (r : Option Way) →
+    ((n : ℕ) → beside b n ≡ beside a n + way_uses n r) → SameBeside b c → (n : ℕ) →
+    way_uses n r ≤ beside c n
+way-enough a b c r more same n = let up = more n in let kept = same n in omega arith

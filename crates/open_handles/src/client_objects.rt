@@ -214,6 +214,7 @@ impl Clients {
         requires { (n : ℕ) → way_uses n way.now ≤ beside self.old n }
         ensures lets { LetsGo self.old self.new }
         ensures releases { ReleasesWay self.old.objects self.new.objects way.now }
+        ensures room { room self.old.objects ≤ room self.new.objects }
         ensures beside { (n : ℕ) → beside self.new n + way_uses n way.now ≡ beside self.old n }
     {
         if let Some(way) = way {

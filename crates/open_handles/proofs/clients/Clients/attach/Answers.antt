@@ -1,8 +1,8 @@
-use Rattle.std.proofs.Common.{arith, length, ap, refl, rules}
+use Rattle.std.proofs.Common.{◌-◌, ap, refl, rules}
 use Rattle.open_handles.specs.Descriptors.{opened}
 use Rattle.open_handles.specs.declared.descriptors.Descriptors.{Descriptors}
 use Rattle.std.specs.Option.{option_and_then}
-use Rattle.open_handles.proofs.Counting.{beside-same}
+use Rattle.object_table.specs.Objects.{holders_of}
 use Rattle.open_handles.proofs.Entries.{comes-clients, comes-fresh, comes-uses, none-slots}
 use Rattle.open_handles.proofs.clients.Clients.attach.Goals as goal
 
@@ -27,6 +27,6 @@ returns-clause-attached c =
       slots = none-slots old.attached new old.next
           (λ d. ap (option_and_then (λ (e : Descriptors). opened e.slots.items d)) fresh)
           (search rules) (search rules);
-      beside = λ n. beside-same old _ n (comes-uses old.attached new old.next c.new.result
-          old.rising c.new.ensures inserted c.in_ok-insert.ensures.was_ordered n) refl;
+      beside = λ n. ap (λ u. holders_of old.objects n - u) (comes-uses old.attached new old.next
+          c.new.result old.rising c.new.ensures inserted c.in_ok-insert.ensures.was_ordered n);
     }
