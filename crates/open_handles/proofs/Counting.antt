@@ -7,15 +7,15 @@ use Rattle.std.proofs.lemmas.Bool.{cases_eq}
 use Rattle.object_table.specs.Objects.{AreFewer, Holds, Objects, SetsSpot, Spot}
 use Rattle.object_table.specs.Objects.{holders_of, spot_of}
 use Rattle.object_table.specs.Opened as places
+use Rattle.object_table.specs.Opened.{Location}
 use Rattle.open_handles.specs.declared.clients.Clients.{Clients}
 use Rattle.open_handles.specs.declared.handle.Handle.{Handle}
-use Rattle.open_handles.specs.Attaching.{KeepsPlaces, beside, directory_by, opened_by}
-use Rattle.open_handles.specs.Attaching.{tables_of}
+use Rattle.open_handles.specs.Attaching.{KeepsPlaces, beside}
 use Rattle.open_handles.specs.Handles.{tracked_in, tracked_of}
-use Rattle.open_handles.specs.Holding.{Releases, uses_in}
-use Rattle.open_handles.specs.Listings.{OpenDirectory}
+use Rattle.open_handles.specs.Holding.{Releases, tables_in, uses_in}
+use Rattle.open_handles.specs.Listings.{OpenDirectory, directory_in}
 use Rattle.open_handles.specs.TrackedHandles.{handle_uses}
-use Rattle.open_handles.proofs.Entries.{tracked-read}
+use Rattle.open_handles.proofs.Entries.{Attached, opened_at, tracked-read}
 use Rattle.open_handles.proofs.Slots.{directory-is}
 use Rattle.open_handles.proofs.TrackedUses.{handle-le}
 
@@ -99,33 +99,35 @@ held-stay-then a b c first second fewer n held =
     second n held ∙ first n (let less = fewer n in omega arith)
 
 -- what a handle is on is used by it
-pub opened-uses : (clients : Clients) (c d : ℕ) (h : Handle) →
-    opened_by clients c d ≡ Some h → (n : ℕ) →
-    handle_uses n (tracked_of h) ≤ uses_in clients.attached n
-opened-uses clients c d h is n =
-    handle-le c d n (tables_of clients) (tracked_of h)
-    (tracked-read clients.attached c d ∙ ap tracked_in is)
+pub opened-uses : (attached : Attached) (c d : ℕ) (h : Handle) →
+    opened_at attached c d ≡ Some h → (n : ℕ) → handle_uses n (tracked_of h) ≤ uses_in attached n
+opened-uses attached c d h is n =
+    handle-le c d n (tables_in attached) (tracked_of h)
+    (tracked-read attached c d ∙ ap tracked_in is)
 
--- so it is held
-pub opened-held : (clients : Clients) (c d : ℕ) (h : Handle) →
-    opened_by clients c d ≡ Some h → 0 < holders_of clients.objects h.object
-opened-held clients c d h is =
+-- where handles use no more than is held, what one is on is held
+pub opened-held : (attached : Attached) (t : Objects) →
+    ((n : ℕ) → uses_in attached n ≤ holders_of t n) → (c d : ℕ) (h : Handle) →
+    opened_at attached c d ≡ Some h → 0 < holders_of t h.object
+opened-held attached t held c d h is =
     let one : only h.object 1 h.object ≡ 1 = only-same h.object 1 h.object refl in
-    let some = opened-uses clients c d h is h.object in
-    let enough = clients.held h.object in
+    let some = opened-uses attached c d h is h.object in
+    let enough = held h.object in
     omega (arith, one, some, enough)
 
--- a directory that a client has open is held
-pub directory-held : (clients : Clients) (c d : ℕ) (o : OpenDirectory) →
-    directory_by clients c d ≡ Some o → 0 < holders_of clients.objects o.directory
-directory-held clients c d o is =
-    let by = directory-is (opened_by clients c d) o is in
-    subst (λ n. 0 < holders_of clients.objects n) by.2 (opened-held clients c d by.0 by.1)
+-- so where what is held stays, each open directory does
+pub used-places : (attached : Attached) (old new : Objects) →
+    ((n : ℕ) → uses_in attached n ≤ holders_of new n) → HeldStay old new → (c d : ℕ)
+    (o : OpenDirectory) (l : Location) → directory_in (opened_at attached c d) ≡ Some o →
+    places.opened old.tree o.directory ≡ Some l → places.opened new.tree o.directory ≡ Some l
+used-places attached old new held stay c d o l there at =
+    let by = directory-is (opened_at attached c d) o there in
+    stay o.directory (subst (λ n. 0 < holders_of new n) by.2
+        (opened-held attached new held c d by.0 by.1)) ∙ at
 
--- where what is held stays, each open directory does
 pub held-places : (old new : Clients) → HeldStay old.objects new.objects → KeepsPlaces old new
-held-places old new stay c d o l there at =
-    stay o.directory (directory-held new c d o there) ∙ at
+held-places old new stay =
+    used-places new.attached old.objects new.objects new.held stay
 
 module _ (old new : Clients) (n k : ℕ) (same : uses_in new.attached n ≡ uses_in old.attached n)
     where

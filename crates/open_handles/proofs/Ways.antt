@@ -146,28 +146,37 @@ pub way-held-stay : (old new : Objects) (r : Option Way) → ReleasesWay old new
 way-held-stay old new None releases = λ n held. ap (λ t. places.opened t.tree n) releases
 way-held-stay old new (Some w) releases = release-stay old new w.directory 1 releases
 
--- what a handle holds is let go: its object, and then the directory of its way
-module _ (a b c : Objects) (h : Hold) (enough : (n : ℕ) → handle_uses n h ≤ holders_of a n)
-    (first : Releases a b h.object 1) where
-  -- the object is held at least once
-  pub hold-object : 1 ≤ holders_of a h.object
-  hold-object =
-      let one : only h.object 1 h.object ≡ 1 = only-same h.object 1 h.object refl in
-      let some = enough h.object in
-      omega (arith, one, some)
+-- what a handle holds is held: its object at least once, and the directory of its way
+pub hold-object : (t : Objects) (h : Hold) → ((n : ℕ) → handle_uses n h ≤ holders_of t n) →
+    1 ≤ holders_of t h.object
+hold-object t h enough =
+    let one : only h.object 1 h.object ≡ 1 = only-same h.object 1 h.object refl in
+    let some = enough h.object in
+    omega (arith, one, some)
 
-  -- when it is let go, the directory of the way is still held for it
+pub way-object : (t : Objects) (r : Option Way) (w : Way) → r ≡ Some w →
+    ((n : ℕ) → way_uses n r ≤ holders_of t n) → 1 ≤ holders_of t w.directory
+way-object t r w is enough =
+    let one : way_uses w.directory r ≡ 1 = ap (way_uses w.directory) is ∙ only-same w.directory 1
+        w.directory refl in
+    let some = enough w.directory in
+    omega (arith, one, some)
+
+-- it is let go: the object, and then the directory of the way
+module _ (a b : Objects) (h : Hold) (enough : (n : ℕ) → handle_uses n h ≤ holders_of a n)
+    (first : Releases a b h.object 1) where
+  -- when the object is let go, the directory of the way is still held for it
   pub hold-way : (n : ℕ) → way_uses n h.way ≤ holders_of b n
   hold-way n =
       let some = enough n in
-      let less = release-counted a b h.object 1 first hold-object n in
+      let less = release-counted a b h.object 1 first (hold-object a h enough) n in
       omega arith
 
-  module _ (second : ReleasesWay b c h.way) where
+  module _ (c : Objects) (second : ReleasesWay b c h.way) where
     -- each is counted less by what the handle used
     pub hold-released : (n : ℕ) → holders_of c n + handle_uses n h ≡ holders_of a n
     hold-released n =
-        let less = release-counted a b h.object 1 first hold-object n in
+        let less = release-counted a b h.object 1 first (hold-object a h enough) n in
         let left = way-released b c h.way second hold-way n in
         omega arith
 
@@ -180,22 +189,3 @@ module _ (a b c : Objects) (h : Hold) (enough : (n : ℕ) → handle_uses n h �
     hold-stay = held-stay-then a b c (release-stay a b h.object 1 first)
         (way-held-stay b c h.way second) (λ n. let left = way-released b c h.way second hold-way n
         in omega arith)
-
--- where a way is held, handles use no more than is held
-pub way-more : (old new : Objects) (p : Path) (r : Option Way) → HoldsWay old new p r →
-    (n : ℕ) → holders_of old n ≤ holders_of new n
-way-more old new p r holds n = omega (arith, way-counted old new p r holds n)
-
--- a way that was held is let go again: nothing more is held
-pub way-given_up : (a b c d : Clients) (p : Path) (r : Option Way) → IsCounted a.objects →
-    KeepsClients a d → HoldsWay a.objects b.objects p r → SameSpots b.objects c.objects →
-    ReleasesWay c.objects d.objects r → HoldsNoMore a d
-way-given_up a b c d p r counted clients holds same releases =
-    holds-no-more a d clients
-    (way-undone a.objects b.objects c.objects d.objects p r counted holds same releases)
-
--- it is held beside the handles until then
-pub way-enough : (a b c : Clients) (r : Option Way) →
-    ((n : ℕ) → beside b n ≡ beside a n + way_uses n r) → SameBeside b c → (n : ℕ) →
-    way_uses n r ≤ beside c n
-way-enough a b c r more same n = let up = more n in let kept = same n in omega arith
