@@ -1,16 +1,18 @@
 -- What the tables of attached clients have by client and descriptor, and how often they use a
 -- number after one client changed, came or went.
-use Rattle.std.proofs.Common.{◌≡◌, ◌≢◌, ◌∙◌, ℕ, zero, suc, ◌+◌, ◌<◌, Bool, cond, List, [], ◌∷◌}
+use Rattle.std.proofs.Common.{◌≡◌, ◌≢◌, ◌∙◌, ℕ, zero, suc, ◌+◌, ◌<◌, ◌≤◌, Bool, cond, List, [], ◌∷◌}
 use Rattle.std.proofs.Common.{◌++◌, Option, None, Some, refl, sym, ap, inl, inr, arith, map}
 use Rattle.std.proofs.Common.{sum_by, filter, not, nat_eq, option_map, true, false}
-use Rattle.std.specs.Prelude.{is_some, unwrap_or}
+use Rattle.std.specs.Prelude.{is_some, length, unwrap_or}
 use Rattle.std.specs.Option.{option_and_then}
-use Rattle.std.specs.BTreeMap.{BTreeMap, IsOrdered, get, insert_entry, is_at}
+use Rattle.std.specs.BTreeMap.{BTreeMap, IsOrdered, btree_map_len, get}
+use Rattle.std.specs.BTreeMap.{insert_entry, is_at}
 use Rattle.std.specs.List.{AllByRecursion}
 use Rattle.std.specs.Map.{keys_of, lookup, remove_entry, set_value, values_of}
 use Rattle.std.specs.Cmp.{eq_by_cmp_equiv, nat_cmp_is}
 use Rattle.std.specs.Ordering.{match_ordering, nat_cmp}
-use Rattle.std.specs.declared.cmp.Ordering.TheVariants.{Greater}
+use Rattle.std.specs.declared.cmp.Ordering.TheVariants.{Equal, Greater, Less}
+use Rattle.std.specs.declared.cmp.Ordering.{Ordering}
 use Rattle.std.proofs.lemmas.Bool.{cases_Bool, cases_eq}
 use Rattle.std.proofs.lemmas.Cmp.{nat_cmp_total}
 use Rattle.std.proofs.lemmas.List.Elements.{recursion_from_All}
@@ -395,6 +397,38 @@ module _ (old new : Attached) (k : ℕ) (y : Descriptors)
   comes-uses ordered n =
       let own : own_uses n y ≡ 0 = ap (λ s. sum_by (slot_uses n) (map tracked_in s)) none in
       omega (arith, uses-inserted n k old new y ordered comes-fresh inserted, own)
+
+-- the numbers are below the next one when one comes
+pub comes-rising : (old new : Attached) (k : ℕ) (y : Descriptors) →
+    ((j : ℕ) → is_some (get nat_cmp old j) ≡ true → j < k) →
+    ((m : ℕ) → m ≢ k → get nat_cmp new m ≡ get nat_cmp old m) → (n : ℕ) →
+    is_some (get nat_cmp new n) ≡ true → n < k + 1
+comes-rising old new k y above others n there = elim (cases_eq n k) [
+  | inl e ↦ omega arith
+  | inr off ↦
+      let below = above n (sym (ap (λ (o : Option Descriptors). is_some o) (others n off)) ∙
+          there) in
+      omega arith
+]
+
+-- at most one more is there
+entries-more : (es : List (ℕ × Descriptors)) (k : ℕ) (y : Descriptors) →
+    length (insert_entry nat_cmp es k y) ≤ length es + 1
+entries-more [] k y = omega arith
+entries-more (e ∷ es) k y = by (entries-more es k y) (nat_cmp k e.0)
+  where
+    by : length (insert_entry nat_cmp es k y) ≤ length es + 1 → (o : Ordering) →
+        length (match_ordering o ((k, y) ∷ e ∷ es) ((e.0, y) ∷ es) (e ∷ insert_entry nat_cmp es k
+            y)) ≤ length (e ∷ es) + 1
+    by rest Less = omega arith
+    by rest Equal = omega arith
+    by rest Greater = omega arith
+
+pub comes-few : (old new : Attached) (k : ℕ) (y : Descriptors) →
+    new.entries ≡ insert_entry nat_cmp old.entries k y →
+    btree_map_len new ≤ btree_map_len old + 1
+comes-few old new k y inserted =
+    omega (arith, ap length inserted, entries-more old.entries k y)
 
 -- a client goes that has nothing open
 module _ (old new : Attached) (k : ℕ) (none : (d : ℕ) → opened_at old k d ≡ None)

@@ -2,9 +2,9 @@
 use Rattle.std.proofs.Common.{◌≡◌, ◌∙◌, ℕ, ◌+◌, ◌≤◌, Option, None, Some, [], ◌∷◌, refl, sym, ap}
 use Rattle.std.proofs.Common.{subst, inl, inr, arith}
 use Rattle.std.proofs.lemmas.Bool.{cases_eq}
-use Rattle.plain_model.specs.Layers.{Path}
-use Rattle.object_table.specs.Objects.{AreFewer, At, Nowhere, Objects, SameSpots, SetsSpot}
-use Rattle.object_table.specs.Objects.{holders_of, spot_of}
+use Rattle.plain_model.specs.Layers.{Name, Path}
+use Rattle.object_table.specs.Objects.{AreFewer, At, Holds, Nowhere, Objects, SameSpots}
+use Rattle.object_table.specs.Objects.{SetsSpot, holders_of, spot_of}
 use Rattle.object_table.specs.Opened as places
 use Rattle.object_table.proofs.Spots.{none-opened}
 use Rattle.open_handles.specs.declared.clients.Clients.{Clients}
@@ -80,6 +80,16 @@ pub way-held : (old new : Objects) (p : Path) (r : Option Way) → HoldsWay old 
 way-held old new [] r holds = holds.0
 way-held old new (x ∷ p) None holds = absurd holds
 way-held old new (x ∷ p) (Some w) holds = (holds.0.sets.here, holds.1)
+
+-- a step from the directory of the way leads to the path
+pub step-holds : (old new : Objects) (p : Path) (r : Option Way) (x : Name) (q : Path) (w : Way)
+    (n : ℕ) → IsHeldWay old p r → r ≡ Some w → p ≡ x ∷ q → ((path : Path) →
+    spot_of old w.directory ≡ Some (At path) → Holds old new (At (x ∷ path)) n) →
+    Holds old new (At p) n
+step-holds old new p r x q w n held some split holds =
+    let way : IsHeldWay old (x ∷ q) (Some w) =
+        subst (λ y. IsHeldWay old y (Some w)) split (subst (IsHeldWay old p) some held) in
+    subst (λ y. Holds old new (At y) n) (sym split) (holds q way.0)
 
 -- a way that is held and let go again leaves all as it was
 pub way-undone : (a b c d : Objects) (p : Path) (r : Option Way) → IsCounted a →

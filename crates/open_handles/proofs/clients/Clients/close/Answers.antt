@@ -1,10 +1,8 @@
-use Rattle.std.proofs.Common.{◌≡◌, ◌≤◌, ℕ, Some, Ok, ap, refl, rules, subst, sym}
-use Rattle.object_table.specs.Objects.{holders_of}
+use Rattle.std.proofs.Common.{◌≡◌, Some, Ok, ap, refl, rules, subst, sym}
 use Rattle.open_handles.specs.Attaching.{ClosesHandle}
 use Rattle.open_handles.specs.Descriptors.{opened}
 use Rattle.open_handles.specs.Handles.{tracked_in, tracked_of}
 use Rattle.open_handles.specs.Holding.{Releases, ReleasesWay}
-use Rattle.open_handles.specs.TrackedHandles.{handle_uses}
 use Rattle.open_handles.proofs.Changing.{becomes-few, becomes-held, becomes-rising}
 use Rattle.open_handles.proofs.Changing.{closes-enough, closes-handle, closes-held, closes-none}
 use Rattle.open_handles.proofs.Entries.{Becomes}
@@ -28,12 +26,6 @@ becomes c = record {
 stood : (c : In-Some) → opened c.unwrap.result.now.slots.items c.args.descriptor ≡
     Some c.in-Some.handle
 stood c = sym c.in-Some.ensures.value
-
--- what its handle held is held
-enough : (c : In-Some) → (n : ℕ) → handle_uses n (tracked_of c.in-Some.handle) ≤
-    holders_of c.args.self.now.objects n
-enough c = closes-enough c.args.self.now _ _ c.args.descriptor _ _ c.in-Some.handle
-    (becomes c.After-take) (stood c) c.take.ensures.slot
 
 -- its object is let go
 first : (c : After-release) → Releases c.args.self.now.objects c.release.new.self
@@ -59,20 +51,26 @@ returns-in_default c =
 
 pub release-requires : goal.release-requires
 release-requires c =
-    let x = (goal.at.release-requires c).In-Some in
-    hold-object c.args.self.now.objects (tracked_of c.in-Some.handle) (enough x)
+    let x = goal.at.release-requires c in
+    hold-object c.args.self.now.objects (tracked_of c.in-Some.handle)
+        (closes-enough c.args.self.now _ _ c.args.descriptor _ _ c.in-Some.handle
+        (becomes x.After-take) (stood x.In-Some) c.take.ensures.slot)
 
 pub release-requires-in-Some-way : goal.release-requires-in-Some-way
 release-requires-in-Some-way c =
     let x = goal.at.release-requires-in-Some-way c in
+    let all = closes-enough c.args.self.now _ _ c.args.descriptor _ _ c.in-Some.handle
+        (becomes x.After-take) (stood x.In-Some) c.take.ensures.slot in
     way-object c.release.new.self c.in-Some.handle.way c.in-Some-way.way c.in-Some-way.is
-    (hold-way c.args.self.now.objects c.release.new.self (tracked_of c.in-Some.handle)
-        (enough x.In-Some) (first x.After-release))
+    (hold-way c.args.self.now.objects c.release.new.self (tracked_of c.in-Some.handle) all
+        (first x.After-release))
 
 pub invariant_of-self-in-Some-way : goal.invariant_of-self-in-Some-way
 invariant_of-self-in-Some-way c =
     let x = goal.at.invariant_of-self-in-Some-way c in
     let old = c.args.self.now in
+    let all = closes-enough old _ _ c.args.descriptor _ _ c.in-Some.handle (becomes x.After-take)
+        (stood x.In-Some) c.take.ensures.slot in
     let second : ReleasesWay c.release.new.self c.release-in-Some-way.new.self
         c.in-Some.handle.way = subst (ReleasesWay c.release.new.self
         c.release-in-Some-way.new.self) (sym c.in-Some-way.is) (record {
@@ -84,14 +82,16 @@ invariant_of-self-in-Some-way c =
       few = becomes-few old _ _ _ _ (becomes x.After-take);
       held = closes-held old _ _ c.args.descriptor _ _ c.in-Some.handle (becomes x.After-take)
           (stood x.In-Some) c.take.ensures.slot c.release-in-Some-way.new.self
-          (hold-released old.objects c.release.new.self (tracked_of c.in-Some.handle)
-          (enough x.In-Some) (first x.After-release) c.release-in-Some-way.new.self second);
+          (hold-released old.objects c.release.new.self (tracked_of c.in-Some.handle) all
+          (first x.After-release) c.release-in-Some-way.new.self second);
     }
 
 pub invariant_of-self-in_default-way : goal.invariant_of-self-in_default-way
 invariant_of-self-in_default-way c =
     let x = goal.at.invariant_of-self-in_default-way c in
     let old = c.args.self.now in
+    let all = closes-enough old _ _ c.args.descriptor _ _ c.in-Some.handle (becomes x.After-take)
+        (stood x.In-Some) c.take.ensures.slot in
     let second : ReleasesWay c.release.new.self c.release.new.self c.in-Some.handle.way =
         subst (ReleasesWay c.release.new.self c.release.new.self) (sym c.in_default-way.is) refl in
     record {
@@ -99,8 +99,8 @@ invariant_of-self-in_default-way c =
       few = becomes-few old _ _ _ _ (becomes x.After-take);
       held = closes-held old _ _ c.args.descriptor _ _ c.in-Some.handle (becomes x.After-take)
           (stood x.In-Some) c.take.ensures.slot c.release.new.self
-          (hold-released old.objects c.release.new.self (tracked_of c.in-Some.handle)
-          (enough x.In-Some) (first x.After-release) c.release.new.self second);
+          (hold-released old.objects c.release.new.self (tracked_of c.in-Some.handle) all
+          (first x.After-release) c.release.new.self second);
     }
 
 pub returns : goal.returns
@@ -109,7 +109,8 @@ returns c =
     let old = c.args.self.now in
     let handle = c.in-Some.handle in
     let one = c.release.new.self in
-    let all = enough x.In-Some in
+    let all = closes-enough old _ _ c.args.descriptor _ _ handle (becomes x.After-take)
+        (stood x.In-Some) c.take.ensures.slot in
     let let_go = first x.After-release in
     elim c.match-handle.branch [
       | in-Some-way w ↦
