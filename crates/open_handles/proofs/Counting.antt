@@ -60,7 +60,7 @@ module _ (old new : Objects) (n count : ℕ) (releases : Releases old new n coun
   release-counted enough m = elim (cases_eq m n) [
     | inl e ↦
         let here : holders_of new m ≡ holders_of old n - count = ap (holders_of new) e ∙
-            releases.sets.held in
+        releases.sets.held in
         let was : holders_of old m ≡ holders_of old n = ap (holders_of old) e in
         omega (arith, here, was, enough, only-same n count m e)
     | inr off ↦ omega (arith, releases.sets.other_holders m off, only-other n count m off)
@@ -69,7 +69,8 @@ module _ (old new : Objects) (n count : ℕ) (releases : Releases old new n coun
   -- each object that is there is where it was
   pub release-fewer : AreFewer old new
   release-fewer m spot is = elim (cases_eq m n) [
-    | inl e ↦ ap (spot_of old) e ∙ by (nat_eq (holders_of old n - count) 0) (sym releases.sets.here ∙ ap
+    | inl e ↦ ap (spot_of old) e ∙ by (nat_eq (holders_of old n - count) 0)
+        (sym releases.sets.here ∙ ap
         (spot_of new) (sym e) ∙ is)
     | inr off ↦ sym (releases.sets.other_spots m off) ∙ is
   ]
@@ -83,7 +84,7 @@ module _ (old new : Objects) (n count : ℕ) (releases : Releases old new n coun
   release-stay m held = elim (cases_eq m n) [
     | inl e ↦
         let here : holders_of new m ≡ holders_of old n - count = ap (holders_of new) e ∙
-            releases.sets.held in
+        releases.sets.held in
         ap (places.opened new.tree) e ∙ releases.place (λ none. absurd (omega arith))
         ∙ sym (ap (places.opened old.tree) e)
     | inr off ↦ releases.sets.other_places m off
@@ -123,26 +124,26 @@ pub used-places : (attached : Attached) (old new : Objects) →
 used-places attached old new held stay c d o l there at =
     let by = directory-is (opened_at attached c d) o there in
     stay o.directory (subst (λ n. 0 < holders_of new n) by.2
-        (opened-held attached new held c d by.0 by.1)) ∙ at
+    (opened-held attached new held c d by.0 by.1)) ∙ at
 
 pub held-places : (old new : Clients) → HeldStay old.objects new.objects → KeepsPlaces old new
 held-places old new stay =
     used-places new.attached old.objects new.objects new.held stay
 
-module _ (old new : Clients) (n k : ℕ) (same : uses_in new.attached n ≡ uses_in old.attached n)
-    where
-  -- where so many more hold an object and handles use it as before, so many more hold it beside
-  pub beside-more : holders_of new.objects n ≡ holders_of old.objects n + k →
-      beside new n ≡ beside old n + k
-  beside-more more = let enough = old.held n in omega arith
+-- where so many more hold an object and handles use it as before, so many more hold it beside
+pub beside-more : (old new : Clients) (n k : ℕ) →
+    uses_in new.attached n ≡ uses_in old.attached n →
+    holders_of new.objects n ≡ holders_of old.objects n + k → beside new n ≡ beside old n + k
+beside-more old new n k same more = let enough = old.held n in omega arith
 
-  -- and so many less
-  pub beside-less : holders_of new.objects n + k ≡ holders_of old.objects n →
-      beside new n + k ≡ beside old n
-  beside-less less =
-      let enough = old.held n in
-      let now = new.held n in
-      omega arith
+-- and so many less
+pub beside-less : (old new : Clients) (n k : ℕ) →
+    uses_in new.attached n ≡ uses_in old.attached n →
+    holders_of new.objects n + k ≡ holders_of old.objects n → beside new n + k ≡ beside old n
+beside-less old new n k same less =
+    let enough = old.held n in
+    let now = new.held n in
+    omega arith
 
 -- where an object is held as often, and used as often, it is held as often beside
 pub beside-same : (old new : Clients) (n : ℕ) →

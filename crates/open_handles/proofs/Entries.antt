@@ -118,8 +118,8 @@ pub uses-written : (n c : ℕ) (old new : Attached) (x y : Descriptors) →
 uses-written n c old new x y was written =
     let changed = sum_by-set_value (own_uses n) (is_at (nat_cmp c)) old.entries x y was in
     let after = ap (λ es. uses (map table_of es) n) written in
-    omega (arith, changed, after, uses-sum n old.entries, uses-sum n
-        (set_value (is_at (nat_cmp c)) old.entries y))
+    let all = uses-sum n (set_value (is_at (nat_cmp c)) old.entries y) in
+    omega (arith, changed, after, uses-sum n old.entries, all)
 
 -- where a client comes, its uses come in addition
 pub uses-inserted : (n c : ℕ) (old new : Attached) (y : Descriptors) → IsOrdered nat_cmp old →
@@ -129,8 +129,8 @@ uses-inserted n c old new y ordered fresh inserted =
     let changed = sum_by-insert_entry (own_uses n) nat_cmp_total old.entries c y ordered in
     let none = ap (λ (o : Option Descriptors). unwrap_or (option_map (own_uses n) o) 0) fresh in
     let after = ap (λ es. uses (map table_of es) n) inserted in
-    omega (arith, changed, none, after, uses-sum n old.entries, uses-sum n
-        (insert_entry nat_cmp old.entries c y))
+    let all = uses-sum n (insert_entry nat_cmp old.entries c y) in
+    omega (arith, changed, none, after, uses-sum n old.entries, all)
 
 -- what a client that may be attached uses
 abbrev pub uses_at : ℕ → Option Descriptors → ℕ
@@ -143,8 +143,8 @@ pub uses-removed : (n c : ℕ) (old new : Attached) →
 uses-removed n c old new removed =
     let changed = sum_by-remove_entry (own_uses n) (is_at (nat_cmp c)) old.entries in
     let after = ap (λ es. uses (map table_of es) n) removed in
-    omega (arith, changed, after, uses-sum n old.entries, uses-sum n
-        (remove_entry (is_at (nat_cmp c)) old.entries))
+    let all = uses-sum n (remove_entry (is_at (nat_cmp c)) old.entries) in
+    omega (arith, changed, after, uses-sum n old.entries, all)
 
 -- the slots after the first
 abbrev rest : Slots → Slots
@@ -179,7 +179,7 @@ module _ (n : ℕ) where
       sum_by (slot_uses n) old + slot_uses n value
   uses-sets old new zero value sets =
       let others = uses-alike (rest new) (rest old) (λ d. opened-rest new d ∙ sets.others (suc d)
-          (λ e. absurd (omega arith)) ∙ sym (opened-rest old d)) in
+      (λ e. absurd (omega arith)) ∙ sym (opened-rest old d)) in
       let here : slot_uses n (opened new 0) ≡ slot_uses n value = ap (slot_uses n) sets.here in
       omega (arith, uses-first new, uses-first old, others, here)
   uses-sets old new (suc d) value sets =
@@ -190,9 +190,9 @@ module _ (n : ℕ) where
       } in
       let others = uses-sets (rest old) (rest new) d value later in
       let first : slot_uses n (opened new 0) ≡ slot_uses n (opened old 0) =
-          ap (slot_uses n) (sets.others 0 (λ same. absurd (omega arith))) in
+      ap (slot_uses n) (sets.others 0 (λ same. absurd (omega arith))) in
       let was : slot_uses n (opened (rest old) d) ≡ slot_uses n (opened old (suc d)) =
-          ap (slot_uses n) (opened-rest old d) in
+      ap (slot_uses n) (opened-rest old d) in
       omega (arith, uses-first new, uses-first old, others, first, was)
 
 -- where a handle is set in a slot, what it is on is
@@ -248,7 +248,7 @@ module _ (old new : Attached) (c : ℕ) (x y : Descriptors) (b : Becomes old new
     pub becomes-uses-same : (n : ℕ) → uses_in new n ≡ uses_in old n
     becomes-uses-same n =
         let alike = uses-alike n (tracked_slots y) (tracked_slots x) (λ d. opened-tracked
-            y.slots.items d ∙ same d ∙ sym (opened-tracked x.slots.items d)) in
+        y.slots.items d ∙ same d ∙ sym (opened-tracked x.slots.items d)) in
         omega (arith, uses-written n c old new x y b.was b.written, alike)
 
   -- where one descriptor of the client leads elsewhere, the tables say so
@@ -276,7 +276,7 @@ module _ (old new : Attached) (c : ℕ) (x y : Descriptors) (b : Becomes old new
         uses_in old n + slot_uses n (tracked_in v)
     becomes-uses n =
         let slot = uses-sets n _ _ d (tracked_in v) (tracked-sets x.slots.items y.slots.items d v
-            sets) in
+        sets) in
         let read = ap (slot_uses n) (opened-tracked x.slots.items d) in
         omega (arith, uses-written n c old new x y b.was b.written, slot, read)
 
@@ -287,7 +287,7 @@ keys-pushed : (es : List (ℕ × Descriptors)) (k : ℕ) (v : Descriptors) →
 keys-pushed [] k v below = refl
 keys-pushed (e ∷ es) k v below =
     ap (λ o. keys_of (match_ordering o ((k, v) ∷ e ∷ es) ((e.0, v) ∷ es) (e ∷ insert_entry
-        nat_cmp es k v))) (sym (nat_cmp_is k e.0 Greater below.0))
+    nat_cmp es k v))) (sym (nat_cmp_is k e.0 Greater below.0))
     ∙ ap (λ ks. e.0 ∷ ks) (keys-pushed es k v below.1)
 
 -- numbers none of which is k stay where k is left out
@@ -296,7 +296,7 @@ filter-none : (ks : List ℕ) (k : ℕ) → AllByRecursion (λ j. nat_eq j k ≡
 filter-none [] k none = refl
 filter-none (j ∷ ks) k none =
     ap (λ p. cond (not p) (j ∷ filter (λ i. not (nat_eq i k)) ks) (filter (λ i. not (nat_eq i k))
-        ks)) none.0
+    ks)) none.0
     ∙ ap (λ js. j ∷ js) (filter-none ks k none.1)
 
 -- what is not found is no key
@@ -321,7 +321,7 @@ keys-removed (e ∷ es) k gone = elim (cases_Bool (nat_eq e.0 k)) [
   | inl is ↦
       ap (λ xs. keys_of xs) (left is)
       ∙ sym (kept is ∙ filter-none (keys_of es) k (none-keys es k
-          (sym (ap (lookup (is_at (nat_cmp k))) (left is)) ∙ gone)))
+      (sym (ap (lookup (is_at (nat_cmp k))) (left is)) ∙ gone)))
   | inr other ↦
       ap (λ xs. keys_of xs) (left other)
       ∙ ap (λ js. e.0 ∷ js) (keys-removed es k (sym (later other) ∙ gone))
@@ -344,7 +344,7 @@ keys-removed (e ∷ es) k gone = elim (cases_Bool (nat_eq e.0 k)) [
     later other =
         ap (lookup (is_at (nat_cmp k))) (left other)
         ∙ ap (λ p. cond p (Some e.1) (lookup (is_at (nat_cmp k)) (remove_entry (is_at (nat_cmp k))
-            es))) (at-number k e.0 ∙ other)
+        es))) (at-number k e.0 ∙ other)
 
 -- a client that has nothing open uses nothing
 none-uses : (n : ℕ) (o : Option Descriptors) →
@@ -387,8 +387,8 @@ module _ (old new : Attached) (k : ℕ) (y : Descriptors)
   pub comes-clients : clients_of (tables_in new) ≡ clients_of (tables_in old) ++ k ∷ []
   comes-clients =
       let below : AllByRecursion (λ j. j < k) (keys_of old.entries) =
-          recursion_from_All (λ j. j < k) (keys_of old.entries) (All-keys_from_lookup
-          (eq_by_cmp_equiv nat_cmp_total) (λ j. j < k) old.entries above) in
+      recursion_from_All (λ j. j < k) (keys_of old.entries) (All-keys_from_lookup
+      (eq_by_cmp_equiv nat_cmp_total) (λ j. j < k) old.entries above) in
       clients-keys new.entries ∙ ap (λ es. keys_of es) inserted
       ∙ keys-pushed old.entries k y below ∙ ap (λ ks. ks ++ k ∷ []) (sym (clients-keys old.entries))
 
@@ -407,7 +407,7 @@ comes-rising old new k y above others n there = elim (cases_eq n k) [
   | inl e ↦ omega arith
   | inr off ↦
       let below = above n (sym (ap (λ (o : Option Descriptors). is_some o) (others n off)) ∙
-          there) in
+      there) in
       omega arith
 ]
 
@@ -419,7 +419,7 @@ entries-more (e ∷ es) k y = by (entries-more es k y) (nat_cmp k e.0)
   where
     by : length (insert_entry nat_cmp es k y) ≤ length es + 1 → (o : Ordering) →
         length (match_ordering o ((k, y) ∷ e ∷ es) ((e.0, y) ∷ es) (e ∷ insert_entry nat_cmp es k
-            y)) ≤ length (e ∷ es) + 1
+        y)) ≤ length (e ∷ es) + 1
     by rest Less = omega arith
     by rest Equal = omega arith
     by rest Greater = omega arith
@@ -444,18 +444,20 @@ module _ (old new : Attached) (k : ℕ) (none : (d : ℕ) → opened_at old k d 
 
   -- as much is used
   pub goes-uses : (n : ℕ) → uses_in new n ≡ uses_in old n
-  goes-uses n = omega (arith, uses-removed n k old new removed, none-uses n (get nat_cmp old k)
-      none)
+  goes-uses n =
+      let none_used = none-uses n (get nat_cmp old k) none in
+      omega (arith, uses-removed n k old new removed, none_used)
 
 -- who is there when a client went was there, and is another
 pub goes-rising : (old new : Attached) (k : ℕ) → get nat_cmp new k ≡ None →
     ((m : ℕ) → m ≢ k → get nat_cmp new m ≡ get nat_cmp old m) → (n : ℕ) →
     is_some (get nat_cmp new n) ≡ true → (n ≢ k) × (is_some (get nat_cmp old n) ≡ true)
-goes-rising old new k gone others n there = (apart, sym (ap (λ (o : Option Descriptors). is_some o)
-    (others n apart)) ∙ there)
+goes-rising old new k gone others n there =
+    let same = ap (λ (o : Option Descriptors). is_some o) (others n apart) in
+    (apart, sym same ∙ there)
   where
     apart : n ≢ k
     apart e =
         let no : false ≡ true = sym (ap (λ (o : Option Descriptors). is_some o)
-            (ap (get nat_cmp new) e ∙ gone)) ∙ there in
+        (ap (get nat_cmp new) e ∙ gone)) ∙ there in
         absurd (cc)

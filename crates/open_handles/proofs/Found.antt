@@ -104,23 +104,32 @@ pub handle-found : (attached : Attached) → IsOrdered nat_cmp attached →
     SomePasses attached p
 handle-found attached ordered p none found =
     let client = value-found attached ordered (λ x. list_any p x.slots.items) found in
-    let slot = slot-found p none client.1.slots.items client.3 in
-    (client.0, slot.0, slot.1, ap (option_and_then (λ (e : Descriptors). opened e.slots.items
-        slot.0)) client.2 ∙ slot.2, slot.3)
+    let slot = slot-found p none client.1.slots.items client.3 in (
+      client.0,
+      slot.0,
+      slot.1,
+      ap (option_and_then (λ (e : Descriptors). opened e.slots.items
+          slot.0)) client.2 ∙ slot.2,
+      slot.3,
+    )
 
 pub found-handle : (attached : Attached) (p : Option Handle → Bool) → SomePasses attached p →
     list_any (λ (x : Descriptors). list_any p x.slots.items) (values_of attached.entries) ≡ true
 found-handle attached p some =
     let client = client-with attached some.0 some.1 some.2 some.3 in
     any-value (λ x. list_any p x.slots.items) _ attached.entries client.0 client.1
-        (any-slot p client.0.slots.items some.1 some.2 client.2 some.4)
+    (any-slot p client.0.slots.items some.1 some.2 client.2 some.4)
 
 -- a handle that is on an object is one of the tables
 pub some-on : (attached : Attached) (n : ℕ) → SomePasses attached (handle_is_on n) →
     IsOn (tables_in attached) n
-some-on attached n some =
-    (some.0, some.1, tracked_of some.2, tracked-read attached some.0 some.1 ∙ ap tracked_in some.3,
-        sym (eqb-true n some.2.object some.4))
+some-on attached n some = (
+  some.0,
+  some.1,
+  tracked_of some.2,
+  tracked-read attached some.0 some.1 ∙ ap tracked_in some.3,
+  sym (eqb-true n some.2.object some.4),
+)
 
 pub on-some : (attached : Attached) (n : ℕ) → IsOn (tables_in attached) n →
     SomePasses attached (handle_is_on n)
@@ -185,5 +194,5 @@ module _ (n : ℕ) (w : Way) where
       handles_by (tables_in attached) n w ≡ sum_by own_count (values_of attached.entries)
   handles-sum attached =
       sum_by-map (λ (k : TrackedTable). count_by (slot_came_by n w) k.slots) table_of
-          attached.entries
+      attached.entries
       ∙ sym (sum_by-map own_count (λ (e : ℕ × Descriptors). e.1) attached.entries)

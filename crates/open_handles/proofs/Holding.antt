@@ -1,6 +1,7 @@
 -- What holding an object, and letting one go, makes of the clients.
 use Rattle.std.proofs.Common.{◌≡◌, ◌≢◌, ◌∙◌, ℕ, ◌+◌, ◌-◌, ◌≤◌, cond, Option, None, Some, refl}
-use Rattle.std.proofs.Common.{sym, ap, inl, inr, arith, ne_eqb, eq-eqb, Result, Ok, Err, IfOk, OnErr}
+use Rattle.std.proofs.Common.{sym, ap, inl, inr, arith, ne_eqb, eq-eqb, Result, Ok, Err, IfOk}
+use Rattle.std.proofs.Common.{OnErr}
 use Rattle.std.proofs.lemmas.Bool.{cases_eq}
 use Rattle.plain_model.specs.Layers.{Path}
 use Rattle.object_table.specs.Objects.{At, Holds, Nowhere, Objects, SameSpots, SetsSpot, Spot}
@@ -64,7 +65,7 @@ module _ (old new : Clients) (clients : KeepsClients old new) where
   lets-go-beside n count releases enough m =
       let most : count ≤ holders_of old.objects n = omega arith in
       beside-less old new m (only n count m) (uses-kept m)
-          (release-counted old.objects new.objects n count releases most m)
+      (release-counted old.objects new.objects n count releases most m)
 
 -- the handles use no more than is held, where more is held
 pub more-held : (old : Clients) (t : Objects) →
@@ -109,11 +110,11 @@ module _ (a b c d : Objects) (spot : Spot) (n : ℕ) (there : spot ≢ Nowhere)
       (places.opened d.tree n ≡ places.opened a.tree n)
   undone-there was = (
     releases.sets.here
-    ∙ ap (λ left. spot_left left (spot_of c n)) undone-left
-    ∙ ap (λ x. cond x None (spot_of c n)) (ne_eqb (holders_of a n) 0 (undone-some was))
-    ∙ same.spots n ∙ holds.sets.here ∙ sym was,
+        ∙ ap (λ left. spot_left left (spot_of c n)) undone-left
+        ∙ ap (λ x. cond x None (spot_of c n)) (ne_eqb (holders_of a n) 0 (undone-some was))
+        ∙ same.spots n ∙ holds.sets.here ∙ sym was,
     releases.place (λ none. undone-some was (sym undone-left ∙ none)) ∙ same.places n ∙ by
-        (places.opened a.tree n) refl
+        (places.opened a.tree n) refl,
   )
     where
       by : (o : Option places.Location) → places.opened a.tree n ≡ o →

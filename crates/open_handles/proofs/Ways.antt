@@ -28,7 +28,7 @@ pub places-then : (a b c : Clients) → KeepsClients b c → KeepsPlaces a b →
     KeepsPlaces a c
 places-then a b c clients first second e d o l there at =
     second e d o l there (first e d o l (sym (ap (λ x. directory_in (opened_at x e d))
-        clients.attached) ∙ there) at)
+    clients.attached) ∙ there) at)
 
 pub clients-then : (a b c : Clients) → KeepsClients a b → KeepsClients b c → KeepsClients a c
 clients-then a b c first second = record {
@@ -88,7 +88,7 @@ pub step-holds : (old new : Objects) (p : Path) (r : Option Way) (x : Name) (q :
     Holds old new (At p) n
 step-holds old new p r x q w n held some split holds =
     let way : IsHeldWay old (x ∷ q) (Some w) =
-        subst (λ y. IsHeldWay old y (Some w)) split (subst (IsHeldWay old p) some held) in
+    subst (λ y. IsHeldWay old y (Some w)) split (subst (IsHeldWay old p) some held) in
     subst (λ y. Holds old new (At y) n) (sym split) (holds q way.0)
 
 -- a way that is held and let go again leaves all as it was
@@ -130,7 +130,7 @@ pub way-beside : (old new : Clients) (r : Option Way) → KeepsClients old new �
     beside new n + way_uses n r ≡ beside old n
 way-beside old new r clients releases enough n =
     beside-less old new n (way_uses n r) (uses-kept old new clients n)
-        (way-released old.objects new.objects r releases (λ m. most m) n)
+    (way-released old.objects new.objects r releases (λ m. most m) n)
   where
     most : (m : ℕ) → way_uses m r ≤ holders_of old.objects m
     most m = let some = enough m in omega arith
@@ -168,7 +168,7 @@ pub way-object : (t : Objects) (r : Option Way) (w : Way) → r ≡ Some w →
     ((n : ℕ) → way_uses n r ≤ holders_of t n) → 1 ≤ holders_of t w.directory
 way-object t r w is enough =
     let one : way_uses w.directory r ≡ 1 = ap (way_uses w.directory) is ∙ only-same w.directory 1
-        w.directory refl in
+    w.directory refl in
     let some = enough w.directory in
     omega (arith, one, some)
 

@@ -13,7 +13,7 @@ returns-clause-attached c =
     let new = c.insert.new.self in
     let inserted = c.in_ok-insert.ensures.entries in
     let fresh = comes-fresh old.attached new old.next c.new.result old.rising c.new.ensures
-        inserted in
+    inserted in
     record {
       next = refl;
       fresh = fresh;
@@ -41,13 +41,13 @@ invariant_of-self-2 c =
           (search rules) n there;
       few =
           let long = comes-few old.attached new old.next c.new.result
-              c.in_ok-insert.ensures.entries in
+          c.in_ok-insert.ensures.entries in
           let len = c.len.ensures.len in
           let less = c.if-len-ge-CLIENTS_MAX.false in
           omega arith;
       held = λ n.
           let used = comes-uses old.attached new old.next c.new.result old.rising c.new.ensures
-              c.in_ok-insert.ensures.entries c.in_ok-insert.ensures.was_ordered n in
+          c.in_ok-insert.ensures.entries c.in_ok-insert.ensures.was_ordered n in
           let enough = old.held n in
           omega arith;
     }

@@ -53,30 +53,30 @@ pub release-requires : goal.release-requires
 release-requires c =
     let x = goal.at.release-requires c in
     hold-object c.args.self.now.objects (tracked_of c.in-Some.handle)
-        (closes-enough c.args.self.now _ _ c.args.descriptor _ _ c.in-Some.handle
-        (becomes x.After-take) (stood x.In-Some) c.take.ensures.slot)
+    (closes-enough c.args.self.now _ _ c.args.descriptor _ _ c.in-Some.handle
+    (becomes x.After-take) (stood x.In-Some) c.take.ensures.slot)
 
 pub release-requires-in-Some-way : goal.release-requires-in-Some-way
 release-requires-in-Some-way c =
     let x = goal.at.release-requires-in-Some-way c in
     let all = closes-enough c.args.self.now _ _ c.args.descriptor _ _ c.in-Some.handle
-        (becomes x.After-take) (stood x.In-Some) c.take.ensures.slot in
+    (becomes x.After-take) (stood x.In-Some) c.take.ensures.slot in
     way-object c.release.new.self c.in-Some.handle.way c.in-Some-way.way c.in-Some-way.is
     (hold-way c.args.self.now.objects c.release.new.self (tracked_of c.in-Some.handle) all
-        (first x.After-release))
+    (first x.After-release))
 
 pub invariant_of-self-in-Some-way : goal.invariant_of-self-in-Some-way
 invariant_of-self-in-Some-way c =
     let x = goal.at.invariant_of-self-in-Some-way c in
     let old = c.args.self.now in
     let all = closes-enough old _ _ c.args.descriptor _ _ c.in-Some.handle (becomes x.After-take)
-        (stood x.In-Some) c.take.ensures.slot in
+    (stood x.In-Some) c.take.ensures.slot in
     let second : ReleasesWay c.release.new.self c.release-in-Some-way.new.self
-        c.in-Some.handle.way = subst (ReleasesWay c.release.new.self
-        c.release-in-Some-way.new.self) (sym c.in-Some-way.is) (record {
-          sets = c.release-in-Some-way.ensures.releases;
-          place = c.release-in-Some-way.ensures.place;
-        }) in
+    c.in-Some.handle.way = subst (ReleasesWay c.release.new.self
+    c.release-in-Some-way.new.self) (sym c.in-Some-way.is) (record {
+      sets = c.release-in-Some-way.ensures.releases;
+      place = c.release-in-Some-way.ensures.place;
+    }) in
     record {
       rising = becomes-rising old _ _ _ _ (becomes x.After-take);
       few = becomes-few old _ _ _ _ (becomes x.After-take);
@@ -91,9 +91,9 @@ invariant_of-self-in_default-way c =
     let x = goal.at.invariant_of-self-in_default-way c in
     let old = c.args.self.now in
     let all = closes-enough old _ _ c.args.descriptor _ _ c.in-Some.handle (becomes x.After-take)
-        (stood x.In-Some) c.take.ensures.slot in
+    (stood x.In-Some) c.take.ensures.slot in
     let second : ReleasesWay c.release.new.self c.release.new.self c.in-Some.handle.way =
-        subst (ReleasesWay c.release.new.self c.release.new.self) (sym c.in_default-way.is) refl in
+    subst (ReleasesWay c.release.new.self c.release.new.self) (sym c.in_default-way.is) refl in
     record {
       rising = becomes-rising old _ _ _ _ (becomes x.After-take);
       few = becomes-few old _ _ _ _ (becomes x.After-take);
@@ -110,29 +110,31 @@ returns c =
     let handle = c.in-Some.handle in
     let one = c.release.new.self in
     let all = closes-enough old _ _ c.args.descriptor _ _ handle (becomes x.After-take)
-        (stood x.In-Some) c.take.ensures.slot in
+    (stood x.In-Some) c.take.ensures.slot in
     let let_go = first x.After-release in
     elim c.match-handle.branch [
       | in-Some-way w ↦
           let two = w.release-in-Some-way.new.self in
           let second : ReleasesWay one two handle.way = subst (ReleasesWay one two)
-              (sym w.in-Some-way.is) (record {
-                sets = w.release-in-Some-way.ensures.releases;
-                place = w.release-in-Some-way.ensures.place;
-              }) in
-          subst (λ s. ClosesHandle old s c.args.client c.args.descriptor (Ok handle)) (sym w.self-is)
+          (sym w.in-Some-way.is) (record {
+            sets = w.release-in-Some-way.ensures.releases;
+            place = w.release-in-Some-way.ensures.place;
+          }) in
+          subst (λ s. ClosesHandle old s c.args.client c.args.descriptor (Ok handle))
+          (sym w.self-is)
           (closes-handle old _ _ c.args.descriptor _ _ handle (becomes x.After-take)
-              (stood x.In-Some) c.take.ensures.slot refl
-              (hold-fewer old.objects one (tracked_of handle) all let_go two second)
-              (hold-stay old.objects one (tracked_of handle) all let_go two second)
-              (hold-released old.objects one (tracked_of handle) all let_go two second))
+          (stood x.In-Some) c.take.ensures.slot refl
+          (hold-fewer old.objects one (tracked_of handle) all let_go two second)
+          (hold-stay old.objects one (tracked_of handle) all let_go two second)
+          (hold-released old.objects one (tracked_of handle) all let_go two second))
       | in_default-way w ↦
           let second : ReleasesWay one one handle.way = subst (ReleasesWay one one)
-              (sym w.in_default-way.is) refl in
-          subst (λ s. ClosesHandle old s c.args.client c.args.descriptor (Ok handle)) (sym w.self-is)
+          (sym w.in_default-way.is) refl in
+          subst (λ s. ClosesHandle old s c.args.client c.args.descriptor (Ok handle))
+          (sym w.self-is)
           (closes-handle old _ _ c.args.descriptor _ _ handle (becomes x.After-take)
-              (stood x.In-Some) c.take.ensures.slot refl
-              (hold-fewer old.objects one (tracked_of handle) all let_go one second)
-              (hold-stay old.objects one (tracked_of handle) all let_go one second)
-              (hold-released old.objects one (tracked_of handle) all let_go one second))
+          (stood x.In-Some) c.take.ensures.slot refl
+          (hold-fewer old.objects one (tracked_of handle) all let_go one second)
+          (hold-stay old.objects one (tracked_of handle) all let_go one second)
+          (hold-released old.objects one (tracked_of handle) all let_go one second))
     ]

@@ -12,10 +12,11 @@ pub returns : goal.returns
 returns c =
     let attached = c.args.self.now.attached in
     let key = c.args.key in
-    let answer : c.any.result ≡ list_any (λ (x : Descriptors). list_any (slot_has_file key) x.slots.items)
-        (values_of attached.entries) = any_from_yields_List _ _ _ c.any.result c.any.ensures.ran
-        (YieldsList-from_rest (values_of attached.entries) c.values.ensures.rest)
-        (λ x b q k. search (rules, tests)) in (
+    let answer : c.any.result ≡ list_any (λ (x : Descriptors). list_any
+    (slot_has_file key) x.slots.items)
+    (values_of attached.entries) = any_from_yields_List _ _ _ c.any.result c.any.ensures.ran
+    (YieldsList-from_rest (values_of attached.entries) c.values.ensures.rest)
+    (λ x b q k. search (rules, tests)) in (
       λ yes. some-file c.args.self.now key (handle-found attached c.values.ensures.ordered
           (slot_has_file key) refl (sym answer ∙ yes)),
       λ has. answer ∙ found-handle attached (slot_has_file key) (file-some c.args.self.now key

@@ -14,5 +14,5 @@ returns-in-Err-clause-err c =
       next = third.next ∙ second.next ∙ first.next;
     })
     (way-undone c.args.self.now.objects c.hold_way.new.self.objects c.hold_step.new.self.objects
-        c.release_way.new.self.objects c.args.path.now c.in_ok-way.way c.lawful.ensures.counted
-        c.in_ok-way.ensures.holds c.in-Err.ensures.err.same c.release_way.ensures.releases)
+    c.release_way.new.self.objects c.args.path.now c.in_ok-way.way c.lawful.ensures.counted
+    c.in_ok-way.ensures.holds c.in-Err.ensures.err.same c.release_way.ensures.releases)

@@ -6,4 +6,5 @@ use Rattle.open_handles.proofs.clients.Clients.hold_key.Goals as goal
 
 pub returns-clause-holds : goal.returns-clause-holds
 returns-clause-holds c = IfOk-weaker c.hold_key.result _ _ (λ n holds. holds-one c.args.self.now _
-    (record { attached = refl; next = refl }) (Upper c.args.key) n (upper-there c.args.key) holds) c.hold_key.ensures.holds
+    (record { attached = refl; next = refl }) (Upper c.args.key) n
+    (upper-there c.args.key) holds) c.hold_key.ensures.holds

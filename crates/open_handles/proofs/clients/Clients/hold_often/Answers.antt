@@ -8,9 +8,9 @@ use Rattle.open_handles.proofs.clients.Clients.hold_often.Goals as goal
 pub returns-in-Ok-clause-places : goal.returns-in-Ok-clause-places
 returns-in-Ok-clause-places c e d o l there at =
     stay-hold c.hold_at_names.new.self c.hold.new.self c.in_ok-number.number _ _ c.in-Ok.ensures.ok
-        c.in-Ok.ensures.place o.directory l
+    c.in-Ok.ensures.place o.directory l
     (stay-holds c.args.self.now.objects c.hold_at_names.new.self _ c.in_ok-number.number
-        (at-there _) c.in_ok-number.ensures.holds o.directory l at)
+    (at-there _) c.in_ok-number.ensures.holds o.directory l at)
 
 -- what was held once more was let go again
 undone : (c : After-release) → SameSpots c.args.self.now.objects c.release.new.self

@@ -12,10 +12,11 @@ pub returns : goal.returns
 returns c =
     let attached = c.args.self.now.attached in
     let n = c.args.object in
-    let answer : c.any.result ≡ list_any (λ (x : Descriptors). list_any (handle_is_on n) x.slots.items)
-        (values_of attached.entries) = any_from_yields_List _ _ _ c.any.result c.any.ensures.ran
-        (YieldsList-from_rest (values_of attached.entries) c.values.ensures.rest)
-        (λ x b q k. search (rules, tests)) in (
+    let answer : c.any.result ≡ list_any (λ (x : Descriptors). list_any
+    (handle_is_on n) x.slots.items)
+    (values_of attached.entries) = any_from_yields_List _ _ _ c.any.result c.any.ensures.ran
+    (YieldsList-from_rest (values_of attached.entries) c.values.ensures.rest)
+    (λ x b q k. search (rules, tests)) in (
       λ yes. some-on attached n (handle-found attached c.values.ensures.ordered (handle_is_on n)
           refl (sym answer ∙ yes)),
       λ on. answer ∙ found-handle attached (handle_is_on n) (on-some attached n on),

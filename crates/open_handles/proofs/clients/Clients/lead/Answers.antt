@@ -72,15 +72,15 @@ returns-clause-places c =
     let at = goal.at.returns-clause-places c in
     let old = c.args.self.now in
     used-places c.retain.new.self old.objects c.release.new.self
-        (lead-held old c.retain.new.self c.args.object c.args.from.now c.args.to.now c.args.count
-        (tables at.After-retain) c.requires.led c.requires.held c.release.new.self
-        (let_go at.After-release))
-        (release-stay old.objects c.release.new.self c.args.from.now.directory c.args.count
-        (let_go at.After-release))
+    (lead-held old c.retain.new.self c.args.object c.args.from.now c.args.to.now c.args.count
+    (tables at.After-retain) c.requires.led c.requires.held c.release.new.self
+    (let_go at.After-release))
+    (release-stay old.objects c.release.new.self c.args.from.now.directory c.args.count
+    (let_go at.After-release))
 
 pub returns-clause-beside : goal.returns-clause-beside
 returns-clause-beside c =
     let at = goal.at.returns-clause-beside c in
     lead-beside c.args.self.now c.retain.new.self c.args.object c.args.from.now c.args.to.now
-        c.args.count (tables at.After-retain) c.requires.led c.requires.held c.release.new.self
-        (let_go at.After-release)
+    c.args.count (tables at.After-retain) c.requires.led c.requires.held c.release.new.self
+    (let_go at.After-release)

@@ -10,7 +10,8 @@ use Rattle.open_handles.proofs.clients.Clients.move_to.Goals as goal
 
 -- the client has other descriptors
 becomes : (c : After-move_to) → Becomes c.args.self.now.attached
-    (c.get_mut.follows.lender c.move_to.new.self) c.args.client c.unwrap.result.now c.move_to.new.self
+    (c.get_mut.follows.lender c.move_to.new.self) c.args.client c.unwrap.result.now
+    c.move_to.new.self
 becomes c = record {
   was = search rules;
   is = search rules;

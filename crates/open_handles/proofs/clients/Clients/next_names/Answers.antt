@@ -9,7 +9,8 @@ use Rattle.open_handles.proofs.clients.Clients.next_names.Goals as goal
 
 -- the client has other descriptors
 becomes : (c : After-next_names) → Becomes c.args.self.now.attached
-    (c.get_mut.follows.lender c.next_names.new.self) c.args.client c.unwrap.result.now c.next_names.new.self
+    (c.get_mut.follows.lender c.next_names.new.self) c.args.client c.unwrap.result.now
+    c.next_names.new.self
 becomes c = record {
   was = search rules;
   is = search rules;

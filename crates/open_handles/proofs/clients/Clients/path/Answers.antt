@@ -13,5 +13,5 @@ pub path-requires : goal.path-requires
 path-requires c =
     let is = handle (goal.at.path-requires c).After-unwrap-handle in
     held-there c.args.self.now.objects c.unwrap-handle.result.now.object c.lawful.ensures.counted
-        (opened-held c.args.self.now.attached c.args.self.now.objects c.args.self.now.held
-        c.args.client c.args.descriptor c.unwrap-handle.result.now is)
+    (opened-held c.args.self.now.attached c.args.self.now.objects c.args.self.now.held
+    c.args.client c.args.descriptor c.unwrap-handle.result.now is)

@@ -10,7 +10,8 @@ use Rattle.open_handles.proofs.clients.Clients.reserve.Goals as goal
 
 -- the client has other descriptors
 becomes : (c : After-reserve) → Becomes c.args.self.now.attached
-    (c.get_mut.follows.lender c.reserve.new.self) c.args.client c.unwrap.result.now c.reserve.new.self
+    (c.get_mut.follows.lender c.reserve.new.self) c.args.client c.unwrap.result.now
+    c.reserve.new.self
 becomes c = record {
   was = search rules;
   is = search rules;
