@@ -1,6 +1,6 @@
 -- Which client has a handle that passes a test, and how many handles came by a way.
 use Rattle.std.proofs.Common.{◌≡◌, ◌∙◌, ℕ, zero, suc, Bool, true, false, cond, List, [], ◌∷◌}
-use Rattle.std.proofs.Common.{Option, None, Some, count_by, map, eqb-true, eq-eqb, refl, sym}
+use Rattle.std.proofs.Common.{Option, None, Some, count_by, eqb-true, eq-eqb, refl, sym}
 use Rattle.std.proofs.Common.{ap, sum_by}
 use Rattle.std.specs.Option.{option_and_then}
 use Rattle.std.specs.BTreeMap.{IsOrdered, get}

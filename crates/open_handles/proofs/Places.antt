@@ -1,13 +1,13 @@
 -- Open directories stand where they stood where objects are held or let go.
-use Rattle.std.proofs.Common.{◌≡◌, ◌≢◌, ◌⊎◌, ◌∙◌, ℕ, ◌+◌, ◌<◌, Option, None, Some, refl, sym, ap}
-use Rattle.std.proofs.Common.{inl, inr, arith}
+use Rattle.std.proofs.Common.{◌≡◌, ◌≢◌, ◌⊎◌, ◌∙◌, ℕ, Option, None, Some, refl, sym, ap}
+use Rattle.std.proofs.Common.{inl, inr}
 use Rattle.std.proofs.lemmas.Bool.{cases_eq}
 use Rattle.object_table.specs.Objects.{Objects, Spot, At, Upper, Nowhere, spot_of, Holds, SameSpots}
 use Rattle.object_table.specs.Objects.{SetsSpot}
 use Rattle.object_table.specs.Opened.{Location, opened}
 use Rattle.object_table.proofs.Spots.{opened-path, opened-key, none-opened}
 use Rattle.open_handles.specs.declared.clients.Clients.{Clients}
-use Rattle.open_handles.specs.Attaching.{HoldsOne, KeepsClients, KeepsPlaces}
+use Rattle.open_handles.specs.Attaching.{KeepsPlaces}
 
 -- each object that stood somewhere stands there
 abbrev pub Stay : Objects → Objects → Type 0

@@ -1,6 +1,6 @@
 -- What slots have after one of them was read or written.
 use Rattle.std.proofs.Common.{◌≡◌, ◌≢◌, ℕ, zero, suc, ◌<◌, ◌≤◌, List, [], ◌∷◌, ◌++◌, length, take}
-use Rattle.std.proofs.Common.{drop, get_or, Option, None, Some, Result, Ok, Err, IfOk, OnOk}
+use Rattle.std.proofs.Common.{get_or, Option, None, Some, Result, Ok, Err, IfOk, OnOk}
 use Rattle.std.proofs.Common.{OnErr, IsSome, is_some, option_map, refl, sym, ap, subst, ◌∙◌, inl}
 use Rattle.std.proofs.Common.{inr, arith, true, false}
 use Rattle.std.proofs.Math.ListN.{set}

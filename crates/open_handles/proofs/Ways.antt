@@ -10,7 +10,7 @@ use Rattle.object_table.proofs.Spots.{none-opened}
 use Rattle.open_handles.specs.declared.clients.Clients.{Clients}
 use Rattle.open_handles.specs.declared.handle.Hold.{Hold}
 use Rattle.open_handles.specs.declared.way.Way.{Way}
-use Rattle.open_handles.specs.Attaching.{HoldsNoMore, KeepsClients, KeepsPlaces, LetsGo, SameBeside}
+use Rattle.open_handles.specs.Attaching.{KeepsClients, KeepsPlaces, LetsGo}
 use Rattle.open_handles.specs.Attaching.{beside}
 use Rattle.open_handles.specs.Holding.{HoldsWay, IsHeldWay, Releases, ReleasesWay}
 use Rattle.open_handles.specs.Listings.{directory_in}
@@ -19,7 +19,7 @@ use Rattle.open_handles.proofs.Counting.{HeldStay, IsCounted, beside-less, fewer
 use Rattle.open_handles.proofs.Counting.{held-stay-then, holds-counted, only, only-same}
 use Rattle.open_handles.proofs.Counting.{release-counted, release-fewer, release-stay}
 use Rattle.open_handles.proofs.Entries.{opened_at}
-use Rattle.open_handles.proofs.Holding.{at-there, hold-undone, holds-no-more, lets-go}
+use Rattle.open_handles.proofs.Holding.{at-there, hold-undone, lets-go}
 use Rattle.open_handles.proofs.Holding.{uses-kept}
 use Rattle.open_handles.proofs.Places.{Stay, stay-holds, stay-same}
 

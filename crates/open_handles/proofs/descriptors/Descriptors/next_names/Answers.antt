@@ -1,4 +1,3 @@
-use Rattle.std.proofs.Common.{◌≡◌, Some, ap, sym, subst}
 use Rattle.open_handles.proofs.Slots.{gives-names, opened-within, opened-taken, directory-some}
 use Rattle.open_handles.proofs.descriptors.Descriptors.next_names.Goals as goal
 

@@ -1,8 +1,7 @@
-use Rattle.std.proofs.Common.{◌≡◌, ◌<◌, ◌≤◌, ◌∙◌, ap, sym, length, set, arith, Option, option_map}
+use Rattle.std.proofs.Common.{◌≡◌, ◌<◌, ◌∙◌, ap, sym, length, set, arith, Option, option_map}
 use Rattle.std.proofs.lemmas.List.Edits.{map_over_more}
 use Rattle.open_handles.specs.declared.handle.Handle.{Handle}
 use Rattle.open_handles.specs.Handles.{handle_re_way}
-use Rattle.open_handles.proofs.TrackedWays.{map-over-all}
 use Rattle.open_handles.proofs.descriptors.Descriptors.re_way.Goals as goal
 
 pub loop-slot-preserved : goal.loop-slot-preserved
