@@ -23,10 +23,11 @@ use Rattle.open_handles.proofs.TrackedUses.{handle-le}
 abbrev pub only : ℕ → ℕ → ℕ → ℕ
 only n count m = cond (nat_eq n m) count 0
 
--- as many of the number, and none of another
+-- as many of the number
 pub only-same : (n count m : ℕ) → m ≡ n → only n count m ≡ count
 only-same n count m is = ap (λ b. cond b count 0) (eq-eqb n m (sym is))
 
+-- none of another
 pub only-other : (n count m : ℕ) → m ≢ n → only n count m ≡ 0
 only-other n count m off = ap (λ b. cond b count 0) (ne_eqb n m (λ e. off (sym e)))
 
@@ -94,6 +95,7 @@ module _ (old new : Objects) (n count : ℕ) (releases : Releases old new n coun
 pub fewer-then : (a b c : Objects) → AreFewer a b → AreFewer b c → AreFewer a c
 fewer-then a b c first second n spot is = first n spot (second n spot is)
 
+-- what is held still after both stands where it stood
 pub held-stay-then : (a b c : Objects) → HeldStay a b → HeldStay b c →
     ((n : ℕ) → holders_of c n ≤ holders_of b n) → HeldStay a c
 held-stay-then a b c first second fewer n held =
@@ -126,6 +128,7 @@ used-places attached old new held stay c d o l there at =
     stay o.directory (subst (λ n. 0 < holders_of new n) by.2
     (opened-held attached new held c d by.0 by.1)) ∙ at
 
+-- so it is of all clients
 pub held-places : (old new : Clients) → HeldStay old.objects new.objects → KeepsPlaces old new
 held-places old new stay =
     used-places new.attached old.objects new.objects new.held stay

@@ -219,16 +219,18 @@ module _ (old new : Attached) (c : ℕ) (x y : Descriptors) (b : Becomes old new
       clients-keys new.entries ∙ ap (λ es. keys_of es) b.written
       ∙ keys-set_value (is_at (nat_cmp c)) old.entries y ∙ sym (clients-keys old.entries)
 
-  -- what the client's descriptors lead to
+  -- what a descriptor of the client leads to
   own-new : (d : ℕ) → opened_at new c d ≡ opened y.slots.items d
   own-new d = ap (option_and_then (λ (e : Descriptors). opened e.slots.items d)) b.is
 
+  -- and led to before
   pub own-old : (d : ℕ) → opened_at old c d ≡ opened x.slots.items d
   own-old d = ap (option_and_then (λ (e : Descriptors). opened e.slots.items d)) b.was
 
   -- where each descriptor of the client is on what it was, the tables say the same
   module _ (same : (d : ℕ) → tracked_in (opened y.slots.items d) ≡
       tracked_in (opened x.slots.items d)) where
+    -- the tables are the same
     pub becomes-same : SameTracked (tables_in old) (tables_in new)
     becomes-same = record {
       slots = λ e d. tracked-read new e d ∙ by e d ∙ sym (tracked-read old e d);
@@ -253,6 +255,7 @@ module _ (old new : Attached) (c : ℕ) (x y : Descriptors) (b : Becomes old new
 
   -- where one descriptor of the client leads elsewhere, the tables say so
   module _ (d : ℕ) (v : Option Handle) (sets : SetsSlot x.slots.items y.slots.items d v) where
+    -- only that descriptor is on something else
     pub becomes-sets : SetsTracked (tables_in old) (tables_in new) c d (tracked_in v)
     becomes-sets = record {
       here = tracked-read new c d ∙ ap tracked_in (own-new d ∙ sets.here);
@@ -424,6 +427,7 @@ entries-more (e ∷ es) k y = by (entries-more es k y) (nat_cmp k e.0)
     by rest Equal = omega arith
     by rest Greater = omega arith
 
+-- so it is where a client comes
 pub comes-few : (old new : Attached) (k : ℕ) (y : Descriptors) →
     new.entries ≡ insert_entry nat_cmp old.entries k y →
     btree_map_len new ≤ btree_map_len old + 1

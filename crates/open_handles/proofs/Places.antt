@@ -44,8 +44,6 @@ stay-hold old new n count spot sets place m l at = elim (cases_eq m n) [
 pub places-stay : (old new : Clients) → Stay old.objects new.objects → KeepsPlaces old new
 places-stay old new stay c d o l there at = stay o.directory l at
 
+-- where all is as it was, each stands where it stood
 pub stay-same : (old new : Objects) → SameSpots old new → Stay old new
 stay-same old new same n l at = same.places n ∙ at
-
-pub stay-then : (a b c : Objects) → Stay a b → Stay b c → Stay a c
-stay-then a b c first second n l at = second n l (first n l at)

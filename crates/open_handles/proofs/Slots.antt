@@ -1,12 +1,11 @@
 -- What slots have after one of them was read or written.
-use Rattle.std.proofs.Common.{◌≡◌, ◌≢◌, ℕ, zero, suc, ◌<◌, ◌≤◌, List, [], ◌∷◌, ◌++◌, length, take}
+use Rattle.std.proofs.Common.{◌≡◌, ◌≢◌, ℕ, zero, suc, ◌<◌, List, [], ◌∷◌, length, take}
 use Rattle.std.proofs.Common.{get_or, Option, None, Some, Result, Ok, Err, IfOk, OnOk}
-use Rattle.std.proofs.Common.{OnErr, IsSome, is_some, option_map, refl, sym, ap, subst, ◌∙◌, inl}
-use Rattle.std.proofs.Common.{inr, arith, true, false}
+use Rattle.std.proofs.Common.{OnErr, IsSome, option_map, refl, sym, ap, ◌∙◌}
+use Rattle.std.proofs.Common.{arith, true, false}
 use Rattle.std.proofs.Math.ListN.{set}
 use Rattle.std.proofs.lemmas.List.{set-get_or}
-use Rattle.std.proofs.lemmas.Bool.{cases_lt, false≢true}
-use Rattle.std.proofs.lemmas.Option.{slice_get_past, slice_get_read}
+use Rattle.std.proofs.lemmas.Option.{slice_get_read}
 use Rattle.std.specs.List.{slice_get}
 use Rattle.std.specs.Option.{option_map_or}
 use Rattle.std.specs.declared.alloc.AllocError.{AllocError}
@@ -14,7 +13,7 @@ use Rattle.open_handles.specs.declared.handle.Handle.{Handle}
 use Rattle.open_handles.specs.declared.handle.On.{On}
 use Rattle.open_handles.specs.declared.handle.On.TheVariants.{Directory, File}
 use Rattle.open_handles.specs.Listings.{OpenDirectory, directory_on}
-use Rattle.open_handles.specs.Descriptors.{opened, in_slot, IsLowestFree, SetsSlot}
+use Rattle.open_handles.specs.Descriptors.{opened, in_slot, SetsSlot}
 use Rattle.open_handles.specs.Listings.{GivesNames, directory_in, names_left, after_names}
 
 -- What is read in a slot is open there.
@@ -46,40 +45,6 @@ sets-slot slots d v h = record {
   here = ap in_slot (slice_get-set_same slots d v h);
   others = λ k other. ap in_slot (slice_get-set_other slots d k v other);
 }
-
--- The lowest free slot is at most the next one.
-pub lowest-within : {D : Type 0} (slots : List (Option D)) (d : ℕ) → IsLowestFree slots d →
-    d ≤ length slots
-lowest-within slots d low = elim (cases_lt (length slots) d) [
-  | inl past ↦ absurd (false≢true (sym (ap (λ o. is_some (in_slot o))
-      (slice_get_past slots (length slots) (omega arith))) ∙ low.lowest (length slots) past))
-  | inr within ↦ within
-]
-
--- What is put behind all slots is open in the next one.
-pub pushes-slot : {D : Type 0} (slots : List (Option D)) (v : Option D) →
-    SetsSlot slots (slots ++ v ∷ []) (length slots) v
-pushes-slot [] v = record { here = refl; others = λ k off. past k off }
-  where
-    past : (k : ℕ) → k ≢ 0 → opened (v ∷ []) k ≡ opened [] k
-    past zero off = absurd (off refl)
-    past (suc k) off = refl
-pushes-slot (x ∷ slots) v =
-    let rest = pushes-slot slots v in
-    record { here = rest.here; others = λ k off. later rest k off }
-  where
-    later : SetsSlot slots (slots ++ v ∷ []) (length slots) v → (k : ℕ) → k ≢ suc (length slots) →
-        opened (x ∷ slots ++ v ∷ []) k ≡ opened (x ∷ slots) k
-    later rest zero off = refl
-    later rest (suc k) off = rest.others k (λ e. off (ap suc e))
-
--- So is what is put there under the lowest free descriptor, where no slot is free.
-pub lowest-pushed : {D : Type 0} (slots : List (Option D)) (d : ℕ) (v : Option D) →
-    IsLowestFree slots d → length slots ≤ d → SetsSlot slots (slots ++ v ∷ []) d v
-lowest-pushed slots d v low past =
-    let within = lowest-within slots d low in
-    let last : length slots ≡ d = omega (arith, within, past) in
-    subst (λ k. SetsSlot slots (slots ++ v ∷ []) k v) last (pushes-slot slots v)
 
 -- The next names of a listing, by its slot.
 pub gives-names : (slots : List (Option Handle)) (d count : ℕ) (h after : Handle)

@@ -1,9 +1,8 @@
 -- Handles whose ways change.
-use Rattle.std.proofs.Common.{◌≡◌, ◌∙◌, ℕ, zero, suc, ◌+◌, ◌≤◌, Bool, true, false, cond, List, []}
-use Rattle.std.proofs.Common.{◌∷◌, ◌++◌, map, take, drop, length, Option, Some, None, option_map}
+use Rattle.std.proofs.Common.{◌≡◌, ◌∙◌, ℕ, zero, suc, ◌+◌, Bool, true, false, cond, List, []}
+use Rattle.std.proofs.Common.{◌∷◌, map, Option, Some, None, option_map}
 use Rattle.std.proofs.Common.{sum_by, count_by, refl, sym, ap, inl, inr, arith, nat_eq, eqb-true}
 use Rattle.std.proofs.lemmas.Bool.{cases_Bool, and_parts}
-use Rattle.std.proofs.lemmas.List.{append-nil, drop_all, length-map, take_all}
 use Rattle.std.proofs.lemmas.List.Folds.{fold-map}
 use Rattle.std.proofs.lemmas.List.Sums.{sum_by-cons}
 use Rattle.open_handles.specs.declared.way.Way.{Way}
@@ -21,21 +20,6 @@ Slots = List (Option TrackedHandle)
 pub sum_by-map : {X Y : Type 0} (f : Y → ℕ) (h : X → Y) (xs : List X) →
     sum_by f (map h xs) ≡ sum_by (λ x. f (h x)) xs
 sum_by-map f h xs = fold-map (λ a x. a + f x) h 0 xs
-
--- a list all of whose elements were changed in turn, put back in place of the old one
-pub map-over-all : {X : Type 0} (f : X → X) (xs ys old : List X) (i n : ℕ) → old ≡ xs →
-    n ≡ length old → length xs ≤ i → ys ≡ map f (take i xs) ++ drop i xs →
-    take n (ys ++ drop (length ys) old) ≡ map f xs
-map-over-all f xs ys old i n same len past so_far =
-    let all : ys ≡ map f xs = so_far
-    ∙ ap (λ zs. map f zs ++ drop i xs) (take_all i xs past)
-    ∙ ap (λ zs. map f xs ++ zs) (drop_all i xs past)
-    ∙ append-nil (map f xs) in
-    let long : length ys ≡ n = ap length all ∙ length-map xs f ∙ ap length (sym same) ∙ sym len in
-    ap (λ zs. take n (ys ++ zs)) (drop_all (length ys) old (omega arith))
-    ∙ ap (take n) (append-nil ys)
-    ∙ take_all n ys (omega arith)
-    ∙ all
 
 -- a choice of a sum or nothing
 cond-sum : (p : Bool) (x y : ℕ) → cond p (x + y) 0 ≡ cond p x 0 + cond p y 0

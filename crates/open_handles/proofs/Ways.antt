@@ -11,17 +11,15 @@ use Rattle.open_handles.specs.declared.clients.Clients.{Clients}
 use Rattle.open_handles.specs.declared.handle.Hold.{Hold}
 use Rattle.open_handles.specs.declared.way.Way.{Way}
 use Rattle.open_handles.specs.Attaching.{KeepsClients, KeepsPlaces, LetsGo}
-use Rattle.open_handles.specs.Attaching.{beside}
 use Rattle.open_handles.specs.Holding.{HoldsWay, IsHeldWay, Releases, ReleasesWay}
 use Rattle.open_handles.specs.Listings.{directory_in}
 use Rattle.open_handles.specs.TrackedHandles.{handle_uses, way_uses}
-use Rattle.open_handles.proofs.Counting.{HeldStay, IsCounted, beside-less, fewer-then}
-use Rattle.open_handles.proofs.Counting.{held-stay-then, holds-counted, only, only-same}
+use Rattle.open_handles.proofs.Counting.{HeldStay, IsCounted, fewer-then}
+use Rattle.open_handles.proofs.Counting.{held-stay-then, only, only-same}
 use Rattle.open_handles.proofs.Counting.{release-counted, release-fewer, release-stay}
 use Rattle.open_handles.proofs.Entries.{opened_at}
-use Rattle.open_handles.proofs.Holding.{at-there, hold-undone, lets-go}
-use Rattle.open_handles.proofs.Holding.{uses-kept}
-use Rattle.open_handles.proofs.Places.{Stay, stay-holds, stay-same}
+use Rattle.open_handles.proofs.Holding.{at-there, hold-undone}
+use Rattle.open_handles.proofs.Places.{Stay}
 
 -- what stays over two steps of what is held stays over both
 pub places-then : (a b c : Clients) → KeepsClients b c → KeepsPlaces a b → KeepsPlaces b c →
@@ -30,12 +28,14 @@ places-then a b c clients first second e d o l there at =
     second e d o l there (first e d o l (sym (ap (λ x. directory_in (opened_at x e d))
     clients.attached) ∙ there) at)
 
+-- the clients that stay over two steps stay over both
 pub clients-then : (a b c : Clients) → KeepsClients a b → KeepsClients b c → KeepsClients a c
 clients-then a b c first second = record {
   attached = second.attached ∙ first.attached;
   next = second.next ∙ first.next;
 }
 
+-- so does where the objects are
 pub spots-then : (a b c : Objects) → SameSpots a b → SameSpots b c → SameSpots a c
 spots-then a b c first second = record {
   spots = λ n. second.spots n ∙ first.spots n;
@@ -55,31 +55,6 @@ lets-then a b c second first = record {
 pub spots-equal : (a b : Objects) → b ≡ a → SameSpots a b
 spots-equal a b same = subst (λ t. SameSpots a t) (sym same)
     (record { spots = λ n. refl; holders = λ n. refl; places = λ n. refl })
-
--- the directory of a way is held once more
-pub way-counted : (old new : Objects) (p : Path) (r : Option Way) → HoldsWay old new p r →
-    (n : ℕ) → holders_of new n ≡ holders_of old n + way_uses n r
-way-counted old new [] r holds n =
-    let none : way_uses n r ≡ 0 = ap (way_uses n) holds.0 in
-    omega (arith, none, holds.1.holders n)
-way-counted old new (x ∷ p) None holds n = absurd holds
-way-counted old new (x ∷ p) (Some w) holds n =
-    holds-counted old new (At p) w.directory holds.0 n
-
--- all else stands where it stood
-pub way-stay : (old new : Objects) (p : Path) (r : Option Way) → HoldsWay old new p r →
-    Stay old new
-way-stay old new [] r holds = stay-same old new holds.1
-way-stay old new (x ∷ p) None holds = absurd holds
-way-stay old new (x ∷ p) (Some w) holds =
-    stay-holds old new (At p) w.directory (at-there p) holds.0
-
--- the way is held then
-pub way-held : (old new : Objects) (p : Path) (r : Option Way) → HoldsWay old new p r →
-    IsHeldWay new p r
-way-held old new [] r holds = holds.0
-way-held old new (x ∷ p) None holds = absurd holds
-way-held old new (x ∷ p) (Some w) holds = (holds.0.sets.here, holds.1)
 
 -- a step from the directory of the way leads to the path
 pub step-holds : (old new : Objects) (p : Path) (r : Option Way) (x : Name) (q : Path) (w : Way)
@@ -112,29 +87,6 @@ way-released old new (Some w) releases enough n =
     let some = enough w.directory in
     release-counted old new w.directory 1 releases (omega (arith, one, some)) n
 
--- only what was held for the way is let go
-pub way-lets-go : (old new : Clients) (r : Option Way) → KeepsClients old new →
-    ReleasesWay old.objects new.objects r → LetsGo old new
-way-lets-go old new None clients releases = record {
-  clients = clients;
-  fewer = λ n spot is. sym (ap (λ t. spot_of t n) releases) ∙ is;
-  places = λ c d o l there at. stay-same old.objects new.objects
-      (spots-equal old.objects new.objects releases) o.directory l at;
-}
-way-lets-go old new (Some w) clients releases =
-    lets-go old new clients w.directory 1 releases
-
--- what is let go was held beside the handles
-pub way-beside : (old new : Clients) (r : Option Way) → KeepsClients old new →
-    ReleasesWay old.objects new.objects r → ((n : ℕ) → way_uses n r ≤ beside old n) → (n : ℕ) →
-    beside new n + way_uses n r ≡ beside old n
-way-beside old new r clients releases enough n =
-    beside-less old new n (way_uses n r) (uses-kept old new clients n)
-    (way-released old.objects new.objects r releases (λ m. most m) n)
-  where
-    most : (m : ℕ) → way_uses m r ≤ holders_of old.objects m
-    most m = let some = enough m in omega arith
-
 -- where a number that was nobody's is nowhere, all else stands where it stood
 pub stay-new : (old new : Objects) (n : ℕ) → spot_of old n ≡ None →
     SetsSpot old new n (Some Nowhere) 1 → Stay old new
@@ -156,7 +108,7 @@ pub way-held-stay : (old new : Objects) (r : Option Way) → ReleasesWay old new
 way-held-stay old new None releases = λ n held. ap (λ t. places.opened t.tree n) releases
 way-held-stay old new (Some w) releases = release-stay old new w.directory 1 releases
 
--- what a handle holds is held: its object at least once, and the directory of its way
+-- the object that a handle holds is held at least once
 pub hold-object : (t : Objects) (h : Hold) → ((n : ℕ) → handle_uses n h ≤ holders_of t n) →
     1 ≤ holders_of t h.object
 hold-object t h enough =
@@ -164,6 +116,7 @@ hold-object t h enough =
     let some = enough h.object in
     omega (arith, one, some)
 
+-- the directory of a way that is held is held at least once
 pub way-object : (t : Objects) (r : Option Way) (w : Way) → r ≡ Some w →
     ((n : ℕ) → way_uses n r ≤ holders_of t n) → 1 ≤ holders_of t w.directory
 way-object t r w is enough =
