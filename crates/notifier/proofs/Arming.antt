@@ -132,6 +132,14 @@ counted-armed before held after o less es fs counts more holds few lets n = elim
       omega arith
 ]
 
+-- where just the one holder lets go that came, as many are left as before
+pub let_go-one : (before held after : ℕ → ℕ) (o less : ℕ) → ((n : ℕ) → held n ≡ before n + cond (nat_eq o n) 1 0) → less ≡ 1 →
+    ((n : ℕ) → after n + cond (nat_eq o n) less 0 ≡ held n) → (n : ℕ) → after n ≡ before n
+let_go-one before held after o less holds one lets n =
+    let left : after n + cond (nat_eq o n) 1 0 ≡ held n = subst (λ m. after n + cond (nat_eq o n) m 0 ≡ held n) one (lets n) in
+    let was = holds n in
+    omega arith
+
 -- a slot is armed on what is held
 pub arms-at : (before after : Clients) (old new : Watches) (held : Objects) (c slot mask number : ℕ) (p : Path) (o : Object) →
     HoldsObject before.objects held p o number → AreFewer held after.objects → new.renames ≡ old.renames →
@@ -149,12 +157,19 @@ arms-at before after old new held c slot mask number p o at fewer renames (Ok n)
 }
 arms-at before after old new held c slot mask number p o at fewer renames (Err f) given armed = tt
 
+-- what stands at a path has a spot that isn't nowhere
+pub spot-there : (p : Path) (o : Object) (spot : Spot) → IsSpotOf p o spot → spot ≢ Nowhere
+spot-there p object.Directory spot is = λ no. let z = sym is ∙ no in cc
+spot-there p object.Lower spot is = λ no. let z = sym is ∙ no in cc
+spot-there p (object.Upper key last) spot is = λ no. let z = sym is ∙ no in cc
+spot-there p object.Other spot is = absurd is
+
 -- what is held, or not, is so by its spot
 number-by : (objects : Objects) (p : Path) (o : Object) (spot : Spot) (r : Option ℕ) → IsSpotOf p o spot → IsNumberOf objects p o r →
-    (spot ≢ Nowhere) × IsNumberAt objects spot r
-number-by objects p object.Directory spot r is at = (λ no. let z = sym is ∙ no in cc, subst (λ x. IsNumberAt objects x r) (sym is) at)
-number-by objects p object.Lower spot r is at = (λ no. let z = sym is ∙ no in cc, subst (λ x. IsNumberAt objects x r) (sym is) at)
-number-by objects p (object.Upper key last) spot r is at = (λ no. let z = sym is ∙ no in cc, subst (λ x. IsNumberAt objects x r) (sym is) at)
+    IsNumberAt objects spot r
+number-by objects p object.Directory spot r is at = subst (λ x. IsNumberAt objects x r) (sym is) at
+number-by objects p object.Lower spot r is at = subst (λ x. IsNumberAt objects x r) (sym is) at
+number-by objects p (object.Upper key last) spot r is at = subst (λ x. IsNumberAt objects x r) (sym is) at
 number-by objects p object.Other spot r is at = absurd is
 
 -- a number that is nobody's nobody watches
@@ -173,18 +188,16 @@ pub judged-by : (clients : Clients) (k : Watches) →
     (c slot n : ℕ) (p : Path) (o : Object) (spot : Spot) (r : Option Errno) → IsSpotOf p o spot →
     (spot_of clients.objects n ≡ Some spot) ⊎ (IsVacant clients.objects spot × (spot_of clients.objects n ≡ None)) →
     IsArmJudged clients k c slot p o r → refusal_of k c slot (Some n) ≡ r
-judged-by clients k known one c slot n p o spot r stands was is = by is.number found.1 is.judged was
+judged-by clients k known one c slot n p o spot r stands was is =
+    by is.number (number-by clients.objects p o spot is.number stands is.found) is.judged was
   where
-    found : (spot ≢ Nowhere) × IsNumberAt clients.objects spot is.number
-    found = number-by clients.objects p o spot is.number stands is.found
-
     by : (number : Option ℕ) → IsNumberAt clients.objects spot number →
         r ≡ refusal_of k c slot number →
         (spot_of clients.objects n ≡ Some spot) ⊎
         (IsVacant clients.objects spot × (spot_of clients.objects n ≡ None)) →
         refusal_of k c slot (Some n) ≡ r
     by (Some m) there judged (inl same) = ap (λ x. refusal_of k c slot (Some x))
-        (one spot n m found.0 same there) ∙ sym judged
+        (one spot n m (spot-there p o spot stands) same there) ∙ sym judged
     by (Some m) there judged (inr none) = absurd (none.0 m there)
     by None vacant judged (inl same) = absurd (vacant n same)
     by None vacant judged (inr none) = unwatched-arm k.instances c slot (New n)

@@ -6,9 +6,10 @@ use Rattle.watch_table.proofs.Outcomes.{OnErr-map}
 use Rattle.notifier.specs.Arming.{ArmsAt, IsArmJudged}
 use Rattle.notifier.specs.Notifying.{AreCounted, watchers}
 use Rattle.notifier.specs.Watches.{Watches}
-use Rattle.notifier.proofs.Arming.{arms-at, counted-armed, judged-by, more-armed, outcome-of}
+use Rattle.notifier.proofs.Arming.{arms-at, counted-armed, judged-by, let_go-one, more-armed, outcome-of, spot-there}
 use Rattle.notifier.proofs.Counting.{watched-held}
 use Rattle.notifier.proofs.Told.{keeps-then, places-then}
+use Rattle.notifier.proofs.Undone.{arm-undone, same-holders}
 use Rattle.notifier.proofs.kept.Notifier.armed.Goals as goal
 
 pub arm-outcome-requires-clause-allowed : goal.arm-outcome-requires-clause-allowed
@@ -92,6 +93,27 @@ returns-clause-same g c =
     let inside = c.self.inside in
     OnErr-map c.arm-outcome.result
     (λ err. ap (λ (es : List Instance). record { instances = es; renames = inside.renames }) err ∙ c.self.view_is) c.arm-outcome.ensures.err
+
+-- what was held for the watch is let go again
+pub returns-clause-err : goal.returns-clause-err
+returns-clause-err g c =
+    let before = c.args.clients.now in
+    let held = c.hold_object.new.clients in
+    let after = c.release.new.self in
+    let o = c.in_ok-number.number in
+    let at = c.in_ok-number.ensures.holds in
+    let first = c.lawful.ensures in
+    let last = c.lawful-3.ensures in
+    let es = c.self.inside.watches in
+    let keeps = keeps-then before held after at.2.clients c.release.ensures.lets.clients in
+    OnErr-map c.arm-outcome.result
+    (λ left.
+    let none : watchers c.arm-outcome.new.self o ≡ watchers es o = ap (λ (es : List Instance). watchers es o) left in
+    let back = let_go-one (beside before) (beside held) (beside after) o _ at.2.beside
+    (omega (arith, none, c.watchers.ensures, c.watchers-before.ensures)) c.release.ensures.beside in
+    arm-undone before held after at.0 o (spot-there c.args.path.now c.args.object at.0 at.1) at.2 c.release.ensures.lets
+    ? first.counted last.counted (same-holders before after keeps first.known last.known back) back)
+    c.arm-outcome.ensures.err
 
 -- out of memory, or where as many hold it as can be counted
 pub returns-in_err-number-clause-clients : goal.returns-in_err-number-clause-clients
