@@ -113,9 +113,9 @@ held-there before after p o spot (Err e) is holds = tt
 pub counted-armed : (before held after : ℕ → ℕ) (o less : ℕ) (es fs : List Instance) →
     ((n : ℕ) → before n ≡ watchers es n) → WatchesMore es fs o →
     ((n : ℕ) → held n ≡ before n + cond (nat_eq o n) 1 0) →
-    less ≡ 1 - (watchers fs o - watchers es o) →
-    ((n : ℕ) → after n + cond (nat_eq o n) less 0 ≡ held n) → (n : ℕ) → after n ≡ watchers fs n
-counted-armed before held after o less es fs counts more holds few lets n = elim (cases_Bool (nat_eq o n)) [
+    ((n : ℕ) → after n + cond (nat_eq o n) less 0 ≡ held n) →
+    less ≡ 1 - (watchers fs o - watchers es o) → (n : ℕ) → after n ≡ watchers fs n
+counted-armed before held after o less es fs counts more holds lets few n = elim (cases_Bool (nat_eq o n)) [
   | inl q ↦ subst (λ x. after x ≡ watchers fs x) (eqb-true o n q)
       (let on = eq-eqb o o refl in
       let left : after o + less ≡ held o = subst (λ b. after o + cond b less 0 ≡ held o) on (lets o) in
@@ -133,9 +133,9 @@ counted-armed before held after o less es fs counts more holds few lets n = elim
 ]
 
 -- where just the one holder lets go that came, as many are left as before
-pub let_go-one : (before held after : ℕ → ℕ) (o less : ℕ) → ((n : ℕ) → held n ≡ before n + cond (nat_eq o n) 1 0) → less ≡ 1 →
-    ((n : ℕ) → after n + cond (nat_eq o n) less 0 ≡ held n) → (n : ℕ) → after n ≡ before n
-let_go-one before held after o less holds one lets n =
+pub let_go-one : (before held after : ℕ → ℕ) (o less : ℕ) → ((n : ℕ) → held n ≡ before n + cond (nat_eq o n) 1 0) →
+    ((n : ℕ) → after n + cond (nat_eq o n) less 0 ≡ held n) → less ≡ 1 → (n : ℕ) → after n ≡ before n
+let_go-one before held after o less holds lets one n =
     let left : after n + cond (nat_eq o n) 1 0 ≡ held n = subst (λ m. after n + cond (nat_eq o n) m 0 ≡ held n) one (lets n) in
     let was = holds n in
     omega arith

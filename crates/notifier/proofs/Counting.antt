@@ -50,9 +50,9 @@ ne m n f same = false≢true (sym f ∙ eq-eqb m n same)
 -- what is held beside the handles is counted still, where those let go whose watches ended
 module _ (shows : Rule) (s : Subject) (o ended : ℕ) (before after : ℕ → ℕ) (es fs : List Instance) (hears : AllHear shows (s ∷ []) es fs) where
   pub counted-told : ((n : ℕ) → n ≢ o → AreSpared s n es) → ((n : ℕ) → before n ≡ watchers es n) →
-      watchers fs o + ended ≡ watchers es o →
-      ((n : ℕ) → after n + cond (nat_eq o n) ended 0 ≡ before n) → (n : ℕ) → after n ≡ watchers fs n
-  counted-told spared counts less lets n = elim (cases_Bool (nat_eq o n)) [
+      ((n : ℕ) → after n + cond (nat_eq o n) ended 0 ≡ before n) →
+      watchers fs o + ended ≡ watchers es o → (n : ℕ) → after n ≡ watchers fs n
+  counted-told spared counts lets less n = elim (cases_Bool (nat_eq o n)) [
     | inl q ↦
         let left : after n + ended ≡ before n = subst (λ b. after n + cond b ended 0 ≡ before n) q (lets n) in
         let here : watchers fs n + ended ≡ watchers es n =

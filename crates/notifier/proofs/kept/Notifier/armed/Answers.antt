@@ -86,7 +86,7 @@ returns-clause-counted g c =
     let more = more-armed c.args.client c.args.slot o c.args.mask es fs c.lawful-2.ensures done in
     let counts = subst (λ (k : Watches). AreCounted before k) (sym c.self.view_is) c.requires.counted in
     counted-armed (beside before) (beside c.hold_object.new.clients) (beside c.release.new.self) o _ es fs counts more
-    c.in_ok-number.ensures.holds.2.beside (omega (arith, c.watchers.ensures, c.watchers-before.ensures)) c.release.ensures.beside
+    c.in_ok-number.ensures.holds.2.beside c.release.ensures.beside (omega (arith, c.watchers.ensures, c.watchers-before.ensures))
 
 pub returns-clause-same : goal.returns-clause-same
 returns-clause-same g c =
@@ -110,7 +110,7 @@ returns-clause-err g c =
     (λ left.
     let none : watchers c.arm-outcome.new.self o ≡ watchers es o = ap (λ (es : List Instance). watchers es o) left in
     let back = let_go-one (beside before) (beside held) (beside after) o _ at.2.beside
-    (omega (arith, none, c.watchers.ensures, c.watchers-before.ensures)) c.release.ensures.beside in
+    c.release.ensures.beside (omega (arith, none, c.watchers.ensures, c.watchers-before.ensures)) in
     arm-undone before held after at.0 o (spot-there c.args.path.now c.args.object at.0 at.1) at.2 c.release.ensures.lets
     ? first.counted last.counted (same-holders before after keeps first.known last.known back) back)
     c.arm-outcome.ensures.err

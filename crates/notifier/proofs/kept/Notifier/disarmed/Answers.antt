@@ -44,5 +44,5 @@ returns-in-Some-clause-told g c =
       ends = record { clients = lets.clients; fewer = lets.fewer; places = lets.places };
       counted = counted-told shows s o _ (beside before) (beside after) es fs heard
           (λ n ne. one-spared shows s o c.args.client c.args.watch refl n ne es es one (each-own es c.lawful.ensures)) counts
-          (omega (arith, less, c.watchers.ensures, c.watchers-before.ensures)) c.release.ensures.beside;
+          c.release.ensures.beside (omega (arith, less, c.watchers.ensures, c.watchers-before.ensures));
     }

@@ -32,5 +32,5 @@ returns-clause-told g c =
       hears = subst (λ (k : Watches). AllHear shows (s ∷ []) k.instances fs) c.self.view_is heard;
       ends = record { clients = lets.clients; fewer = lets.fewer; places = lets.places };
       counted = counted-told shows s o c.tell_watchers-ended.result (beside before) (beside after) es fs heard
-          (λ n ne. others-spared shows s o refl n ne es) counts c.tell_watchers-ended.ensures.ended c.release.ensures.beside;
+          (λ n ne. others-spared shows s o refl n ne es) counts c.release.ensures.beside c.tell_watchers-ended.ensures.ended;
     }
