@@ -21,5 +21,5 @@ returns-in-Directory-clause-holds c =
 pub returns-in-Lower-clause-holds : goal.returns-in-Lower-clause-holds
 returns-in-Lower-clause-holds c =
     let p = c.args.path.now in
-    held-there c.args.clients.now c.hold_path-2.new.self p c.args.object (At p) c.hold_path-2.result
-    (subst (λ (o : Object). IsSpotOf p o (At p)) (sym c.in-Lower.is) refl) c.hold_path-2.ensures.holds
+    held-there c.args.clients.now c.hold_path-in-Lower.new.self p c.args.object (At p) c.hold_path-in-Lower.result
+    (subst (λ (o : Object). IsSpotOf p o (At p)) (sym c.in-Lower.is) refl) c.hold_path-in-Lower.ensures.holds

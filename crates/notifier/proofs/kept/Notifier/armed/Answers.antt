@@ -123,6 +123,4 @@ pub returns-in_err-number-clause-places : goal.returns-in_err-number-clause-plac
 returns-in_err-number-clause-places g c = c.in_err-number.ensures.err.places
 
 pub returns-in_err-number-clause-counted : goal.returns-in_err-number-clause-counted
-returns-in_err-number-clause-counted g c n =
-    let counts = subst (λ (k : Watches). AreCounted c.args.clients.now k) (sym c.self.view_is) c.requires.counted in
-    c.in_err-number.ensures.err.beside n ∙ counts n
+returns-in_err-number-clause-counted g c n = c.in_err-number.ensures.err.beside n ∙ c.requires.counted n
