@@ -19,7 +19,7 @@ impl<F: Callback, R: Rule> Notifier<F, R> {
         requires open { (h : Handle) × (opened_by clients.old client descriptor ≡ Some h) }
         ensures told { (h : Handle) → opened_by clients.old client descriptor ≡ Some h →
             IsTold R.shows clients.old clients.new self.old self.new (of_both h.way (Some
-                h.object) bits) }
+            h.object) bits) }
         ensures renames { self.new.renames ≡ self.old.renames }
     {
         if let Some(handle) = clients.opened(client, descriptor) {

@@ -108,8 +108,12 @@ impl<F: Callback, R: Rule> Notifier<F, R> {
         requires there { list_any (is_numbered watch) (watches_of (instance_of self.old.instances client)) ≡ true }
         requires counted { AreCounted clients.old self.old }
         ensures told { IsTold R.shows clients.old clients.new self.old self.new
-            (record { aim = plain.Only client watch; bits = plain.IGNORED; cookie = 0; name = None
-                } ∷ []) }
+            (record {
+              aim = plain.Only client watch;
+              bits = plain.IGNORED;
+              cookie = 0;
+              name = None;
+            } ∷ []) }
         ensures renames { self.new.renames ≡ self.old.renames }
     {
         self.watches.lawful();
