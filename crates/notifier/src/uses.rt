@@ -1,7 +1,6 @@
 // What uses of open handles tell.
 ghost use Rattle.std.specs.Prelude.{◌≡◌, ◌++◌, Some};
 ghost use Rattle.open_handles.specs.Attaching.{opened_by};
-ghost use Rattle.open_handles.specs.Handles.{tracked_of};
 ghost use Rattle.open_handles.specs.declared.handle.Handle.{Handle};
 ghost use Rattle.notice_laws.specs.Telling.{of_both, of_end};
 ghost use Rattle.notifier.specs.Notifying.{AreCounted, IsOther, IsTold};

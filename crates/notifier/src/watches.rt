@@ -1,8 +1,7 @@
 // Watches that are armed and taken away.
-ghost use Rattle.std.specs.Prelude.{◌≡◌, ◌≢◌, ◌<◌, ◌^◌, ◌∷◌, [], ℕ, None, Some, IsSome, IfOk, MatchResult, OnErr, true};
+ghost use Rattle.std.specs.Prelude.{◌≡◌, ◌≢◌, ◌<◌, ◌^◌, ◌∷◌, [], None, Some, IsSome, IfOk, MatchResult, OnErr, true};
 ghost use Rattle.std.specs.List.{list_any};
 ghost use Rattle.object_table.specs.Objects.{Spot};
-ghost use Rattle.plain_model.specs.Layers.{Path as Names};
 ghost use Rattle.plain_model.specs.Machine.{hooks_of, instance_of, watches_of};
 ghost use Rattle.plain_model.specs.Watching as plain;
 ghost use Rattle.plain_model.specs.Watching.{is_numbered};

@@ -4,7 +4,6 @@ use Rattle.plain_model.specs.Machine.{instance_of, watches_of}
 use Rattle.open_handles.specs.Attaching.{beside}
 use Rattle.watch_table.specs.Listening.{is_on}
 use Rattle.notifier.specs.Notifying.{AreCounted, watchers}
-use Rattle.notifier.specs.Watches.{Watches}
 use Rattle.notifier.proofs.Muting.{watchers-apart}
 use Rattle.notifier.proofs.kept.Notifier.muted.Goals as goal
 
