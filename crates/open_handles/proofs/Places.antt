@@ -32,6 +32,14 @@ stay-holds old new spot n some holds m l at = elim (cases_eq m n) [
     by x some here (inr none) at e = let no : None ≡
         Some l = sym (none-opened old n none.1) ∙ at in absurd (cc)
 
+-- where more hold one that is held, and it stands where it stood
+pub stay-hold : (old new : Objects) (n count : ℕ) (spot : Option Spot) →
+    SetsSpot old new n spot count → opened new.tree n ≡ opened old.tree n → Stay old new
+stay-hold old new n count spot sets place m l at = elim (cases_eq m n) [
+  | inl e ↦ ap (opened new.tree) e ∙ place ∙ ap (opened old.tree) (sym e) ∙ at
+  | inr off ↦ sets.other_places m off ∙ at
+]
+
 -- so an open directory does
 pub places-stay : (old new : Clients) → Stay old.objects new.objects → KeepsPlaces old new
 places-stay old new stay c d o l there at = stay o.directory l at
