@@ -14,6 +14,7 @@ use Rattle.plain_model.specs.Changes.{armed_on, at_client}
 use Rattle.object_table.specs.Objects.{Objects, Spot, Nowhere, spot_of, AreFewer, IsVacant}
 use Rattle.open_handles.specs.declared.clients.Clients.{Clients}
 use Rattle.open_handles.specs.Attaching.{HoldsOne}
+use Rattle.open_handles.specs.Holding.{Releases}
 use Rattle.watch_table.specs.Clients.{AreRising, clients_of}
 use Rattle.watch_table.specs.Listening.{is_on}
 use Rattle.watch_table.proofs.Arming.{unwatched-arm}
@@ -139,16 +140,10 @@ counted-armed before held after o less es fs counts more holds lets few n =
           omega arith
     ]
 
--- where just the one holder lets go that came, as many are left as before
-pub let_go-one : (before held after : ℕ → ℕ) (o less : ℕ) →
-    ((n : ℕ) → held n ≡ before n + cond (nat_eq o n) 1 0) →
-    ((n : ℕ) → after n + cond (nat_eq o n) less 0 ≡ held n) → less ≡ 1 →
-    (n : ℕ) → after n ≡ before n
-let_go-one before held after o less holds lets one n =
-    let left : after n + cond (nat_eq o n) 1 0 ≡ held n =
-    subst (λ m. after n + cond (nat_eq o n) m 0 ≡ held n) one (lets n) in
-    let was = holds n in
-    omega arith
+-- the one holder lets go that came, where as many do
+pub released-one : (old new : Objects) (o less : ℕ) → Releases old new o less → less ≡ 1 →
+    Releases old new o 1
+released-one old new o less releases one = subst (Releases old new o) one releases
 
 -- a slot is armed on what is held
 pub arms-at : (before after : Clients) (old new : Watches) (held : Objects)

@@ -3,4 +3,3 @@ pub mod Counting
 pub mod Told
 pub mod Muting
 pub mod Arming
-pub mod Undone

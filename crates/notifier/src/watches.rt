@@ -97,7 +97,6 @@ impl<F: Callback, R: Rule> Notifier<F, R> {
         let outcome = self.watches.arm(alloc, client, slot, watched, mask);
         let more = self.watches.watchers(watched) - before;
         clients.release(number, 1 - more);
-        clients.lawful();
         outcome
     }
 

@@ -1,16 +1,17 @@
 use Rattle.std.proofs.Common.{◌≡◌, ◌+◌, List, None, cond, eq-eqb, refl, sym, ap, subst, arith, ◌∙◌}
 use Rattle.std.specs.Prelude.{IfOk}
 use Rattle.plain_model.specs.Watching.{Instance}
+use Rattle.object_table.specs.Objects.{SameSpots}
 use Rattle.open_handles.specs.Attaching.{beside}
+use Rattle.open_handles.proofs.Holding.{hold-undone, holds-no-more}
 use Rattle.watch_table.proofs.Outcomes.{OnErr-map}
 use Rattle.notifier.specs.Arming.{ArmsAt, IsArmJudged}
 use Rattle.notifier.specs.Notifying.{AreCounted, watchers}
 use Rattle.notifier.specs.Watches.{Watches}
-use Rattle.notifier.proofs.Arming.{arms-at, counted-armed, judged-by, let_go-one, more-armed}
-use Rattle.notifier.proofs.Arming.{spot-there}
+use Rattle.notifier.proofs.Arming.{arms-at, counted-armed, judged-by, more-armed}
+use Rattle.notifier.proofs.Arming.{released-one, spot-there}
 use Rattle.notifier.proofs.Counting.{watched-held}
 use Rattle.notifier.proofs.Told.{keeps-then, places-then}
-use Rattle.notifier.proofs.Undone.{arm-undone, same-holders}
 use Rattle.notifier.proofs.kept.Notifier.armed.Goals as goal
 
 pub arm-outcome-requires-clause-allowed : goal.arm-outcome-requires-clause-allowed
@@ -123,21 +124,23 @@ returns-clause-err g c =
     let after = c.release.new.self in
     let o = c.in_ok-number.number in
     let at = c.in_ok-number.ensures.holds in
-    let first = c.lawful.ensures in
-    let last = c.lawful-3.ensures in
-    let lets = c.release.ensures.lets in
     let es = c.self.inside.watches in
     let there = spot-there c.args.path.now c.args.object at.0 at.1 in
-    let keeps = keeps-then before held after at.2.clients lets.clients in
+    let keeps = keeps-then before held after at.2.clients c.release.ensures.lets.clients in
+    let same : SameSpots held.objects held.objects = record {
+      spots = λ n. refl;
+      holders = λ n. refl;
+      places = λ n. refl;
+    } in
     OnErr-map arm.result
     (λ left.
     let none : watchers arm.new.self o ≡ watchers es o =
     ap (λ (es : List Instance). watchers es o) left in
-    let back = let_go-one (beside before) (beside held) (beside after) o _ at.2.beside
-    c.release.ensures.beside
+    let one = released-one held.objects after.objects o _ c.release.ensures.releases
     (omega (arith, none, c.watchers.ensures, c.watchers-before.ensures)) in
-    arm-undone before held after at.0 o there at.2 lets ? first.counted last.counted
-    (same-holders before after keeps first.known last.known back) back)
+    holds-no-more before after keeps
+    (hold-undone before.objects held.objects held.objects after.objects at.0 o there
+    c.lawful.ensures.counted at.2.holds same one))
     arm.ensures.err
 
 -- out of memory, or where as many hold it as can be counted
