@@ -12,7 +12,7 @@ ghost use Rattle.object_table.specs.declared.dentry.Unlisted.TheVariants as unli
 ghost use Rattle.open_handles.specs.Attaching.{beside, HoldsNoMore, HoldsOne, KeepsClients};
 ghost use Rattle.open_handles.specs.Attaching.{KeepsPlaces, LetsGo, SameBeside};
 ghost use Rattle.open_handles.specs.Holding.{HoldsBoth, HoldsMore, HoldsNew, HoldsWay, IsHeldWay};
-ghost use Rattle.open_handles.specs.Holding.{IsWayTo, ReleasesWay};
+ghost use Rattle.open_handles.specs.Holding.{IsWayTo, Releases, ReleasesWay};
 ghost use Rattle.open_handles.specs.TrackedHandles.{handle_uses, way_uses};
 
 use crate::clients::Clients;
@@ -87,6 +87,7 @@ impl Clients {
     pub fn release(&mut self, number: usize, count: usize)
         requires { count ≤ beside self.old number }
         ensures lets { LetsGo self.old self.new }
+        ensures releases { Releases self.old.objects self.new.objects number count }
         ensures beside { (n : ℕ) → beside self.new n + cond (nat_eq number n) count 0 ≡
             beside self.old n }
         ensures room { room self.old.objects ≤ room self.new.objects }
