@@ -4,8 +4,6 @@ pub mod LeftMarks
 pub mod Texts
 pub mod Shown
 pub mod Objects
-pub mod Counting
-pub mod Holding
 pub mod Openings
 pub mod OpeningWrites
 pub mod Serving
