@@ -120,11 +120,11 @@ module _ (s : State) (c : ℕ) (p : Path) (k : Call) (V : Layer) (lowers : List 
       (still-folder (s.tree h.node) (t h.node) (x.held b fd h on) is.directory)
 
 -- clients that have the same descriptors have the same tables
-tables-attached : (P : handles.Handle → Handle → Type 0) (clients new : Clients) (ks : List Table) → new.attached ≡ clients.attached → AreTables P clients ks → AreTables P new ks
+pub tables-attached : (P : handles.Handle → Handle → Type 0) (clients new : Clients) (ks : List Table) → new.attached ≡ clients.attached → AreTables P clients ks → AreTables P new ks
 tables-attached P clients new ks same tables = grind arith
 
 -- and have the same files open
-one-attached : (clients new : Clients) (ks : List Table) → new.attached ≡ clients.attached → AreOne clients ks → AreOne new ks
+pub one-attached : (clients new : Clients) (ks : List Table) → new.attached ≡ clients.attached → AreOne clients ks → AreOne new ks
 one-attached clients new ks same =
     one-fewer clients new ks ks
     (λ k d x. open-before clients new ks ks k d x (ap (λ z. option_and_then (λ (e : Descriptors). opened e.slots.items x.descriptor) (get nat_cmp z x.client)) same) refl)

@@ -31,6 +31,7 @@ pub mod LinkedCalls
 pub mod Linking
 pub mod Renames
 pub mod Renaming
+pub mod Numbers
 pub mod Paging
 pub mod Parsed
 pub mod Altering

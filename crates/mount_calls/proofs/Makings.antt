@@ -37,13 +37,13 @@ not-open m s st k vacant has =
     let none : (the_upper m).inodes k ≡ None = ap (λ o. option_map (fill (the_lowers m)) (option_and_then inode_of o)) vacant in
     false≢true (sym (ap is_some none) ∙ ap is_some of.0.inode)
 
-module _ (m : Mount) (s : State) (st : IsStateOf m s) (c : ℕ) where
+module _ (m : Mount) (s : State) (st : IsStateOf m s) where
   -- a mount that runs out of memory leaves the state
   pub wanted-state : (new : Layers) (p : Path) → StaysMount m.layers new → GainsParents m.layers new p → IsStateOf (record m { layers = new }) s
   wanted-state new p mounts parents = state-stays m s st new parents.lowers (mounts s st.layers) (parents-live m.layers new p parents)
 
   -- an open that makes its file
-  module _ (p : Path) (f : OpenFlags) (mode : ℕ) (fine : opening_fault (layers_of m.layers) p f mode (Some 0) ≡ None) (absent : shows 0 (layers_of m.layers) p ≡ None)
+  module _ (c : ℕ) (p : Path) (f : OpenFlags) (mode : ℕ) (fine : opening_fault (layers_of m.layers) p f mode (Some 0) ≡ None) (absent : shows 0 (layers_of m.layers) p ≡ None)
       (new : Layers) (key : ℕ) (leaf : MakesLeaf m.layers new p (content.File []) (new_attributes mode)) (number : leaf.number ≡ key) (steps : CreateSteps m.layers new p mode)
       (d : ℕ) (last : Clients) (opens : OpensOn m.clients last c d (File (file_at (record { layer = 0; key = key }) f None))) where
     abbrev V : Layer

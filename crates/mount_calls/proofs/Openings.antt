@@ -1,5 +1,5 @@
 -- Opens: what they are refused for, and that what is opened for reading is as the machine opens it.
-use Rattle.std.proofs.Common.{arith, ◌≡◌, ◌↔◌, ℕ, zero, suc, ◌<◌, Bool, true, false, not, cond, ◌&&◌, ◌||◌, List, Option, None, Some, map, refl, sym, ap, ◌∙◌, subst, ◌⊎◌, inl, inr, is_none, is_some, nat_lt}
+use Rattle.std.proofs.Common.{arith, ◌≡◌, ◌↔◌, ℕ, zero, suc, ◌+◌, ◌<◌, ◌≤◌, Bool, true, false, not, cond, ◌&&◌, ◌||◌, List, Option, None, Some, map, refl, sym, ap, ◌∙◌, subst, ◌⊎◌, inl, inr, is_none, is_some, nat_lt}
 use Rattle.std.proofs.Common.{rules}
 use Rattle.mount_calls.proofs.Words.{after, At, Attributes, bad_flags, base, Call, Content, Contents, DESCRIPTORS_MAX, Directory, EINVAL, Errno, face, false≢true, File, Folder, Handle, Inode, inode_of, is_directory, Layer, layer_of, Layers, layers_of, Leaf, Lower, lowers_of, lowest_free, ne_eqb, Node, node_at, node_in, node_of, NodeId, OpenFile, OpenFlags, opening_fault, option_and_then, or_else, Own, parents_fault, Path, Place, refusal, reply_of, see, SetsSlot, Shown, shows, shows_link, ShowsInode, State, Table, trees, Upper, way_of, when, with_handle}
 use Rattle.ov_base.specs.declared.bytes.Content.TheVariants as content
@@ -25,14 +25,21 @@ use Rattle.mount_laws.proofs.Opening.{law_of_open_refusal, law_of_opened_for_rea
 use Rattle.mount_laws.proofs.OpenFiles.{law_of_live_one, law_of_live_shown}
 use Rattle.open_handles.specs.declared.handle.Handle as handles
 use Rattle.open_handles.specs.declared.handle.On.{On}
+use Rattle.object_table.specs.Objects as spots
+use Rattle.object_table.specs.Objects.{Objects, spot_of}
 use Rattle.object_table.specs.Opened as places
+use Rattle.object_table.proofs.Spots.{opened-path}
 use Rattle.open_handles.specs.Listings.{directory_in, file_in, file_on}
 use Rattle.open_handles.specs.declared.clients.Clients.{Clients}
 use Rattle.mount_calls.specs.declared.mount.Mount.{Mount}
 use Rattle.std.specs.BTreeMap.{get}
 use Rattle.std.specs.Ordering.{nat_cmp}
 use Rattle.notice_laws.proofs.Numbers.{some-is}
-use Rattle.open_handles.specs.Attaching.{opened_by, ChangesClient, OpensHandle}
+use Rattle.open_handles.specs.declared.handle.Hold.{Hold}
+use Rattle.open_handles.specs.Handles.{tracked_of}
+use Rattle.open_handles.specs.TrackedHandles.{handle_uses, SetsTracked}
+use Rattle.open_handles.specs.Attaching.{beside, opened_by, tables_of, ChangesClient, OpensHandle}
+use Rattle.mount_calls.specs.Numbers.{OpensHold}
 use Rattle.open_handles.specs.FreeDescriptors.{IsFull, IsLowestFree}
 use Rattle.mount_calls.specs.Files.{is_leaf, read_mark, IsFrozen, IsKept, KeepsBytes, IsOf, IsOpenOn, AreOne, SeesFile, source_at, file_at}
 use Rattle.mount_calls.specs.Opening.{inode_refusal}
@@ -143,6 +150,24 @@ pub record OpensOn (old new : Clients) (c d : ℕ) (on : On) : Type 0 where
 -- so it is where an open was prepared and is made then
 pub opens-on : (old new : Clients) (c d : ℕ) (h : handles.Handle) (on : On) → IsLowestFree old c d → OpensHandle old new c d h → h.on ≡ on → OpensOn old new c d on
 opens-on old new c d h on low opens is = record { handle = h; leads = is; lowest = low; changes = opens.changes }
+
+-- what was held for a handle is held for it
+pub held-for : (clients : Clients) (h : handles.Handle) (hold : Hold) → tracked_of h ≡ hold → ((n : ℕ) → handle_uses n hold ≤ beside clients n) → (n : ℕ) → handle_uses n (tracked_of h) ≤ beside clients n
+held-for clients h hold is held = subst (λ z. (n : ℕ) → handle_uses n z ≤ beside clients n) (sym is) held
+
+-- and the handle that is opened holds it
+pub opens-hold : (old new : Clients) (c d : ℕ) (h : handles.Handle) (hold : Hold) → OpensHandle old new c d h → tracked_of h ≡ hold → OpensHold old new c d hold
+opens-hold old new c d h hold opens is = record {
+  objects = opens.objects;
+  sets = subst (λ z. SetsTracked (tables_of old) (tables_of new) c d (Some z)) is opens.sets;
+  beside = subst (λ z. (n : ℕ) → beside new n + handle_uses n z ≡ beside old n) is opens.beside;
+}
+
+-- what was held at a path for a handle on a directory stands there once that is opened
+pub held-there : (old new : Clients) (h : handles.Handle) (hold : Hold) (p : Path) → new.objects ≡ old.objects → tracked_of h ≡ hold → spot_of old.objects hold.object ≡ Some (spots.At p) → places.opened new.objects.tree h.object ≡ Some (At p)
+held-there old new h hold p same is at =
+    ap (λ (z : Objects). places.opened z.tree h.object) same
+    ∙ opened-path old.objects h.object p (ap (λ (z : Hold). spot_of old.objects z.object) is ∙ at)
 
 -- a handle leads to the upper's file of this key, on this node
 record LeadsTo (o : handles.Handle) (x : Handle) (k : ℕ) (d : NodeId) : Type 0 where

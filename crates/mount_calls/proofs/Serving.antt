@@ -7,6 +7,7 @@ use Rattle.std.specs.List.{position, position_or_len}
 use Rattle.std.specs.BTreeMap.{get}
 use Rattle.open_handles.specs.declared.clients.Clients.{Clients}
 use Rattle.object_table.specs.Opened as places
+use Rattle.object_table.specs.Objects.{Objects}
 use Rattle.open_handles.specs.declared.handle.Handle as handles
 use Rattle.open_handles.specs.declared.handle.On.{On}
 use Rattle.open_handles.specs.Listings.{directory_in, directory_on, file_in}
@@ -72,8 +73,8 @@ placed U lowers t ds es o h f s = by o.on refl s
     by (File file) is x = x
 
 -- where the open directories are the same, they stand where they stood
-pub places-same : (clients new : Clients) → new.objects.tree ≡ clients.objects.tree → KeepsPlaces clients new
-places-same clients new same c d o l is at = ap (λ z. places.opened z o.directory) same ∙ at
+pub places-same : (clients new : Clients) → new.objects ≡ clients.objects → KeepsPlaces clients new
+places-same clients new same c d o l is at = ap (λ (z : Objects). places.opened z.tree o.directory) same ∙ at
 
 pub slot-some : (P : handles.Handle → Handle → Type 0) (a : Option handles.Handle) (x : Option Handle) → IsSlot P a x → is_some a ≡ is_some x
 slot-some P a x s = grind arith

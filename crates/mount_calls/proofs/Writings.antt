@@ -79,6 +79,10 @@ not-writing U lowers t f h x = by f.source refl x.source
 last-of : (a b x : Option Errno) → or_else a b ≡ None → or_else a (or_else b x) ≡ x
 last-of a b x h = grind arith
 
+-- the first of three refusals
+first-told : (a b x : Option Errno) (e : Errno) → or_else a b ≡ Some e → or_else a (or_else b x) ≡ Some e
+first-told a b x e h = grind arith
+
 -- a write that is refused nothing is of a file to write to
 unrefused-write : (f : OpenFile) (count : ℕ) → write_fault_on (File f) count ≡ None → is_none (written_key f) ≡ false
 unrefused-write f count h = grind arith
