@@ -32,6 +32,8 @@ pub mod Linking
 pub mod Renames
 pub mod Renaming
 pub mod Numbers
+pub mod Moving
+pub mod Preparing
 pub mod Paging
 pub mod Parsed
 pub mod Altering

@@ -1,10 +1,10 @@
 -- The mount answers rename as the machine does.
-use Rattle.std.proofs.Common.{◌≡◌, ℕ, Bool, true, false, not, ◌&&◌, ◌||◌, List, [], ◌∷◌, ◌++◌, Option, None, Some, IsSome, refl, sym, ap, ◌∙◌, subst, map}
+use Rattle.std.proofs.Common.{◌≡◌, ℕ, Bool, true, false, not, ◌&&◌, ◌||◌, List, [], ◌∷◌, ◌++◌, Option, None, Some, IfNone, IsSome, refl, sym, ap, ◌∙◌, subst, map, ◌≢◌, ◌⊎◌, inl, inr, is_none}
 use Rattle.std.proofs.Common.{arith}
 use mathlib.Core.Logic.{∥∥₁_elim}
 use mathlib.Core.Bool.{Bool-set}
 use Rattle.merged_lookup.specs.Merged.{upper_of}
-use Rattle.mount_calls.proofs.Words.{after, AreLayers, Attributes, base, Dentries, Errno, false≢true, Handle, handle_of, is_directory, Layer, layer_of, Layers, lowers_of, node_of, node_at, OpenDirectory, or_else, Path, refusal, shows, State, StaysMount, Table, Tree, when}
+use Rattle.mount_calls.proofs.Words.{after, AreLayers, Attributes, base, Dentries, Errno, false≢true, Handle, handle_of, is_directory, Layer, layer_of, Layers, lowers_of, node_of, node_at, OpenDirectory, or_else, Path, refusal, Shown, shows, State, StaysMount, Table, Tree, when}
 use Rattle.ov_base.specs.declared.call.CallOf.TheVariants as call
 use Rattle.ov_base.specs.declared.errno.Errno.TheVariants.{EBUSY, EISDIR}
 use Rattle.ov_base.specs.declared.reply.Reply.TheVariants as reply
@@ -12,11 +12,14 @@ use Rattle.plain_model.specs.Refusals.{unless_same}
 use Rattle.plain_model.specs.Machine.{has_names, is_below, is_root}
 use Rattle.copy_up.specs.Showing.{StaysThin}
 use Rattle.copy_up.proofs.Keeping.{lowers-same}
-use Rattle.mount_laws.specs.Looks.{parents_fault, walk_fault}
+use Rattle.mount_laws.specs.Looks.{parents_fault, shows_link, walk_fault}
+use Rattle.notice_laws.specs.declared.object.Object.{Object}
+use Rattle.notice_laws.specs.declared.object.Object.TheVariants as object
+use Rattle.notice_laws.specs.Objects.{IsNumberOf, IsObject}
 use Rattle.mount_laws.specs.Renaming.{is_one, move_fault, rename_fault, Renames, RenamesSame}
 use Rattle.mount_laws.proofs.Renaming.{law_of_rename, law_of_same_rename, told}
 use Rattle.object_table.specs.Objects as spots
-use Rattle.object_table.specs.Objects.{left_of, spot_of, NoneBelow}
+use Rattle.object_table.specs.Objects.{left_of, spot_of, IsVacant, NoneBelow}
 use Rattle.object_table.specs.Renames.{Moves}
 use Rattle.object_table.proofs.Spots.{path-spot}
 use Rattle.open_handles.specs.Attaching.{KeepsClients}
@@ -173,3 +176,23 @@ pub rename-wanted :
     (m : Mount) (new : Layers) → StaysMount m.layers new →
     new.lowers ≡ m.layers.lowers → StaysLive m.layers new → StaysState m (record m { layers = new })
 rename-wanted m new mounts low live s st = state-stays m s st new low (mounts s st.layers) live
+
+-- what is no directory is shown as none
+pub object-file : (U : Layer) (lowers : List Layer) (p : Path) (o : Object) → IsObject U lowers p o → o ≢ object.Directory → is_directory (shows 0 (U ∷ lowers) p) ≡ false
+object-file U lowers p object.Directory is other = absurd (other refl)
+object-file U lowers p object.Lower is other = ap is_directory is.shown
+object-file U lowers p (object.Upper k last) is other = ap is_directory is.shown
+object-file U lowers p object.Other is other = by (shows 0 (U ∷ lowers) p) is
+  where
+    by : (x : Option Shown) → (is_none x ≡ true) ⊎ (shows_link x ≡ true) → is_directory x ≡ false
+    by x told = grind arith
+
+-- of a directory that is held where one comes, the attributes were copied
+pub replaced-copied : (m : Mount) (q : Path) (e : Object) (number : Option ℕ) (left : Option Attributes) → IsObject (the_upper m) (the_lowers m) q e → IsNumberOf m.clients.objects q e number → (e ≡ object.Directory) ⊎ ((e ≡ object.Other) × IsVacant m.clients.objects (spots.At q)) → IfNone left (is_directory (shows 0 (the_layers m) q) ≡ true → number ≡ None) → (k : ℕ) → spot_of m.clients.objects k ≡ Some (spots.At q) → IsSome left
+replaced-copied m q e number (Some a) is present kind none k at = refl
+replaced-copied m q e number None is present (inr other) none k at = absurd (other.1 k at)
+replaced-copied m q e number None is present (inl dir) none k at =
+    let shown : is_directory (shows 0 (the_layers m) q) ≡ true = subst (IsObject (the_upper m) (the_lowers m) q) dir is in
+    let held : IsNumberOf m.clients.objects q object.Directory number = subst (λ o. IsNumberOf m.clients.objects q o number) dir present in
+    let vacant : IsVacant m.clients.objects (spots.At q) = subst (IsNumberOf m.clients.objects q object.Directory) (none shown) held in
+    absurd (vacant k at)

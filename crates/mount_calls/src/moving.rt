@@ -168,7 +168,9 @@ impl Mount {
         ensures stays { StaysState self.old self.new }
     {
         self.lose_name(course.replaced, course.over);
-        self.lift(course.number, course.object, key);
+        if let Object::Lower = course.object {
+            self.lift(course.number, course.object, key);
+        }
     }
 
     /// Leads the handles on what moved that came by the old way to the new one, whose directory was
