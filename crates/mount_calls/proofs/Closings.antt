@@ -1,7 +1,7 @@
 -- What closing a descriptor does to a mount, where a file that nothing names or holds any more is freed.
 use Rattle.std.proofs.Common.{arith, ◌≡◌, ◌↔◌, ℕ, ◌<◌, true, false, cond, ◌||◌, List, Option, None, Some, Ok, Err, refl, sym, ap, ◌∙◌, subst, ◌⊎◌, inl, inr, is_some}
 use Rattle.merged_lookup.specs.Merged.{upper_of}
-use Rattle.mount_calls.proofs.Words.{after, cases_Bool, Errno, false≢true, File, Handle, handle_of, Inode, IsLive, IsMountOf, Layer, Layers, lowers_of, node_at, NodeId, OpenFile, Path, refusal, SetsSlot, State, StaysMount, Table, Tree, Upper, with_handle}
+use Rattle.mount_calls.proofs.Words.{after, cases_Bool, cases_eq, Errno, false≢true, File, Handle, handle_of, Inode, IsLive, IsMountOf, Layer, Layers, lowers_of, node_at, NodeId, OpenFile, Path, refusal, SetsSlot, State, StaysMount, Table, Tree, Upper, with_handle}
 use Rattle.ov_base.specs.declared.call.CallOf.TheVariants as call
 use Rattle.ov_base.specs.declared.errno.Errno.TheVariants as errno
 use Rattle.ov_base.specs.declared.reply.Reply.TheVariants as reply
@@ -74,7 +74,19 @@ module _ (U : Layer) (lowers : List Layer) (s : State) (m : IsMountOf U lowers s
 module _ (clients : Clients) (old new : Layers) (k : ℕ) (f : FreesClosed clients old new k) (i : Inode) (at : (upper_of old).inodes k ≡ Some i) where
   -- the files that handles hold stay live
   freed-held : StaysHeld clients old new
-  freed-held t d j holds l = grind arith
+  freed-held t d j holds l = record {
+    bytes = l.bytes;
+    attributes = l.attributes;
+    links = l.links;
+    mark = l.mark;
+    inode = still (cases_eq j k) ∙ l.inode;
+    node = l.node;
+    paths = λ q. (λ led. f.keeps.objects q ∙ (l.paths q).0 led, λ names. (l.paths q).1 (sym (f.keeps.objects q) ∙ names));
+  }
+    where
+      still : (j ≡ k) ⊎ (j ≡ k → ⊥) → (upper_of new).inodes j ≡ (upper_of old).inodes j
+      still (inl e) = ap (λ (z : Layers). (upper_of z).inodes j) (f.held (subst (HasFile clients) e holds))
+      still (inr off) = f.others j off
 
 -- What the close of a descriptor leaves of the layers: paths hold what they held, no whiteout is needless, the mount stays one of the
 -- machine's, and the files that handles hold stay live.

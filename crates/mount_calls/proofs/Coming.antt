@@ -1,7 +1,7 @@
 -- Clients come on both sides.
 use Rattle.std.proofs.Common.{◌≡◌, ◌≢◌, ℕ, zero, suc, Bool, false, cond, ◌||◌, List, [], ◌∷◌, ◌++◌, Option, None, Some, Result, Ok, Err, refl, sym, ap, ◌∙◌, subst, is_some, length, replicate, slice_get, nat_eq, add-one, arith, ◌⊎◌, inl, inr}
 use Rattle.merged_lookup.specs.Merged.{upper_of}
-use Rattle.mount_calls.proofs.Words.{AllocError, AreLayers, cases_eq, Descriptors, DESCRIPTORS_MAX, eq-eqb, Errno, file_in, Handle, handle_of, handles_of, held_in, IfOk, Layer, layers_of, list_any, lowers_of, nat_cmp, ne_eqb, OnErr, OpenFile, option_and_then, State, Table, Tree}
+use Rattle.mount_calls.proofs.Words.{AllocError, AreLayers, cases_eq, Descriptors, DESCRIPTORS_MAX, directory_in, eq-eqb, Errno, file_in, Handle, handle_of, handles_of, held_in, IfOk, Layer, layers_of, list_any, lowers_of, nat_cmp, ne_eqb, OnErr, OpenFile, option_and_then, State, Table, Tree}
 use Rattle.std.proofs.Math.Bool.{or-false, or-true}
 use Rattle.std.proofs.lemmas.Bool.{or_parts}
 use Rattle.std.proofs.lemmas.List.Folds.{list_any-append}
@@ -17,8 +17,8 @@ use Rattle.mount_calls.specs.declared.mount.Mount.{Mount}
 use Rattle.open_handles.specs.Attaching.{Attaches, IsSame, KeepsAttached, KeepsPlaces, TakesBack, file_by, opened_by}
 use Rattle.open_handles.specs.Descriptors.{opened}
 use Rattle.mount_calls.specs.Files.{AreOne, IsOpenOn}
-use Rattle.mount_calls.specs.States.{IsOpenAs, AreTables, IsStateOf}
-use Rattle.mount_calls.proofs.Serving.{slot-as, places-same, OpensFewer, one-fewer, open-before}
+use Rattle.mount_calls.specs.States.{IsOpenAs, IsSlot, AreTables, IsStateOf}
+use Rattle.mount_calls.proofs.Serving.{slot-as, places-same, OpensFewer, one-fewer, open-before, placed, slot-moves}
 use Rattle.mount_calls.proofs.Stating.{the_lowers, the_upper, Alike, keep-same}
 
 -- whether a table is of a client
@@ -63,7 +63,30 @@ module _ (clients new : Clients) (ks ls : List Table) (n : ℕ) (others : (b : �
 
   -- the tables are right if its own is
   pub tables-but : (U : Layer) (lowers : List Layer) (t : Tree) → AreTables (IsOpenAs U lowers t clients.objects.tree) clients ks → KeepsPlaces clients new → ((b : ℕ) → b ≢ n → list_any (of b) ls ≡ list_any (of b) ks) → list_any (of n) ls ≡ is_some (get nat_cmp new.attached n) → length (handles_of ls n) ≡ cond (is_some (get nat_cmp new.attached n)) DESCRIPTORS_MAX 0 → ((d : ℕ) → handle_of ls n d ≡ None) → AreTables (IsOpenAs U lowers t new.objects.tree) new ls
-  tables-but U lowers t a places any here long bare = grind arith
+  tables-but U lowers t a places any here long bare = record {
+    attached = λ b. attached b (cases_eq b n);
+    room = λ b. room b (cases_eq b n);
+    slots = λ b d. slots b d (cases_eq b n);
+  }
+    where
+      attached : (b : ℕ) → (b ≡ n) ⊎ (b ≡ n → ⊥) → list_any (of b) ls ≡ is_some (get nat_cmp new.attached b)
+      attached b (inl e) = ap (λ z. list_any (of z) ls) e ∙ here ∙ ap (λ z. is_some (get nat_cmp new.attached z)) (sym e)
+      attached b (inr off) = any b off ∙ a.attached b ∙ sym (ap (λ (o : Option Descriptors). is_some o) (others b off))
+
+      room : (b : ℕ) → (b ≡ n) ⊎ (b ≡ n → ⊥) → length (handles_of ls b) ≡ cond (is_some (get nat_cmp new.attached b)) DESCRIPTORS_MAX 0
+      room b (inl e) = ap (λ z. length (handles_of ls z)) e ∙ long ∙ ap (λ z. cond (is_some (get nat_cmp new.attached z)) DESCRIPTORS_MAX 0) (sym e)
+      room b (inr off) = ap length (kept b off) ∙ a.room b ∙ sym (ap (λ (o : Option Descriptors). cond (is_some o) DESCRIPTORS_MAX 0) (others b off))
+
+      slots : (b d : ℕ) → (b ≡ n) ⊎ (b ≡ n → ⊥) → IsSlot (IsOpenAs U lowers t new.objects.tree) (opened_by new b d) (handle_of ls b d)
+      slots b d (inl e) =
+          slot-as _ None _ None _ (sym (ap (λ z. opened_by new z d) e ∙ none d)) (sym (ap (λ z. handle_of ls z d) e ∙ bare d)) tt
+      slots b d (inr off) =
+          let same : opened_by new b d ≡ opened_by clients b d = ap (open_in d) (others b off) in
+          let still : handle_of ls b d ≡ handle_of ks b d = ap (λ hs. held_in (slice_get hs d)) (kept b off) in
+          slot-as _ (opened_by clients b d) _ (handle_of ks b d) _ (sym same) (sym still)
+          (slot-moves (IsOpenAs U lowers t clients.objects.tree) (IsOpenAs U lowers t new.objects.tree) (opened_by clients b d) (handle_of ks b d)
+          (λ o h now at. placed U lowers t clients.objects.tree new.objects.tree o h (λ e l leads stood. places b d e l (ap directory_in (same ∙ now) ∙ leads) stood))
+          (a.slots b d))
 
 module _ (U : Layer) (lowers : List Layer) (t : Tree) (clients : Clients) (ks : List Table) (a : AreTables (IsOpenAs U lowers t clients.objects.tree) clients ks) (new : Clients) (n : ℕ) (h : Attaches clients new n) where
   -- the client had no table

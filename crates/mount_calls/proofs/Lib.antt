@@ -31,8 +31,8 @@ pub mod LinkedCalls
 pub mod Linking
 pub mod Renames
 pub mod Renaming
-pub mod Numbers
-pub mod Moving
+pub mod HeldSpots
+pub mod Along
 pub mod Preparing
 pub mod Paging
 pub mod Parsed

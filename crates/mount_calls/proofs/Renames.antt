@@ -2,7 +2,7 @@
 use Rattle.std.proofs.Common.{◌≡◌, ℕ, true, ◌||◌, List, [], ◌∷◌, ◌++◌, Option, None, Some, IsSome, refl, sym, ap, ◌∙◌, inl, inr, is_some, length, nat_eq, arith}
 use Rattle.std.proofs.lemmas.List.{length-map}
 use Rattle.std.specs.BTreeMap.{get}
-use Rattle.mount_calls.proofs.Words.{after, Apart, At, Attributes, Dentries, Descriptors, false≢true, file_in, folder_attributes, Handle, handle_of, handles_of, is_folder, Layer, list_any, Location, Name, nat_cmp, node_at, NodeId, OpenDirectory, option_and_then, option_map, Path, State, Table, Tree}
+use Rattle.mount_calls.proofs.Words.{after, Apart, At, Attributes, Dentries, Descriptors, Directory, false≢true, File, file_in, folder_attributes, Handle, handle_of, handles_of, is_folder, Layer, list_any, Location, Name, nat_cmp, node_at, NodeId, OpenDirectory, option_and_then, option_map, Path, State, Table, Tree}
 use Rattle.ov_base.specs.declared.call.CallOf.TheVariants as call
 use Rattle.plain_model.specs.Changes.{re_ways, way_of}
 use Rattle.plain_model.proofs.Paths.{place}
@@ -23,6 +23,7 @@ use Rattle.mount_calls.specs.States.{Stands, IsHandle, IsOpenAs, IsOpenOnAs, IsS
 use Rattle.mount_calls.proofs.Carrying.{CarriesFiles, file-on, open-on}
 use Rattle.mount_calls.proofs.Changing.{folder-above, stands-on, still-folder}
 use Rattle.mount_calls.proofs.Serving.{handle-now, one-fewer, slot-as}
+use Rattle.mount_calls.proofs.Slots.{of-on}
 
 -- a path doesn't lead to a directory
 abbrev pub LeadsToNone : Tree → Path → Type 0
@@ -33,7 +34,7 @@ none-above : (t : Tree) (p : Path) → LeadsToNone t p → (r : Path) (d : NodeI
 none-above t p none [] d at f = none d at f
 none-above t p none (n ∷ r) d at f =
     let up = folder-above t (r ++ p) n d at in
-    none-above t p none r up.0 up.1.0 up.1.1
+    none-above t p none r up.0 up.1 up.2
 
 -- a handle is alike still with another way in
 module _ (U : Layer) (lowers : List Layer) (t : Tree) (ds : Dentries) (way : Option (NodeId × Name)) where
@@ -41,7 +42,23 @@ module _ (U : Layer) (lowers : List Layer) (t : Tree) (ds : Dentries) (way : Opt
   way-open o h is = by o.on is
     where
       by : (on : On) → IsOpenOnAs U lowers t ds o.object on h → IsOpenOnAs U lowers t ds o.object on (record h { way = way })
-      by on x = grind arith
+      by (Directory listing) x = record {
+        location = x.location;
+        located = x.located;
+        stands = x.stands;
+        directory = x.directory;
+        access = ap (λ (z : Handle). record z { way = way }) x.access;
+        left = x.left;
+      }
+      by (File f) x = record {
+        source = of-on U U lowers t t f.source f.low h (record h { way = way }) refl refl (λ k e live. live) (λ leaf. leaf) x.source;
+        own = x.own;
+        reads = x.reads;
+        writes = x.writes;
+        append = x.append;
+        place = x.place;
+        unlisted = x.unlisted;
+      }
 
 -- tables in which handles get other ways in have the same clients, each with as many descriptors
 ways-attached :

@@ -63,7 +63,7 @@ unrefused-seek None offset whence fine bare = let no : Some errno.EBADF ≡ None
 unrefused-seek (Some h) offset whence fine bare = by h.on fine bare
   where
     by : (on : On) → seek_fault_on on offset whence ≡ None → file_on on ≡ None → ((x : OpenDirectory) × (directory_on h.object on ≡ Some x)) × (offset ≡ pos 0) × (whence ≡ 0)
-    by (Directory listing) start none = ((record { directory = h.object; listing = listing }, refl), to-start offset whence start)
+    by (Directory listing) start none = ((record { directory = h.object; listing = listing }, refl), (to-start offset whence start).0, (to-start offset whence start).1)
     by (File f) start none = let no : Some f ≡ None = none in absurd (cc)
 
 module _ (m : Mount) (s : State) (st : IsStateOf m s) (c d : ℕ) where
@@ -149,4 +149,7 @@ module _ (m : Mount) (s : State) (st : IsStateOf m s) (c d : ℕ) where
 
   -- a seek of what is no file that is refused nothing
   pub seek-done : (offset : ℤ) (whence : ℕ) (new : Clients) → seek_fault (opened_by m.clients c d) offset whence ≡ None → file_by m.clients c d ≡ None → ChangesClient m.clients new c (λ x y. ChangesSlot x y d (with_listing None)) → Sought offset whence (reply.Place 0) (record m { clients = new })
-  seek-done offset whence new good bare ch = grind (arith, unrefused-seek, rewound)
+  seek-done offset whence new good bare ch =
+      let x = unrefused-seek (opened_by m.clients c d) offset whence good bare in
+      subst (λ z. Sought z whence (reply.Place 0) (record m { clients = new })) (sym x.1)
+      (subst (λ z. Sought (pos 0) z (reply.Place 0) (record m { clients = new })) (sym x.2) (rewound x.0.0 x.0.1 new ch))

@@ -86,6 +86,13 @@ held-some o = grind arith
 pub handle-set : (ks : List Table) (c fd : ℕ) (h : Option Handle) → fd < length (handles_of ks c) → handle_of (with_handle ks c fd h) c fd ≡ h
 handle-set ks c fd h within = ap (λ z. held_in (slice_get z fd)) (handles-set ks c fd h) ∙ ap held_in (get-set (handles_of ks c) fd h within) ∙ held-some h
 
+-- slots are alike otherwise where their handles are
+pub slot-moves : (P Q : handles.Handle → Handle → Type 0) (a : Option handles.Handle) (x : Option Handle) → ((o : handles.Handle) (h : Handle) → a ≡ Some o → x ≡ Some h → P o h → Q o h) → IsSlot P a x → IsSlot Q a x
+slot-moves P Q None None f s = tt
+slot-moves P Q None (Some h) f s = s
+slot-moves P Q (Some o) None f s = s
+slot-moves P Q (Some o) (Some h) f s = f o h refl refl s
+
 -- an open descriptor has a handle
 pub slot-open : (P : handles.Handle → Handle → Type 0) (a : Option handles.Handle) (x : Option Handle) (o : handles.Handle) → IsSlot P a x → a ≡ Some o → (h : Handle) × (x ≡ Some h) × P o h
 slot-open P a x o s e = grind arith

@@ -42,7 +42,7 @@ held-stay m new same = clients-stay m new same.clients same.places
 
 -- so do those for which each handle on a directory is on it still
 pub directories-stay : (m : Mount) (new : Clients) → KeepsClients m.clients new →
-    ((s : State) → IsStateOf m s → (o : OpenDirectory) (h : Handle) → IsHandle s.tree m.clients.objects.tree o h → IsHandle s.tree new.objects.tree o h) →
+    ((s : State) → IsStateOf m s → (c d : ℕ) (o : OpenDirectory) (h : Handle) → directory_by m.clients c d ≡ Some o → IsHandle s.tree m.clients.objects.tree o h → IsHandle s.tree new.objects.tree o h) →
     StaysState m (record m { clients = new })
 directories-stay m new kept still s st =
     with-tables m s st (record m { clients = new }) s.tables refl refl refl refl kept.next
@@ -50,20 +50,20 @@ directories-stay m new kept still s st =
     (tables-same (Alike m.layers s m.clients) m.clients s.tables st.tables m.clients (Alike m.layers s new)
     (record { attached = λ b. refl; opened = λ b d. refl; places = λ b d o l is at. at; next = refl })
     (λ b d o h now on is. open-on (the_upper m) (the_upper m) (the_lowers m) s.tree s.tree m.clients.objects.tree new.objects.tree o h
-        (λ e leads. still s st e h) (λ f leads file. file) is)))
+        (λ e leads. still s st b d e h (ap directory_in now ∙ leads)) (λ f leads file. file) is)))
     (one-attached m.clients new s.tables kept.attached st.one)
 
 -- no handle on a directory is on the object of this number
 abbrev pub IsNoFolder : Mount → ℕ → Type 0
-IsNoFolder m n = (s : State) → IsStateOf m s → (o : OpenDirectory) (h : Handle) → IsHandle s.tree m.clients.objects.tree o h → o.directory ≢ n
+IsNoFolder m n = (s : State) → IsStateOf m s → (c d : ℕ) (o : OpenDirectory) (h : Handle) → directory_by m.clients c d ≡ Some o → IsHandle s.tree m.clients.objects.tree o h → o.directory ≢ n
 
 -- the object of such a number may be anywhere
 pub sets-stay : (m : Mount) (new : Clients) (n count : ℕ) (spot : Option Spot) → KeepsClients m.clients new → SetsSpot m.clients.objects new.objects n spot count → IsNoFolder m n → StaysState m (record m { clients = new })
 sets-stay m new n count spot kept sets none =
     directories-stay m new kept
-    (λ s st o h is. record {
+    (λ s st c d o h leads is. record {
       location = is.location;
-      located = sets.other_places o.directory (none s st o h is) ∙ is.located;
+      located = sets.other_places o.directory (none s st c d o h leads is) ∙ is.located;
       stands = is.stands;
       directory = is.directory;
       access = is.access;
@@ -72,7 +72,7 @@ sets-stay m new n count spot kept sets none =
 
 -- what stands where no directory is shown has such a number
 pub file-number : (m : Mount) (p : Path) (o : Object) (n : ℕ) → ShowsNoFolder m.layers p → IsNumberOf m.clients.objects p o (Some n) → IsNoFolder m n
-file-number m p o n file is s st d h on e = by o is
+file-number m p o n file is s st b fd d h leads on e = by o is
   where
     located : places.opened m.clients.objects.tree n ≡ Some on.location
     located = ap (places.opened m.clients.objects.tree) (sym e) ∙ on.located

@@ -1,29 +1,31 @@
 -- What a rename finds and holds stays found while more is held for it, and is led along after.
-use Rattle.std.proofs.Common.{arith, ◌≡◌, ◌≢◌, ◌⊎◌, ℕ, zero, suc, ◌≤◌, Bool, true, false, cond, List, [], ◌∷◌, Option, None, Some, refl, sym, ap, ◌∙◌, subst, inl, inr, nat_eq, option_map, count_by, ◌++◌, IsSome}
+use Rattle.std.proofs.Common.{arith, ◌≡◌, ◌≢◌, ◌⊎◌, ℕ, zero, suc, ◌+◌, ◌<◌, ◌≤◌, ◌↔◌, Bool, true, false, cond, List, [], ◌∷◌, Option, None, Some, refl, sym, ap, ◌∙◌, subst, inl, inr, nat_eq, option_map, count_by, ◌++◌, IsSome}
+use Rattle.std.proofs.lemmas.List.Sums.{sum_by-cons}
 use Rattle.plain_model.specs.Layers.{Path}
 use Rattle.object_table.specs.Objects as spots
-use Rattle.object_table.specs.Objects.{Objects, Spot, Nowhere, room, spot_of, IsVacant}
+use Rattle.object_table.specs.Objects.{Objects, Spot, Nowhere, holders_of, room, spot_of, AreFewer, IsVacant}
 use Rattle.open_handles.specs.declared.clients.Clients.{Clients}
 use Rattle.open_handles.specs.declared.handle.Handle as handles
 use Rattle.open_handles.specs.declared.way.Way.{Way}
-use Rattle.open_handles.specs.Attaching.{opened_by, KeepsAttached, KeepsPlaces}
+use Rattle.open_handles.specs.Attaching.{beside, opened_by, tables_of, AreKnown, HoldsNoMore, KeepsAttached, KeepsClients, KeepsPlaces}
 use Rattle.open_handles.specs.Descriptors.{opened}
 use Rattle.open_handles.specs.Handles.{handle_re_way, tracked_of}
-use Rattle.open_handles.specs.Holding.{HoldsMore, IsWayTo}
+use Rattle.open_handles.specs.Holding.{tables_in, uses_in, HoldsMore, IsWayTo}
 use Rattle.open_handles.specs.Listings.{directory_on, file_on}
-use Rattle.open_handles.specs.TrackedHandles.{TrackedHandle, TrackedTables, came_by, handles_by, re_way_of, slot_came_by, slots_of, tracked_by}
+use Rattle.open_handles.specs.TrackedHandles.{TrackedHandle, TrackedTable, TrackedTables, came_by, handles_by, re_way_of, slot_came_by, slots_of, tracked_by}
 use Rattle.notice_laws.specs.declared.object.Object.{Object}
 use Rattle.notice_laws.specs.declared.object.Object.TheVariants as object
 use Rattle.notice_laws.specs.Objects.{IsNumberAt, IsNumberOf}
 use Rattle.notice_laws.specs.Moves.{Lost, Moves, NoneCame, Rests, ReWays, Rises}
+use Rattle.notice_laws.specs.Telling.{IsEnd}
 use Rattle.notice_laws.specs.Steps.{is_last_name, IsSpotOf, Lifts, Loses}
 use Rattle.mount_calls.specs.declared.mount.Mount.{Mount}
-use Rattle.mount_calls.specs.Moving.{led_by, way_times, IsFreeFor, MayHold}
+use Rattle.mount_calls.specs.Moving.{led_by, way_times, IsCourse, IsFreeFor, MayHold}
 use Rattle.mount_calls.specs.Numbers.{Becomes, HasRoom, MayLift}
 use Rattle.mount_calls.specs.States.{IsOpenAs, IsSlot, StaysState}
 use Rattle.mount_calls.proofs.Serving.{one-fewer, placed}
 use Rattle.mount_calls.proofs.Stating.{the_lowers, the_upper, Alike, with-tables}
-use Rattle.mount_calls.proofs.Words.{cases_eq, DESCRIPTORS_MAX, directory_in, eq-eqb, false≢true, file_in, Handle, handle_of}
+use Rattle.mount_calls.proofs.Words.{cases_Bool, cases_eq, DESCRIPTORS_MAX, directory_in, eq-eqb, false≢true, file_in, Handle, handle_of}
 
 -- every object is where it was
 abbrev pub SamePlace : Objects → Objects → Type 0
@@ -76,32 +78,50 @@ may-then old mid new (n ∷ p) (inr more) same = inr (more.0, record { mid = mor
 -- what is held nothing for is held not at all
 pub no-times : (to : Option Way) (n : ℕ) → way_times 0 to n ≡ 0
 no-times None n = refl
-no-times (Some w) n = by (nat_eq w.directory n)
+no-times (Some w) n = by (nat_eq w.directory n) 0 refl
   where
-    by : (b : Bool) → cond b 0 0 ≡ 0
-    by true = refl
-    by false = refl
+    by : (b : Bool) (k : ℕ) → k ≡ 0 → cond b k 0 ≡ 0
+    by true k e = e
+    by false k e = refl
 
 -- a directory that is held for a way in it is held as often as for the rename
 pub own-times : (count : ℕ) (w : Way) → way_times count (Some w) w.directory ≡ count
 own-times count w = ap (λ b. cond b count 0) (eq-eqb w.directory w.directory refl)
 
+-- where none is counted none counts
+uncounted : (b : Bool) (k : ℕ) → cond b 1 0 + k ≡ 0 → b ≡ false
+uncounted true k none = absurd (omega (arith, none))
+uncounted false k none = refl
+
+rest-uncounted : (b : Bool) (k : ℕ) → cond b 1 0 + k ≡ 0 → k ≡ 0
+rest-uncounted true k none = absurd (omega (arith, none))
+rest-uncounted false k none = omega (arith, none)
+
+-- how often a slot counts
+abbrev counts : ℕ → Way → Option TrackedHandle → ℕ
+counts n w x = cond (slot_came_by n w x) 1 0
+
+-- and how often a client's slots do
+abbrev client_counts : ℕ → Way → TrackedTable → ℕ
+client_counts n w k = count_by (slot_came_by n w) k.slots
+
 -- no handle in a client's slots is on an object by a way by which none is counted
 slots-none : (n : ℕ) (w : Way) (slots : List (Option TrackedHandle)) → count_by (slot_came_by n w) slots ≡ 0 → (d : ℕ) (h : TrackedHandle) → opened slots d ≡ Some h → came_by n w h ≡ false
 slots-none n w [] none d h at = let no : None ≡ Some h = at in absurd (cc)
-slots-none n w (x ∷ slots) none zero h at = grind arith
-slots-none n w (x ∷ slots) none (suc d) h at = slots-none n w slots (grind arith) d h at
+slots-none n w (None ∷ slots) none zero h at = let no : None ≡ Some h = at in absurd (cc)
+slots-none n w (Some g ∷ slots) none zero h at =
+    let same : g ≡ h = cc in ap (came_by n w) (sym same) ∙ uncounted (came_by n w g) (count_by (slot_came_by n w) slots)
+        (sym (sum_by-cons (counts n w) (Some g) slots) ∙ none)
+slots-none n w (x ∷ slots) none (suc d) h at =
+    slots-none n w slots (rest-uncounted (slot_came_by n w x) (count_by (slot_came_by n w) slots) (sym (sum_by-cons (counts n w) x slots) ∙ none)) d h at
 
 -- and so it is of all clients
 none-came : (ks : TrackedTables) (n : ℕ) (w : Way) → handles_by ks n w ≡ 0 → NoneCame ks n w
 none-came [] n w none c fd h at = let no : None ≡ Some h = at in absurd (cc)
-none-came (k ∷ ks) n w none c fd h at = by (nat_eq k.client c) refl
-  where
-    by : (b : Bool) → nat_eq k.client c ≡ b → came_by n w h ≡ false
-    by true e =
-        slots-none n w k.slots (omega (arith, none)) fd h (sym (ap (λ b. opened (cond b k.slots (slots_of ks c)) fd) e) ∙ at)
-    by false e =
-        none-came ks n w (omega (arith, none)) c fd h (sym (ap (λ b. opened (cond b k.slots (slots_of ks c)) fd) e) ∙ at)
+none-came (k ∷ ks) n w none c fd h at = elim (cases_Bool (nat_eq k.client c)) [
+  | inl e ↦ slots-none n w k.slots (omega (arith, none, sum_by-cons (client_counts n w) k ks)) fd h (sym (ap (λ b. opened (cond b k.slots (slots_of ks c)) fd) e) ∙ at)
+  | inr e ↦ none-came ks n w (omega (arith, none, sum_by-cons (client_counts n w) k ks)) c fd h (sym (ap (λ b. opened (cond b k.slots (slots_of ks c)) fd) e) ∙ at)
+]
 
 -- a handle that came otherwise keeps its way
 re-way-none : (n : ℕ) (v w : Way) (o : Option TrackedHandle) → ((h : TrackedHandle) → o ≡ Some h → came_by n v h ≡ false) → option_map (re_way_of n v w) o ≡ o
@@ -215,8 +235,7 @@ may-lift-lost old mid p q e key loses more has free = (
             let x = was-there old mid q e loses m (spots.Upper key) (λ no. cc) there in
             let lost = f.0 m x.0 in
             x.1 lost.0 lost.1,
-        f.1.0,
-        λ m name r there. f.1.1 m name r (was m (spots.At (name ∷ (r ++ p))) (λ no. cc) there),
+        (f.1.0, λ m name r there. f.1.1 m name r (was m (spots.At (name ∷ (r ++ p))) (λ no. cc) there)),
       ),
 )
   where
@@ -251,3 +270,77 @@ moves-file old mid new p q o e key file loses lifts n spot at =
     by : (was mid : Spot) → Loses q e was mid → Lifts p o key mid spot → Moves p q o e key was spot
     by was mid (inl lost) up = lost-moves p q e key was mid spot o lost.0 lost.1 lost.2 up
     by was mid (inr kept) up = kept-moves p q e key was mid spot o file kept.0 kept.1 up
+
+-- where objects stay, only those are held that were
+pub fewer-same : (old new : Objects) → SamePlace old new → AreFewer old new
+fewer-same old new same n spot at = sym (same n) ∙ at
+
+pub may-same : (old new : Objects) (p : Path) → SamePlace old new → MayHold old new p
+may-same old new [] same = fewer-same old new same
+may-same old new (n ∷ p) same = inl (fewer-same old new same)
+
+-- and where all that is held stays, what has a number keeps it
+number-kept : (old new : Objects) → ((n : ℕ) (spot : Spot) → spot_of old n ≡ Some spot → spot_of new n ≡ Some spot) → (p : Path) (o : Object) (n : ℕ) → IsNumberOf old p o (Some n) → IsNumberOf new p o (Some n)
+number-kept old new kept p object.Directory n is = kept n (spots.At p) is
+number-kept old new kept p object.Lower n is = kept n (spots.At p) is
+number-kept old new kept p (object.Upper key last) n is = kept n (spots.Upper key) is
+number-kept old new kept p object.Other n is = is
+
+way-kept : (old new : Objects) → ((n : ℕ) (spot : Spot) → spot_of old n ≡ Some spot → spot_of new n ≡ Some spot) → (p : Path) (w : Way) → IsWayTo old p (Some w) → IsWayTo new p (Some w)
+way-kept old new kept [] w is = is
+way-kept old new kept (n ∷ p) w is = (kept w.directory (spots.At p) is.0, is.1)
+
+-- what was found before the new directory was held, and after, is the course of a rename once it takes no memory
+module _ (old mid new : Clients) (p q : Path) (o e : Object) (number : Option ℕ) (from to : Option Way) (replaced ended : Option ℕ) (led : ℕ)
+    (found : IsNumberOf old.objects p o number) (left : IsWayTo old.objects p from) (count : led ≡ led_by (tables_of old) number from)
+    (none : led ≡ 0 → mid ≡ old) (kept : (n : ℕ) (spot : Spot) → spot_of old.objects n ≡ Some spot → spot_of mid.objects n ≡ Some spot)
+    (clients : KeepsClients old mid) (same : HoldsNoMore mid new) where
+  found-then : (r : Option ℕ) → number ≡ r → IsNumberOf old.objects p o r → IsNumberOf mid.objects p o r
+  found-then (Some n) is at = number-kept old.objects mid.objects kept p o n at
+  found-then None is at =
+      let zero_led : led ≡ 0 = count ∙ ap (λ z. led_by (tables_of old) z from) is in
+      subst (λ (z : Clients). IsNumberOf z.objects p o None) (sym (none zero_led)) at
+
+  left-then : (r : Option Way) → from ≡ r → IsWayTo old.objects p r → IsWayTo mid.objects p r
+  left-then (Some w) is at = way-kept old.objects mid.objects kept p w at
+  left-then None is at =
+      let zero_led : led ≡ 0 = count ∙ ap (led_by (tables_of old) number) is ∙ none-led (tables_of old) number in
+      subst (λ (z : Clients). IsWayTo z.objects p None) (sym (none zero_led)) at
+    where
+      none-led : (ks : TrackedTables) (r : Option ℕ) → led_by ks r None ≡ 0
+      none-led ks None = refl
+      none-led ks (Some n) = refl
+
+  pub course-found : IsWayTo mid.objects q to → (0 < led → (w : Way) × (to ≡ Some w)) → IsNumberOf mid.objects q e replaced →
+      IsEnd (tables_of mid) (is_last_name e) replaced ended →
+      IsCourse new p q o e (record { object = o; number = number; from = from; to = to; over = e; replaced = replaced; ended = ended; led = led })
+  course-found enters some present ends = record {
+    object = refl;
+    found = number-same mid.objects new.objects same.same.spots p o number (found-then number refl found);
+    left = way-same mid.objects new.objects same.same.spots p from (left-then from refl left);
+    entered = way-same mid.objects new.objects same.same.spots q to enters;
+    over = refl;
+    present = number-same mid.objects new.objects same.same.spots q e replaced present;
+    ends = subst (λ z. IsEnd (tables_in z) (is_last_name e) replaced ended) (sym same.clients.attached) ends;
+    led = count ∙ ap (λ z. led_by (tables_in z) number from) (sym (same.clients.attached ∙ clients.attached));
+    entering = some;
+  }
+
+-- the new directory that was held for a rename and let go again is held no more where it wasn't before
+pub unpinned-fewer : (old mid new : Clients) (spot : Spot) (k : ℕ) → HoldsMore old.objects mid.objects spot k → AreFewer mid.objects new.objects →
+    new.attached ≡ old.attached → ((n : ℕ) → beside new n ≡ beside old n) → AreKnown old → AreKnown new →
+    ((n : ℕ) → (spot_of old.objects n ≡ None) ↔ (holders_of old.objects n ≡ 0)) →
+    ((n : ℕ) → (spot_of new.objects n ≡ None) ↔ (holders_of new.objects n ≡ 0)) → AreFewer old.objects new.objects
+unpinned-fewer old mid new spot k more fewer attached same known now counted later n was at = by (cases_eq n k) more.holds.was
+  where
+    there : spot_of more.mid n ≡ Some was
+    there = sym (more.same n) ∙ fewer n was at
+
+    by : (n ≡ k) ⊎ (n ≡ k → ⊥) → (spot_of old.objects k ≡ Some spot) ⊎ (IsVacant old.objects spot × (spot_of old.objects k ≡ None)) → spot_of old.objects n ≡ Some was
+    by (inr off) held = sym (more.holds.sets.other_spots n off) ∙ there
+    by (inl e) (inl stood) = ap (spot_of old.objects) e ∙ stood ∙ sym more.holds.sets.here ∙ ap (spot_of more.mid) (sym e) ∙ there
+    by (inl e) (inr fresh) =
+        let unheld : holders_of old.objects n ≡ 0 = (counted n).0 (ap (spot_of old.objects) e ∙ fresh.1) in
+        let uses_same : uses_in new.attached n ≡ uses_in old.attached n = ap (λ z. uses_in z n) attached in
+        let unheld_now : holders_of new.objects n ≡ 0 = omega (arith, known.beside n, now.beside n, same n, unheld, uses_same) in
+        let no : None ≡ Some was = sym ((later n).1 unheld_now) ∙ at in absurd (cc)
