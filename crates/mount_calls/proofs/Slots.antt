@@ -1,5 +1,5 @@
 -- The handles of what a client has open, and the states in which one of its descriptors changes.
-use Rattle.std.proofs.Common.{◌≡◌, ℕ, ◌<◌, true, List, Option, None, Some, refl, sym, ap, ◌∙◌, subst, is_some, length, option_map, arith}
+use Rattle.std.proofs.Common.{◌≡◌, ℕ, ◌<◌, true, List, Option, None, Some, refl, sym, ap, ◌∙◌, subst, is_some, length, option_map}
 use Rattle.mount_calls.proofs.Words.{ChangesSlot, Dentries, DESCRIPTORS_MAX, Directory, directory_in, File, file_in, FileSource, Handle, handle_of, handles_of, IsLive, Layer, Lower, Name, NodeId, OpenDirectory, OpenFile, SetsSlot, State, Tree, Upper, with_handle, with_listing, with_place}
 use Rattle.ov_base.specs.declared.place.Place.{Place}
 use Rattle.open_handles.specs.declared.handle.Handle as handles
