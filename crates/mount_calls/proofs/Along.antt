@@ -71,7 +71,7 @@ slots-none n w [] none d h at = let no : None ≡ Some h = at in absurd (cc)
 slots-none n w (None ∷ slots) none zero h at = let no : None ≡ Some h = at in absurd (cc)
 slots-none n w (Some g ∷ slots) none zero h at =
     let same : g ≡ h = cc in ap (came_by n w) (sym same) ∙ uncounted (came_by n w g) (count_by (slot_came_by n w) slots)
-        (sym (sum_by-cons (counts n w) (Some g) slots) ∙ none)
+    (sym (sum_by-cons (counts n w) (Some g) slots) ∙ none)
 slots-none n w (x ∷ slots) none (suc d) h at =
     slots-none n w slots (rest-uncounted (slot_came_by n w x) (count_by (slot_came_by n w) slots) (sym (sum_by-cons (counts n w) x slots) ∙ none)) d h at
 

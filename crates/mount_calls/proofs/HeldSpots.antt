@@ -48,7 +48,7 @@ directories-stay m new kept still s st =
     (tables-same (Alike m.layers s m.clients) m.clients s.tables st.tables m.clients (Alike m.layers s new)
     (record { attached = λ b. refl; opened = λ b d. refl; places = λ b d o l is at. at; next = refl })
     (λ b d o h now on is. open-on (the_upper m) (the_upper m) (the_lowers m) s.tree s.tree m.clients.objects.tree new.objects.tree o h
-        (λ e leads. still s st b d e h (ap directory_in now ∙ leads)) (λ f leads file. file) is)))
+    (λ e leads. still s st b d e h (ap directory_in now ∙ leads)) (λ f leads file. file) is)))
     (one-attached m.clients new s.tables kept.attached st.one)
 
 -- no handle on a directory is on the object of this number

@@ -3,7 +3,7 @@ use Rattle.layer_tree.specs.Tree.{mark_at}
 use Rattle.ov_base.specs.declared.attributes.Attributes.{Attributes}
 use Rattle.plain_model.specs.Layers.{Folder, shows}
 use Rattle.merged_lookup.specs.Merged.{layers_of, ShowsInode}
-use Rattle.open_handles.specs.declared.handle.On.TheVariants.{File}
+use Rattle.open_handles.specs.declared.handle.On.TheVariants.{Directory, File}
 use Rattle.open_handles.specs.declared.open_file.OpenFile.{OpenFile}
 use Rattle.mount_calls.specs.Files.{file_at}
 use Rattle.mount_calls.specs.Living.{KeepsFiles}
@@ -27,7 +27,8 @@ returns-in_default-clause-answers c =
     let now = record m { clients = last } in
     let asked = call.Open c.args.path.now c.args.flags c.args.mode in
     let found : (a : Attributes) × (shows 0 (layers_of m.layers) c.args.path.now ≡ Some (Folder c.in_default.field-0.layer c.in_default.field-0.key a)) = rw c.in_default.is at c.requires.shown in
-    let opens = opens-on m.clients last client c.args.descriptor c.new-in_default.result _ c.requires.free c.«open».ensures c.new-in_default.ensures.on in
+    let opens = opens-on m.clients last client c.args.descriptor c.new-in_default.result _ c.requires.free c.«open».ensures
+    (c.new-in_default.ensures.on ∙ ap Directory c.new.ensures) in
     let stands = held-there m.clients last c.new-in_default.result c.args.hold.now c.args.path.now c.«open».ensures.objects c.new-in_default.ensures.tracked
     (c.requires.there c.in_default.field-0 (ap Some c.in_default.is)) in
     let served : ServesEach client asked m now (reply.Descriptor c.args.descriptor) = λ s st.
