@@ -21,8 +21,8 @@ set-as : (x y : Slots) (d : ℕ) (u v : Option handles.Handle) → u ≡ v → S
 set-as x y d u v e h = subst (SetsSlot x y d) e h
 
 -- how far a directory was listed
-pub same-listing : (o : OpenDirectory) (listing : Option (List Name)) → Some listing ≡ Some o.listing → listing ≡ o.listing
-same-listing o listing is = cc
+pub listing-same : (o : OpenDirectory) (listing : Option (List Name)) → Some listing ≡ Some o.listing → listing ≡ o.listing
+listing-same o listing is = cc
 
 -- names that are given of a listing leave the rest of it
 names-listed : (x : Option handles.Handle) (o : OpenDirectory) (n : ℕ) (left : List Name) → directory_in x ≡ Some o → o.listing ≡ Some left → option_map (after_names n) x ≡ option_map (with_listing (Some (drop n left))) x

@@ -27,8 +27,12 @@ returns-in_default-clause-answers c =
     let now = record m { clients = last } in
     let asked = call.Open c.args.path.now c.args.flags c.args.mode in
     let found : (a : Attributes) × (shows 0 (layers_of m.layers) c.args.path.now ≡ Some (Folder c.in_default.field-0.layer c.in_default.field-0.key a)) = rw c.in_default.is at c.requires.shown in
-    let opens = opens-on m.clients last client c.args.descriptor c.new-in_default.result _ c.requires.free c.«open».ensures
-    (c.new-in_default.ensures.on ∙ ap Directory c.new.ensures) in
+    let opens : OpensOn m.clients last client c.args.descriptor (Directory None) = record {
+      handle = c.new-in_default.result;
+      leads = c.new-in_default.ensures.on ∙ ap Directory c.new.ensures;
+      lowest = c.requires.free;
+      changes = c.«open».ensures.changes;
+    } in
     let stands = held-there m.clients last c.new-in_default.result c.args.hold.now c.args.path.now c.«open».ensures.objects c.new-in_default.ensures.tracked
     (c.requires.there c.in_default.field-0 (ap Some c.in_default.is)) in
     let served : ServesEach client asked m now (reply.Descriptor c.args.descriptor) = λ s st.
