@@ -1,16 +1,16 @@
 -- What a rename finds and holds stays found while more is held for it, and is led along after.
-use Rattle.std.proofs.Common.{arith, ◌≡◌, ◌≢◌, ◌⊎◌, ℕ, zero, suc, ◌+◌, ◌<◌, ◌≤◌, ◌↔◌, Bool, true, false, cond, List, [], ◌∷◌, Option, None, Some, refl, sym, ap, ◌∙◌, subst, inl, inr, nat_eq, option_map, count_by, ◌++◌, IsSome}
+use Rattle.std.proofs.Common.{arith, ◌≡◌, ◌≢◌, ◌⊎◌, ℕ, zero, suc, ◌+◌, ◌<◌, ◌≤◌, Bool, true, false, cond, List, [], ◌∷◌, Option, None, Some, refl, sym, ap, ◌∙◌, subst, inl, inr, nat_eq, option_map, count_by, ◌++◌, IsSome}
 use Rattle.std.proofs.lemmas.List.Sums.{sum_by-cons}
 use Rattle.plain_model.specs.Layers.{Path}
 use Rattle.object_table.specs.Objects as spots
-use Rattle.object_table.specs.Objects.{Objects, Spot, Nowhere, holders_of, room, spot_of, AreFewer, IsVacant, SetsSpot}
+use Rattle.object_table.specs.Objects.{Objects, Spot, Nowhere, room, spot_of, SetsSpot}
 use Rattle.open_handles.specs.declared.clients.Clients.{Clients}
 use Rattle.open_handles.specs.declared.handle.Handle as handles
 use Rattle.open_handles.specs.declared.way.Way.{Way}
-use Rattle.open_handles.specs.Attaching.{beside, opened_by, tables_of, AreKnown, HoldsNoMore, KeepsAttached, KeepsClients, KeepsPlaces}
+use Rattle.open_handles.specs.Attaching.{opened_by, tables_of, HoldsNoMore, KeepsAttached, KeepsClients, KeepsPlaces}
 use Rattle.open_handles.specs.Descriptors.{opened}
 use Rattle.open_handles.specs.Handles.{handle_re_way, tracked_of}
-use Rattle.open_handles.specs.Holding.{tables_in, uses_in, HoldsMore, IsWayTo}
+use Rattle.open_handles.specs.Holding.{tables_in, HoldsMore, IsWayTo}
 use Rattle.open_handles.specs.Listings.{directory_on, file_on}
 use Rattle.open_handles.specs.TrackedHandles.{TrackedHandle, TrackedTable, TrackedTables, came_by, handles_by, re_way_of, slot_came_by, slots_of, tracked_by}
 use Rattle.notice_laws.specs.declared.object.Object.{Object}
@@ -20,12 +20,12 @@ use Rattle.notice_laws.specs.Moves.{Lost, Moves, NoneCame, Rests, ReWays, Rises}
 use Rattle.notice_laws.specs.Telling.{IsEnd}
 use Rattle.notice_laws.specs.Steps.{is_last_name, IsSpotOf, Lifts, Loses}
 use Rattle.mount_calls.specs.declared.mount.Mount.{Mount}
-use Rattle.mount_calls.specs.Moving.{led_by, way_times, IsCourse, IsFreeFor, MayHold}
+use Rattle.mount_calls.specs.Moving.{led_by, IsCourse, IsFreeFor, MayHold}
 use Rattle.mount_calls.specs.Numbers.{Becomes, HasRoom, MayLift}
 use Rattle.mount_calls.specs.States.{IsOpenAs, IsSlot, StaysState}
 use Rattle.mount_calls.proofs.Serving.{one-fewer, placed}
 use Rattle.mount_calls.proofs.Stating.{the_lowers, the_upper, Alike, with-tables}
-use Rattle.mount_calls.proofs.Words.{cases_Bool, cases_eq, DESCRIPTORS_MAX, directory_in, eq-eqb, false≢true, file_in, Handle, handle_of}
+use Rattle.mount_calls.proofs.Words.{cases_Bool, cases_eq, DESCRIPTORS_MAX, directory_in, false≢true, file_in, Handle, handle_of}
 
 -- every object is where it was
 abbrev pub SamePlace : Objects → Objects → Type 0
@@ -47,46 +47,6 @@ pub way-same : (old new : Objects) → SamePlace old new → (p : Path) (r : Opt
 way-same old new same [] r is = is
 way-same old new same (n ∷ p) None vacant = λ k at. vacant k (sym (same k) ∙ at)
 way-same old new same (n ∷ p) (Some w) is = (same w.directory ∙ is.0, is.1)
-
--- what is held stays where it is where something is held more often
-pub more-kept : (old new : Objects) (spot : Spot) (k : ℕ) → HoldsMore old new spot k → (n : ℕ) (was : Spot) → spot_of old n ≡ Some was → spot_of new n ≡ Some was
-more-kept old new spot k more n was at = by (cases_eq n k) more.holds.was
-  where
-    by : (n ≡ k) ⊎ (n ≡ k → ⊥) → (spot_of old k ≡ Some spot) ⊎ (IsVacant old spot × (spot_of old k ≡ None)) → spot_of new n ≡ Some was
-    by (inr off) held = more.same n ∙ more.holds.sets.other_spots n off ∙ at
-    by (inl e) (inl there) = more.same n ∙ ap (spot_of more.mid) e ∙ more.holds.sets.here ∙ sym there ∙ ap (spot_of old) (sym e) ∙ at
-    by (inl e) (inr fresh) = let no : None ≡ Some was = sym fresh.1 ∙ ap (spot_of old) (sym e) ∙ at in absurd (cc)
-
--- so what has a number keeps it
-pub number-more : (old new : Objects) (spot : Spot) (k : ℕ) → HoldsMore old new spot k → (p : Path) (o : Object) (n : ℕ) → IsNumberOf old p o (Some n) → IsNumberOf new p o (Some n)
-number-more old new spot k more p object.Directory n is = more-kept old new spot k more n (spots.At p) is
-number-more old new spot k more p object.Lower n is = more-kept old new spot k more n (spots.At p) is
-number-more old new spot k more p (object.Upper key last) n is = more-kept old new spot k more n (spots.Upper key) is
-number-more old new spot k more p object.Other n is = is
-
--- and a path whose directory is held its way in
-pub way-more : (old new : Objects) (spot : Spot) (k : ℕ) → HoldsMore old new spot k → (p : Path) (w : Way) → IsWayTo old p (Some w) → IsWayTo new p (Some w)
-way-more old new spot k more [] w is = is
-way-more old new spot k more (n ∷ p) w is = (more-kept old new spot k more w.directory (spots.At p) is.0, is.1)
-
--- where every object stays then, no more may be held
-pub may-then : (old mid new : Objects) (p : Path) → MayHold old mid p → SamePlace mid new → MayHold old new p
-may-then old mid new [] fewer same = λ n spot at. fewer n spot (sym (same n) ∙ at)
-may-then old mid new (n ∷ p) (inl fewer) same = inl (λ k spot at. fewer k spot (sym (same k) ∙ at))
-may-then old mid new (n ∷ p) (inr more) same = inr (more.0, record { mid = more.1.mid; holds = more.1.holds; same = λ m. same m ∙ more.1.same m })
-
--- what is held nothing for is held not at all
-pub no-times : (to : Option Way) (n : ℕ) → way_times 0 to n ≡ 0
-no-times None n = refl
-no-times (Some w) n = by (nat_eq w.directory n) 0 refl
-  where
-    by : (b : Bool) (k : ℕ) → k ≡ 0 → cond b k 0 ≡ 0
-    by true k e = e
-    by false k e = refl
-
--- a directory that is held for a way in it is held as often as for the rename
-pub own-times : (count : ℕ) (w : Way) → way_times count (Some w) w.directory ≡ count
-own-times count w = ap (λ b. cond b count 0) (eq-eqb w.directory w.directory refl)
 
 -- where none is counted none counts
 uncounted : (b : Bool) (k : ℕ) → cond b 1 0 + k ≡ 0 → b ≡ false
@@ -111,7 +71,7 @@ slots-none n w [] none d h at = let no : None ≡ Some h = at in absurd (cc)
 slots-none n w (None ∷ slots) none zero h at = let no : None ≡ Some h = at in absurd (cc)
 slots-none n w (Some g ∷ slots) none zero h at =
     let same : g ≡ h = cc in ap (came_by n w) (sym same) ∙ uncounted (came_by n w g) (count_by (slot_came_by n w) slots)
-        (sym (sum_by-cons (counts n w) (Some g) slots) ∙ none)
+    (sym (sum_by-cons (counts n w) (Some g) slots) ∙ none)
 slots-none n w (x ∷ slots) none (suc d) h at =
     slots-none n w slots (rest-uncounted (slot_came_by n w x) (count_by (slot_came_by n w) slots) (sym (sum_by-cons (counts n w) x slots) ∙ none)) d h at
 
@@ -271,14 +231,6 @@ moves-file old mid new p q o e key file loses lifts n spot at =
     by was mid (inl lost) up = lost-moves p q e key was mid spot o lost.0 lost.1 lost.2 up
     by was mid (inr kept) up = kept-moves p q e key was mid spot o file kept.0 kept.1 up
 
--- where objects stay, only those are held that were
-pub fewer-same : (old new : Objects) → SamePlace old new → AreFewer old new
-fewer-same old new same n spot at = sym (same n) ∙ at
-
-pub may-same : (old new : Objects) (p : Path) → SamePlace old new → MayHold old new p
-may-same old new [] same = fewer-same old new same
-may-same old new (n ∷ p) same = inl (fewer-same old new same)
-
 -- and where all that is held stays, what has a number keeps it
 number-kept : (old new : Objects) → ((n : ℕ) (spot : Spot) → spot_of old n ≡ Some spot → spot_of new n ≡ Some spot) → (p : Path) (o : Object) (n : ℕ) → IsNumberOf old p o (Some n) → IsNumberOf new p o (Some n)
 number-kept old new kept p object.Directory n is = kept n (spots.At p) is
@@ -325,25 +277,6 @@ module _ (old mid new : Clients) (p q : Path) (o e : Object) (number : Option �
     led = count ∙ ap (λ z. led_by (tables_in z) number from) (sym (same.clients.attached ∙ clients.attached));
     entering = some;
   }
-
--- the new directory that was held for a rename and let go again is held no more where it wasn't before
-pub unpinned-fewer : (old mid new : Clients) (spot : Spot) (k : ℕ) → HoldsMore old.objects mid.objects spot k → AreFewer mid.objects new.objects →
-    new.attached ≡ old.attached → ((n : ℕ) → beside new n ≡ beside old n) → AreKnown old → AreKnown new →
-    ((n : ℕ) → (spot_of old.objects n ≡ None) ↔ (holders_of old.objects n ≡ 0)) →
-    ((n : ℕ) → (spot_of new.objects n ≡ None) ↔ (holders_of new.objects n ≡ 0)) → AreFewer old.objects new.objects
-unpinned-fewer old mid new spot k more fewer attached same known now counted later n was at = by (cases_eq n k) more.holds.was
-  where
-    there : spot_of more.mid n ≡ Some was
-    there = sym (more.same n) ∙ fewer n was at
-
-    by : (n ≡ k) ⊎ (n ≡ k → ⊥) → (spot_of old.objects k ≡ Some spot) ⊎ (IsVacant old.objects spot × (spot_of old.objects k ≡ None)) → spot_of old.objects n ≡ Some was
-    by (inr off) held = sym (more.holds.sets.other_spots n off) ∙ there
-    by (inl e) (inl stood) = ap (spot_of old.objects) e ∙ stood ∙ sym more.holds.sets.here ∙ ap (spot_of more.mid) (sym e) ∙ there
-    by (inl e) (inr fresh) =
-        let unheld : holders_of old.objects n ≡ 0 = (counted n).0 (ap (spot_of old.objects) e ∙ fresh.1) in
-        let uses_same : uses_in new.attached n ≡ uses_in old.attached n = ap (λ z. uses_in z n) attached in
-        let unheld_now : holders_of new.objects n ≡ 0 = omega (arith, known.beside n, now.beside n, same n, unheld, uses_same) in
-        let no : None ≡ Some was = sym ((later n).1 unheld_now) ∙ at in absurd (cc)
 
 -- no two objects are at one spot
 abbrev pub AreOneThere : Objects → Type 0

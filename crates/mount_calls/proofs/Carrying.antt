@@ -12,7 +12,7 @@ use Rattle.open_handles.specs.declared.clients.Clients.{Clients}
 use Rattle.mount_calls.specs.declared.mount.Mount.{Mount}
 use Rattle.open_handles.specs.declared.handle.On.{On}
 use Rattle.open_handles.specs.Listings.{directory_on, file_on}
-use Rattle.open_handles.specs.Attaching.{file_by, opened_by, HasFile}
+use Rattle.open_handles.specs.Attaching.{file_by, opened_by}
 use Rattle.mount_calls.specs.Files.{is_leaf, IsFile}
 use Rattle.mount_calls.specs.Living.{StaysLive, KeepsLive, KeepsHeldFrom}
 use Rattle.mount_calls.specs.States.{IsHandle, IsOpenAs, IsOpenOnAs, IsSlot, AreTables, IsStateOf}

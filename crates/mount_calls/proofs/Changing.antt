@@ -1,12 +1,13 @@
 -- The calls that change the layers: what becomes of open directories, and the machine's steps.
-use Rattle.std.proofs.Common.{arith, ◌≡◌, ◌≢◌, ℕ, ◌<◌, Bool, true, false, cond, List, [], ◌∷◌, ◌++◌, Option, None, Some, Result, Ok, IsSome, refl, sym, ap, ◌∙◌, subst, inl, inr}
+use Rattle.std.proofs.Common.{arith, ◌≡◌, ◌≢◌, ℕ, Bool, true, false, not, cond, List, ◌∷◌, Option, None, Some, Ok, refl, sym, ap, ◌∙◌, subst, inl, inr}
 use Rattle.merged_lookup.specs.Merged.{upper_of}
-use Rattle.mount_calls.proofs.Words.{after, AllocError, Apart, At, Attributes, base, Call, cases_eq, change, Dentries, Descriptors, Directory, Errno, false≢true, folder_attributes, Handle, handle_of, is_directory, is_folder, IsMountOf, Layer, Layers, Location, lowers_of, made_way, MountOptions, Name, nat_cmp, New, Node, node_at, NodeId, OnErr, OpenDirectory, option_and_then, option_map, or_else, over_node, Path, put, refusal, Removes, reply_of, shows, State, StaysMount, Table, Tree, way_of, when}
+use Rattle.mount_calls.proofs.Words.{after, Apart, At, Attributes, base, Call, cases_eq, change, Dentries, Descriptors, Errno, false≢true, folder_attributes, Handle, handle_of, is_folder, IsMountOf, Layer, Layers, Location, lowers_of, made_way, MountOptions, Name, nat_cmp, New, Node, node_at, NodeId, OpenDirectory, option_and_then, option_map, or_else, over_node, Path, put, refusal, Removes, reply_of, shows, State, Table, Tree, way_of, when}
 use Rattle.std.specs.BTreeMap.{get}
 use Rattle.ov_base.specs.declared.call.CallOf.TheVariants as call
-use Rattle.ov_base.specs.declared.errno.Errno.TheVariants.{EBUSY, EISDIR}
+use Rattle.ov_base.specs.declared.errno.Errno.TheVariants.{EBUSY, EISDIR, ENOTDIR, ENOTEMPTY}
 use Rattle.ov_base.specs.declared.reply.Reply.TheVariants as reply
 use Rattle.plain_model.specs.Layers.{same_path}
+use Rattle.plain_model.specs.Machine.{is_root}
 use Rattle.plain_model.specs.Tree.{with_name}
 use Rattle.plain_model.specs.Changes.{lead_way, one_more}
 use Rattle.plain_model.proofs.Paths.{ids_tell, paths_tell}
@@ -35,13 +36,13 @@ use Rattle.mount_calls.specs.Altering.{AltersUnless}
 use Rattle.mount_calls.specs.AttributeCalls.{asked_fault, call_at}
 use Rattle.mount_calls.specs.Removing.{HasAttributes}
 use Rattle.mount_calls.specs.Files.{AreOne}
-use Rattle.mount_calls.specs.Living.{StaysLive, KeepsLive, KeepsHeld}
-use Rattle.mount_calls.specs.States.{Stands, IsHandle, AreTables, IsStateOf, StaysState, Serves}
-use Rattle.mount_calls.proofs.Answering.{on-err, serve-refused, serve-done}
+use Rattle.mount_calls.specs.Living.{KeepsLive, KeepsHeld}
+use Rattle.mount_calls.specs.States.{Stands, IsHandle, AreTables, IsStateOf, Serves}
+use Rattle.mount_calls.proofs.Answering.{serve-refused, serve-done}
 use Rattle.mount_calls.proofs.AttributeCalls.{leaves-asked, refusal-asked, still-asked}
 use Rattle.mount_calls.proofs.Serving.{handle-now, open-before, one-fewer}
 use Rattle.mount_calls.proofs.Stating.{the_layers, the_lowers, the_upper, Alike}
-use Rattle.mount_calls.proofs.Carrying.{KeepsLeaves, KeepsHeldLeaves, CarriesFiles, tables-on, state-stays, files-kept, files-held}
+use Rattle.mount_calls.proofs.Carrying.{KeepsLeaves, KeepsHeldLeaves, CarriesFiles, tables-on, files-kept, files-held}
 use Rattle.mount_calls.proofs.Directories.{seen, shown-attributes, shown-directory}
 
 -- a directory with another name in it is one still
@@ -83,6 +84,10 @@ module _ (t u : Tree) (stays : (q : Path) (d : NodeId) → node_at t q ≡ Some 
 -- an unlink that isn't refused is not of a directory
 unlinked-none : (root : Bool) (w : Option Errno) (d : Bool) → or_else (when root EBUSY) (or_else w (when d EISDIR)) ≡ None → d ≡ false
 unlinked-none root w d e = grind arith
+
+-- what rmdir doesn't refuse is a directory
+pub is-removable : (p : Path) (w : Option Errno) (d : Bool) → or_else (when (is_root p) EBUSY) (or_else w (or_else (when (not d) ENOTDIR) (when false ENOTEMPTY))) ≡ None → d ≡ true
+is-removable p w d fine = grind arith
 
 -- what has the attributes of a directory is one
 pub still-folder : (o q : Option Node) → folder_attributes q ≡ folder_attributes o → is_folder o ≡ true → is_folder q ≡ true

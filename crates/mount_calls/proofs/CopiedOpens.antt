@@ -6,6 +6,7 @@ use Rattle.copy_up.proofs.Texts.{texts-gained}
 use Rattle.mount_calls.proofs.Texts.{texts-whole}
 use Rattle.mount_calls.proofs.Words.{after, AllocError, Attributes, bad_flags, base, Call, change, Contents, EINVAL, false≢true, File, Handle, Inode, inode_of, IsLive, IsMountOf, Layer, Layers, layers_of, Leaf, live_handle, lowers_of, lowest_free, MountOptions, Node, node_at, NodeId, OpenFile, OpenFlags, opening_fault, option_and_then, option_map, or_else, over_node, Own, parents_fault, Path, Place, put, refusal, rewritten, see, shows, shows_link, ShowsInode, sized, State, StaysLayers, Tree, Upper, way_of, when, with_bytes, with_handle}
 use Rattle.layer_tree.specs.Tree.{own_at}
+use Rattle.layer_tree.specs.declared.node.Inode.{Inode as StoredInode}
 use Rattle.slab.specs.Slab.{get}
 use Rattle.ov_base.specs.declared.bytes.Content.TheVariants as content
 use Rattle.ov_base.specs.declared.call.CallOf.TheVariants as call
@@ -18,7 +19,6 @@ use Rattle.plain_model.specs.Changes.{low_after, opened, touched, with_attribute
 use Rattle.plain_model.proofs.Keeping.{put-here}
 use Rattle.plain_model.proofs.OwnBytes.{law_of_own}
 use Rattle.plain_model.proofs.Paths.{ids_tell, one_or_not, paths_tell}
-use Rattle.layer_tree.specs.declared.node.Inode.{Inode as StoredInode}
 use Rattle.mount_laws.specs.Looks.{absent, is_link_inode}
 use Rattle.mount_laws.specs.Attributes.{shown_attributes, chown_fault}
 use Rattle.mount_laws.specs.Altered.{AltersState}

@@ -1,7 +1,7 @@
 -- Reads of open files, and what fstat shows of what is open.
 use Rattle.std.proofs.Common.{◌≡◌, ℕ, ◌+◌, true, not, List, Option, None, Some, Result, Ok, Err, refl, sym, ap, ◌∙◌, subst, is_some, length, take, drop, nat_lt}
 use Rattle.std.proofs.Common.{arith}
-use Rattle.mount_calls.proofs.Words.{Apart, At, Attributes, base, ChangesSlot, Directory, directory_in, Errno, Folder, folder_attributes, Handle, handle_of, Inode, is_directory, Layer, Location, Node, NodeId, OpenDirectory, OpenFile, option_and_then, or_else, Path, refusal, Reply, Shown, shows, Stat, State, Tree, when, with_handle, with_place}
+use Rattle.mount_calls.proofs.Words.{Apart, At, Attributes, base, ChangesSlot, Directory, Errno, Folder, folder_attributes, Handle, handle_of, Inode, is_directory, Layer, Location, Node, NodeId, OpenDirectory, OpenFile, option_and_then, or_else, Path, refusal, Reply, Shown, shows, Stat, State, Tree, when, with_handle, with_place}
 use Rattle.ov_base.specs.declared.call.CallOf.TheVariants as call
 use Rattle.ov_base.specs.declared.errno.Errno.TheVariants as errno
 use Rattle.ov_base.specs.declared.reply.ObjectKind.TheVariants as kind
@@ -12,7 +12,6 @@ use Rattle.mount_laws.specs.Looks.{walk_fault}
 use Rattle.mount_laws.specs.Descriptors.{ReadsFile, next_bytes}
 use Rattle.mount_laws.specs.Descriptors as laws
 use Rattle.mount_laws.proofs.Descriptors.{law_of_read, law_of_directory_handle, law_of_unopened}
-use Rattle.open_handles.specs.declared.handle.Handle as handles
 use Rattle.object_table.specs.declared.dentry.Unlisted.TheVariants as unlisted
 use Rattle.object_table.specs.Opened.{path_in, attributes_in}
 use Rattle.open_handles.specs.declared.clients.Clients.{Clients}

@@ -114,7 +114,7 @@ released-named l p released k file back is = by (held (layer_of l.upper) p) refl
     by (Some Whiteout) e = let no : None ≡ Some k = handed (Some Whiteout) e in absurd (cc)
     by (Some (Directory n a o r)) e =
         let shown : shows 0 (layers_of l) p ≡ Some (Folder 0 n a) =
-            ap (λ z. over 0 (upper_of l).inodes z (unless (cuts (upper_of l) p) (shows 1 (lowers_of l) (below (upper_of l) p)))) e in
+        ap (λ z. over 0 (upper_of l).inodes z (unless (cuts (upper_of l) p) (shows 1 (lowers_of l) (below (upper_of l) p)))) e in
         absurd (false≢true (sym file ∙ ap is_directory shown))
     by (Some (Named j)) e = e ∙ ap (λ z. Some (Named z)) (one-back (has_more 1 (inode_at l.upper j)) j k (handed (Some (Named j)) e))
 

@@ -1,27 +1,26 @@
 -- What is held of objects changes by their numbers, and what clients have open stays what it was.
-use Rattle.std.proofs.Common.{arith, ◌≡◌, ◌≢◌, ℕ, ◌≤◌, true, false, Option, None, Some, Result, Ok, Err, OnErr, refl, sym, ap, ◌∙◌, subst, ◌⊎◌, inl, inr, is_some, IsSome}
+use Rattle.std.proofs.Common.{◌≡◌, ◌≢◌, ℕ, true, false, Option, None, Some, refl, sym, ap, ◌∙◌, subst, is_some}
 use Rattle.std.specs.BTreeMap.{get}
-use Rattle.plain_model.specs.Layers.{Path, is_directory, shows}
+use Rattle.plain_model.specs.Layers.{Path}
 use Rattle.object_table.specs.Objects as spots
 use Rattle.object_table.specs.Objects.{Spot, spot_of, SetsSpot}
 use Rattle.object_table.specs.Opened as places
 use Rattle.object_table.specs.declared.dentry.Unlisted.TheVariants as unlisted
-use Rattle.object_table.proofs.Spots.{location-spot, opened-key, opened-path}
+use Rattle.object_table.proofs.Spots.{opened-key, opened-path}
 use Rattle.notice_laws.specs.declared.object.Object.{Object}
 use Rattle.notice_laws.specs.declared.object.Object.TheVariants as object
 use Rattle.notice_laws.specs.Objects.{IsNumberOf}
 use Rattle.open_handles.specs.declared.clients.Clients.{Clients}
-use Rattle.open_handles.specs.declared.handle.Handle as handles
-use Rattle.open_handles.specs.Attaching.{directory_by, opened_by, HoldsNoMore, KeepsClients, KeepsPlaces}
-use Rattle.mount_calls.proofs.Words.{cases_eq, Dentries, directory_in, false≢true, Handle, nat_cmp, node_at, OpenDirectory, State}
+use Rattle.open_handles.specs.Attaching.{directory_by, HoldsNoMore, KeepsClients, KeepsPlaces}
+use Rattle.mount_calls.proofs.Words.{directory_in, false≢true, Handle, nat_cmp, node_at, OpenDirectory, State}
 use Rattle.mount_calls.specs.declared.mount.Mount.{Mount}
 use Rattle.mount_calls.specs.Numbers.{ShowsNoFolder}
-use Rattle.mount_calls.specs.States.{AreTables, IsHandle, IsOpenAs, IsStateOf, Stands, StaysState}
+use Rattle.mount_calls.specs.States.{IsHandle, IsStateOf, Stands, StaysState}
 use Rattle.mount_calls.proofs.Carrying.{open-on}
 use Rattle.mount_calls.proofs.Changing.{one-attached, tables-attached}
 use Rattle.mount_calls.proofs.Directories.{shown-directory}
 use Rattle.mount_calls.proofs.Renames.{opened-same}
-use Rattle.mount_calls.proofs.Serving.{SameClients, tables-same}
+use Rattle.mount_calls.proofs.Serving.{tables-same}
 use Rattle.mount_calls.proofs.Stating.{the_lowers, the_upper, Alike, keep-same, with-tables}
 
 -- clients that only hold otherwise, and whose open directories stand where they stood, leave each state
@@ -49,7 +48,7 @@ directories-stay m new kept still s st =
     (tables-same (Alike m.layers s m.clients) m.clients s.tables st.tables m.clients (Alike m.layers s new)
     (record { attached = λ b. refl; opened = λ b d. refl; places = λ b d o l is at. at; next = refl })
     (λ b d o h now on is. open-on (the_upper m) (the_upper m) (the_lowers m) s.tree s.tree m.clients.objects.tree new.objects.tree o h
-        (λ e leads. still s st b d e h (ap directory_in now ∙ leads)) (λ f leads file. file) is)))
+    (λ e leads. still s st b d e h (ap directory_in now ∙ leads)) (λ f leads file. file) is)))
     (one-attached m.clients new s.tables kept.attached st.one)
 
 -- no handle on a directory is on the object of this number

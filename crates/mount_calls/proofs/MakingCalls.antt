@@ -1,5 +1,5 @@
 -- Calls that a mount made, by how each ended.
-use Rattle.std.proofs.Common.{◌≡◌, ℕ, true, false, Option, None, Some, Result, Ok, Err, is_some, refl, sym, ap, ◌∙◌, subst}
+use Rattle.std.proofs.Common.{◌≡◌, ℕ, true, false, None, Result, Ok, Err, is_some, refl, sym, ap, subst}
 use Rattle.std.specs.Prelude.{IsErr}
 use Rattle.std.specs.BTreeMap.{get}
 use Rattle.mount_calls.proofs.Words.{after, AllocError, Call, Errno, Layers, nat_cmp, refusal, Reply, reply_of, State, StaysMount}

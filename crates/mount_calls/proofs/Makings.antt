@@ -1,5 +1,5 @@
 -- Opens that make a file: the states that the mount stands for on the way.
-use Rattle.std.proofs.Common.{arith, ◌≡◌, ◌↔◌, ◌<◌, ℕ, zero, suc, false, cond, List, [], None, Some, Ok, refl, sym, ap, ◌∙◌, subst, is_none, is_some}
+use Rattle.std.proofs.Common.{arith, ◌≡◌, ◌↔◌, ℕ, suc, false, cond, List, [], None, Some, refl, sym, ap, ◌∙◌, subst, is_none, is_some}
 use Rattle.merged_lookup.specs.Merged.{upper_of}
 use Rattle.mount_calls.proofs.Words.{after, Call, change, false≢true, File, fresh, Handle, inode_of, IsLive, IsMountOf, Layer, Layers, layers_of, Leaf, live_handle, lowers_of, lowest_free, made_way, New, NodeId, OpenFile, OpenFlags, opening_fault, option_and_then, option_map, Own, Path, refusal, shows, State, StaysMount, Tree, Upper, way_of, with_handle}
 use Rattle.slab.specs.Slab.{get}

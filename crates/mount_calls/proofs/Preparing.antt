@@ -1,19 +1,22 @@
 -- What is held for an open, and for what will be changed, before the layers change.
-use Rattle.std.proofs.Common.{◌≡◌, ◌⊎◌, ℕ, ◌+◌, [], ◌∷◌, Option, None, Some, refl, sym, ap, ◌∙◌, subst, inl, inr, is_some}
+use Rattle.std.proofs.Common.{◌≡◌, ◌⊎◌, ℕ, ◌+◌, [], ◌∷◌, Option, None, Some, Result, Ok, Err, IfOk, OnOk, refl, sym, ap, ◌∙◌, subst, inl, inr}
 use Rattle.std.specs.BTreeMap.{get}
 use Rattle.plain_model.specs.Layers.{Path}
 use Rattle.object_table.specs.Objects.{At, Objects, Spot, spot_of, Holds, IsVacant, SameSpots}
 use Rattle.open_handles.specs.declared.clients.Clients.{Clients}
 use Rattle.open_handles.specs.declared.handle.Hold.{Hold}
 use Rattle.open_handles.specs.declared.way.Way.{Way}
-use Rattle.open_handles.specs.Attaching.{opened_by, tables_of, ChangesClient, KeepsAttached, KeepsClients, KeepsPlaces}
+use Rattle.open_handles.specs.Attaching.{opened_by, ChangesClient, KeepsClients, KeepsPlaces}
 use Rattle.open_handles.specs.FreeDescriptors.{HasSlot}
-use Rattle.open_handles.specs.Holding.{tables_in, HoldsBoth, HoldsNew, HoldsWay}
-use Rattle.open_handles.specs.TrackedHandles.{SameTracked}
-use Rattle.mount_calls.proofs.Words.{directory_in, nat_cmp}
+use Rattle.open_handles.specs.Holding.{HoldsBoth, HoldsNew, HoldsWay}
+use Rattle.mount_calls.proofs.Words.{AllocError, directory_in, nat_cmp}
+use Rattle.mount_calls.specs.declared.mount.Mount.{Mount}
 use Rattle.mount_calls.specs.Numbers.{KeepsOpen}
+use Rattle.mount_calls.specs.States.{StaysState}
+use Rattle.mount_calls.proofs.HeldSpots.{clients-stay}
 use Rattle.mount_calls.proofs.Renames.{opened-same}
-use Rattle.mount_calls.proofs.Serving.{keeps-attached, same-clients}
+use Rattle.mount_calls.proofs.Serving.{same-clients}
+use Rattle.mount_calls.proofs.Stating.{keep-state}
 
 -- objects that are the very same are where they were
 pub same-spots : (old new : Objects) → new ≡ old → SameSpots old new
@@ -66,18 +69,36 @@ module _ (old mid new : Clients) (c : ℕ) (reserved : ChangesClient old mid c (
     places = λ b d o l is at. places b d o l is (reserved.places b d o l (sym (ap directory_in (opened-still b d)) ∙ is) at);
   }
 
-  pub prepared-attached : KeepsAttached old new
-  prepared-attached = record {
-    attached = λ b. ap (λ z. is_some (get nat_cmp z b)) kept.attached ∙ (keeps-attached old mid c _ reserved).attached b;
-    next = kept.next ∙ reserved.next;
-  }
-
-  pub prepared-tracked : SameTracked (tables_of old) (tables_of mid) → SameTracked (tables_of old) (tables_of new)
-  prepared-tracked same = subst (λ z. SameTracked (tables_of old) (tables_in z)) (sym kept.attached) same
-
   pub prepared-slot : (d : ℕ) → HasSlot mid c d → HasSlot new c d
   prepared-slot d slot = record {
     descriptors = slot.descriptors;
     attached = ap (λ z. get nat_cmp z c) kept.attached ∙ slot.attached;
     place = slot.place;
   }
+
+-- only what is held changed, twice
+pub kept-then : (a b c : Clients) → KeepsClients a b → KeepsClients b c → KeepsClients a c
+kept-then a b c f g = record { attached = g.attached ∙ f.attached; next = g.next ∙ f.next }
+
+-- and each open directory stands where it stood
+pub places-then : (a b c : Clients) → KeepsClients b c → KeepsPlaces a b → KeepsPlaces b c → KeepsPlaces a c
+places-then a b c kept first then x d o l is at =
+    then x d o l is (first x d o l (sym (ap directory_in (opened-same b c kept.attached x d)) ∙ is) at)
+
+-- so the mount stands for each state still
+module _ (m : Mount) (c : ℕ) (mid : Clients) (reserved : ChangesClient m.clients mid c (λ x y. y ≡ x)) where
+  pub reserved-stays : StaysState m (record m { clients = mid })
+  reserved-stays s st = keep-state m s st c mid reserved
+
+  pub prepared-stays : (new : Clients) → KeepsClients mid new → KeepsPlaces mid new → StaysState m (record m { clients = new })
+  prepared-stays new kept places s st = clients-stay (record m { clients = mid }) new kept places s (reserved-stays s st)
+
+-- what holds, holds where a step succeeds
+pub on-ok : {T : Type 0} (r : Result T AllocError) (P : Type 0) → P → OnOk r P
+on-ok (Ok x) P p = p
+on-ok (Err e) P p = tt
+
+-- and what follows from what a step gives, follows where it succeeds
+pub if-ok : {T : Type 0} (r : Result T AllocError) (P Q : T → Type 0) → ((x : T) → P x → Q x) → IfOk r P → IfOk r Q
+if-ok (Ok x) P Q f p = f x p
+if-ok (Err e) P Q f p = tt

@@ -2,7 +2,7 @@
 use Rattle.std.proofs.Common.{◌≡◌, ℕ, true, ◌||◌, List, [], ◌∷◌, ◌++◌, Option, None, Some, IsSome, refl, sym, ap, ◌∙◌, inl, inr, is_some, length, nat_eq, arith}
 use Rattle.std.proofs.lemmas.List.{length-map}
 use Rattle.std.specs.BTreeMap.{get}
-use Rattle.mount_calls.proofs.Words.{after, Apart, At, Attributes, Dentries, Descriptors, Directory, false≢true, File, file_in, folder_attributes, Handle, handle_of, handles_of, is_folder, Layer, list_any, Location, Name, nat_cmp, node_at, NodeId, OpenDirectory, option_and_then, option_map, Path, State, Table, Tree}
+use Rattle.mount_calls.proofs.Words.{after, Apart, At, Attributes, Dentries, Descriptors, Directory, false≢true, File, file_in, folder_attributes, Handle, handle_of, handles_of, is_folder, Layer, list_any, Location, Name, nat_cmp, node_at, NodeId, OpenDirectory, option_and_then, Path, State, Table, Tree}
 use Rattle.ov_base.specs.declared.call.CallOf.TheVariants as call
 use Rattle.plain_model.specs.Changes.{re_ways, way_of}
 use Rattle.plain_model.proofs.Paths.{place}

@@ -1,10 +1,10 @@
 -- The mount answers rename as the machine does.
-use Rattle.std.proofs.Common.{◌≡◌, ℕ, Bool, true, false, not, ◌&&◌, ◌||◌, List, [], ◌∷◌, ◌++◌, Option, None, Some, IfNone, IsSome, refl, sym, ap, ◌∙◌, subst, map, ◌≢◌, ◌⊎◌, inl, inr, is_none}
+use Rattle.std.proofs.Common.{◌≡◌, ℕ, Bool, true, false, not, ◌&&◌, ◌||◌, List, ◌∷◌, ◌++◌, Option, None, Some, IfNone, IsSome, refl, sym, ap, ◌∙◌, subst, map, ◌≢◌, ◌⊎◌, inl, inr, is_none}
 use Rattle.std.proofs.Common.{arith}
 use mathlib.Core.Logic.{∥∥₁_elim}
 use mathlib.Core.Bool.{Bool-set}
 use Rattle.merged_lookup.specs.Merged.{upper_of}
-use Rattle.mount_calls.proofs.Words.{after, AreLayers, Attributes, base, Dentries, Errno, false≢true, Handle, handle_of, is_directory, Layer, layer_of, Layers, lowers_of, node_of, node_at, OpenDirectory, or_else, Path, refusal, Shown, shows, State, StaysMount, Table, Tree, when}
+use Rattle.mount_calls.proofs.Words.{after, AreLayers, Attributes, base, Dentries, Errno, false≢true, Handle, handle_of, is_directory, Layer, layer_of, Layers, lowers_of, node_of, node_at, OpenDirectory, or_else, Path, refusal, Shown, shows, State, Table, Tree, when}
 use Rattle.ov_base.specs.declared.call.CallOf.TheVariants as call
 use Rattle.ov_base.specs.declared.errno.Errno.TheVariants.{EBUSY, EISDIR}
 use Rattle.ov_base.specs.declared.reply.Reply.TheVariants as reply
@@ -25,12 +25,12 @@ use Rattle.object_table.proofs.Spots.{path-spot}
 use Rattle.open_handles.specs.Attaching.{KeepsClients}
 use Rattle.open_handles.specs.declared.clients.Clients.{Clients}
 use Rattle.mount_calls.specs.declared.mount.Mount.{Mount}
-use Rattle.mount_calls.specs.Living.{KeepsNamed, StaysLive}
+use Rattle.mount_calls.specs.Living.{KeepsNamed}
 use Rattle.mount_calls.specs.Removing.{HasAttributes}
 use Rattle.mount_calls.specs.Renaming.{RenamesHeld}
-use Rattle.mount_calls.specs.States.{AreTables, HasStateOf, IsHandle, IsOpenAs, IsStateOf, Serves, StaysState}
+use Rattle.mount_calls.specs.States.{AreTables, HasStateOf, IsHandle, IsOpenAs, IsStateOf, Serves}
 use Rattle.mount_calls.proofs.Answering.{serve-done}
-use Rattle.mount_calls.proofs.Carrying.{CarriesFiles, files-held, state-stays}
+use Rattle.mount_calls.proofs.Carrying.{CarriesFiles, files-held}
 use Rattle.mount_calls.proofs.Changing.{folder-has}
 use Rattle.mount_calls.proofs.Directories.{shown-directory}
 use Rattle.mount_calls.proofs.Lasting.{rename-leaves}
@@ -170,12 +170,6 @@ module _ (m : Mount) (s : State) (st : IsStateOf m s) where
 -- and no needless whiteout is left where none is while the layers are ones
 pub thin-on : (m : Mount) (new : Layers) → ∥ HasStateOf m ∥₁ → (AreLayers (the_layers m) → StaysThin m.layers new) → StaysThin m.layers new
 thin-on m new state then thin n p h = ∥∥₁_elim state (Bool-set _ _) (λ x. then x.1.layers.layers thin n p h)
-
--- an allocation failure leaves each state
-pub rename-wanted :
-    (m : Mount) (new : Layers) → StaysMount m.layers new →
-    new.lowers ≡ m.layers.lowers → StaysLive m.layers new → StaysState m (record m { layers = new })
-rename-wanted m new mounts low live s st = state-stays m s st new low (mounts s st.layers) live
 
 -- what is no directory is shown as none
 pub object-file : (U : Layer) (lowers : List Layer) (p : Path) (o : Object) → IsObject U lowers p o → o ≢ object.Directory → is_directory (shows 0 (U ∷ lowers) p) ≡ false

@@ -1,5 +1,5 @@
 -- The handles of what a client has open, and the states in which one of its descriptors changes.
-use Rattle.std.proofs.Common.{◌≡◌, ℕ, ◌<◌, true, List, Option, None, Some, refl, sym, ap, ◌∙◌, subst, is_some, length, option_map, arith}
+use Rattle.std.proofs.Common.{◌≡◌, ℕ, ◌<◌, true, List, Option, None, Some, refl, sym, ap, ◌∙◌, subst, is_some, length, option_map}
 use Rattle.mount_calls.proofs.Words.{ChangesSlot, Dentries, DESCRIPTORS_MAX, Directory, directory_in, File, file_in, FileSource, Handle, handle_of, handles_of, IsLive, Layer, Lower, Name, NodeId, OpenDirectory, OpenFile, SetsSlot, State, Tree, Upper, with_handle, with_listing, with_place}
 use Rattle.ov_base.specs.declared.place.Place.{Place}
 use Rattle.open_handles.specs.declared.handle.Handle as handles
@@ -120,9 +120,12 @@ module _ (m : Mount) (s : State) (st : IsStateOf m s) where
       (h : Handle) × (handle_of s.tables c d ≡ Some h) × IsFile (the_upper m) (the_lowers m) s.tree f h
   file-at c d f e =
       let o = file-open (opened_by m.clients c d) f e in
-      let x = open-at alike m.clients s.tables st.tables c d o.0 o.1 in
-      (x.0, x.1, subst (λ on. IsOpenOnAs (the_upper m) (the_lowers m) s.tree m.clients.objects.tree
-          o.0.object on x.0) o.2 x.2)
+      let x = open-at alike m.clients s.tables st.tables c d o.0 o.1 in (
+        x.0,
+        x.1,
+        subst (λ on. IsOpenOnAs (the_upper m) (the_lowers m) s.tree m.clients.objects.tree
+            o.0.object on x.0) o.2 x.2,
+      )
 
   -- the handle of an open directory
   pub directory-at : (c d : ℕ) (o : OpenDirectory) → directory_by m.clients c d ≡ Some o →
@@ -230,7 +233,7 @@ module _ (m : Mount) (s : State) (st : IsStateOf m s) where
               Some moved ≡ Some z → g.source ≡ Upper k → IsOpenOn m.clients s.tables k z.node
           again g z k is held key =
               let leads : Some (record f { place = place }) ≡ Some g =
-                  sym (ap (λ on. file_on (placed_at place on)) led.2) ∙ is in
+              sym (ap (λ on. file_on (placed_at place on)) led.2) ∙ is in
               let same : record f { place = place } ≡ g = cc in
               let handles_same : moved ≡ z = cc in
               let node : h.node ≡ z.node = ap (λ (o : Handle). o.node) handles_same in

@@ -1,5 +1,5 @@
 -- A mount stands for a state still when its clients, or its layers, change so.
-use Rattle.std.proofs.Common.{◌≡◌, ℕ, List, Some, refl, ap, ◌∙◌, arith}
+use Rattle.std.proofs.Common.{◌≡◌, ℕ, List, refl, ap, ◌∙◌, arith}
 use Rattle.merged_lookup.specs.Merged.{upper_of}
 use Rattle.mount_calls.proofs.Words.{directory_in, Handle, Layer, Layers, layers_of, lowers_of, State, Table}
 use Rattle.open_handles.specs.declared.handle.Handle as handles

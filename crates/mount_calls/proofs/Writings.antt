@@ -197,7 +197,7 @@ module _ (m : Mount) (s : State) (st : IsStateOf m s) (c d : ℕ) where
         found =
             let led = file-open (opened_by m.clients c d) f is in
             writing f is (unrefused-truncation m.file_limit f size
-                (sym (ap (λ o. truncate_fault m.file_limit o size) led.1 ∙ ap (λ on. truncate_fault_on m.file_limit on size) led.2) ∙ good))
+            (sym (ap (λ o. truncate_fault m.file_limit o size) led.1 ∙ ap (λ on. truncate_fault_on m.file_limit on size) led.2) ∙ good))
 
         h : Handle
         h = found.0

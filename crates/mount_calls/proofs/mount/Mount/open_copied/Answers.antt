@@ -1,7 +1,6 @@
 use Rattle.std.proofs.Common.{None, ap, ◌∙◌, is_some}
 use Rattle.open_handles.specs.declared.handle.On.TheVariants.{File}
 use Rattle.open_handles.specs.declared.open_file.OpenFile.{OpenFile}
-use Rattle.mount_calls.specs.declared.mount.Mount.{Mount}
 use Rattle.mount_calls.specs.Files.{file_at}
 use Rattle.mount_calls.proofs.Answering.{on-err}
 use Rattle.mount_calls.proofs.Makings.{wanted-state}
@@ -27,17 +26,19 @@ open-requires-clause-room c = elim c.if-flags.branch [
 ]
 
 pub open-requires-clause-held : goal.open-requires-clause-held
-open-requires-clause-held c = elim c.if-flags.branch [
-  | then-flags+in_ok-resize_file w ↦ rw w.self-is (held-for c.args.self.now.clients c.new.result c.args.hold.now c.new.ensures.tracked c.requires.held)
-  | else-flags w ↦ rw w.self-is (held-for c.args.self.now.clients c.new.result c.args.hold.now c.new.ensures.tracked c.requires.held)
-]
+open-requires-clause-held c =
+    let held = held-for c.args.self.now.clients c.new.result c.args.hold.now c.new.ensures.tracked c.requires.held in
+    elim c.if-flags.branch [
+      | then-flags+in_ok-resize_file w ↦ rw w.self-is held
+      | else-flags w ↦ rw w.self-is held
+    ]
 
 pub returns-clause-opens : goal.returns-clause-opens
 returns-clause-opens c =
     let opens = opens-hold c.if-flags.self.clients c.«open».new.self c.args.client c.args.descriptor c.new.result c.args.hold.now c.«open».ensures c.new.ensures.tracked in
     elim c.if-flags.branch [
-      | then-flags+in_ok-resize_file w ↦ rw w.self-is at opens opens
-      | else-flags w ↦ rw w.self-is at opens opens
+      | then-flags+in_ok-resize_file w ↦ rw w.self-is at opens
+      | else-flags w ↦ rw w.self-is at opens
     ]
 
 pub returns-clause-around : goal.returns-clause-around
@@ -77,8 +78,8 @@ returns-clause-answers c =
     let ensures = c.«open».ensures in
     opens-on m.clients last c.args.client c.args.descriptor c.new.result (File file) c.requires.free
     (elim c.if-flags.branch [
-      | then-flags+in_ok-resize_file w ↦ rw w.self-is at ensures ensures
-      | else-flags w ↦ rw w.self-is at ensures ensures
+      | then-flags+in_ok-resize_file w ↦ rw w.self-is at ensures
+      | else-flags w ↦ rw w.self-is at ensures
     ])
     (c.new.ensures.on ∙ ap File c.file_at-file.ensures) in
     let served : ServesEach c.args.client asked m now (reply.Descriptor c.args.descriptor) = λ s st. elim c.if-flags.branch [
