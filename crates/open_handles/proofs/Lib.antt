@@ -1,5 +1,11 @@
 pub mod Slots
-pub mod TrackedClients
 pub mod TrackedUses
 pub mod TrackedWays
 pub mod Places
+pub mod Entries
+pub mod Counting
+pub mod Leading
+pub mod Holding
+pub mod Changing
+pub mod Found
+pub mod Ways

@@ -5,8 +5,7 @@ use Rattle.std.proofs.lemmas.List.{set-get_or}
 use Rattle.std.proofs.lemmas.Bool.{cases_lt, false≢true}
 use Rattle.std.proofs.lemmas.Option.{slice_get_past, slice_get_read}
 use Rattle.std.specs.List.{slice_get}
-use Rattle.std.specs.Option.{option_map_or}
-use Rattle.std.specs.Option.{option_map_or}
+use Rattle.std.specs.Option.{option_and_then, option_map_or}
 use Rattle.std.specs.declared.alloc.AllocError.{AllocError}
 use Rattle.open_handles.specs.declared.handle.Handle.{Handle}
 use Rattle.open_handles.specs.declared.handle.On.{On}
@@ -109,3 +108,17 @@ directory-is (Some h) o e = let on = by h.on e in (h, refl, on.0, on.1)
         OpenDirectory). y.directory) z h.object) e, ap (λ (z : Option OpenDirectory). Directory
         (option_map_or (λ (y : OpenDirectory). y.listing) z None)) e)
     by (File f) e = absurd (cc)
+
+-- What is read by the number of a directory that stands open is read by its handle's.
+pub directory-read : {B : Type 0} (f : ℕ → Option B) (x : Option Handle) (h : Handle) →
+    x ≡ Some h → IsSome (directory_in x) →
+    option_and_then (λ (o : OpenDirectory). f o.directory) (directory_in x) ≡ f h.object
+directory-read f x h is some =
+    ap (λ y. option_and_then (λ (o : OpenDirectory). f o.directory) (directory_in y)) is
+    ∙ by h.on (subst (λ y. IsSome (directory_in y)) is some)
+  where
+    by : (on : On) → IsSome (directory_on h.object on) →
+        option_and_then (λ (o : OpenDirectory). f o.directory) (directory_on h.object on) ≡
+        f h.object
+    by (Directory listing) there = refl
+    by (File f) there = let no : false ≡ true = there in absurd (cc)

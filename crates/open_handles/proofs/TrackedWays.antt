@@ -1,23 +1,25 @@
--- Handles whose ways change, and what is found among all of them.
-use Rattle.std.proofs.Common.{◌≡◌, ℕ, zero, suc, ◌+◌, ◌≤◌, Bool, true, false, cond, List, [], ◌∷◌, ◌++◌, map, take, drop, length, Option, Some, None, option_map, sum_by, count_by, refl, sym, ap, subst, ◌∙◌, inl, inr, arith, nat_eq, eqb-true, eq-eqb}
-use Rattle.std.specs.List.{list_any}
-use Rattle.std.proofs.lemmas.Bool.{cases_Bool, or_left, or_right, and_parts}
+-- Handles whose ways change.
+use Rattle.std.proofs.Common.{◌≡◌, ◌∙◌, ℕ, zero, suc, ◌+◌, ◌≤◌, Bool, true, false, cond, List, []}
+use Rattle.std.proofs.Common.{◌∷◌, ◌++◌, map, take, drop, length, Option, Some, None, option_map}
+use Rattle.std.proofs.Common.{sum_by, count_by, refl, sym, ap, inl, inr, arith, nat_eq, eqb-true}
+use Rattle.std.proofs.lemmas.Bool.{cases_Bool, and_parts}
 use Rattle.std.proofs.lemmas.List.{append-nil, drop_all, length-map, take_all}
-use Rattle.std.proofs.lemmas.List.Folds.{fold-map, Any-from_list_any}
+use Rattle.std.proofs.lemmas.List.Folds.{fold-map}
 use Rattle.std.proofs.lemmas.List.Sums.{sum_by-cons}
-use Rattle.open_handles.specs.Descriptors.{opened}
-use Rattle.open_handles.specs.TrackedHandles.{TrackedTable, TrackedTables, IsOn, came_by, clients_of, handles_by, is_way, re_way_of, slot_came_by, slot_is_on, slot_uses, slots_of, tracked_by, uses, way_uses}
 use Rattle.open_handles.specs.declared.way.Way.{Way}
-use Rattle.open_handles.specs.TrackedHandles.{TrackedHandle}
-use Rattle.open_handles.proofs.Slots.{opened-read}
-use Rattle.open_handles.proofs.TrackedClients.{AreRising, place-slots, place-from}
+use Rattle.open_handles.specs.Descriptors.{opened}
+use Rattle.open_handles.specs.TrackedHandles.{TrackedHandle, TrackedTable, TrackedTables, came_by}
+use Rattle.open_handles.specs.TrackedHandles.{clients_of, handles_by, is_way, re_way_of}
+use Rattle.open_handles.specs.TrackedHandles.{slot_came_by, slot_uses, slots_of, tracked_by, uses}
+use Rattle.open_handles.specs.TrackedHandles.{way_uses}
 
 -- the slots of a client
 abbrev Slots : Type 0
 Slots = List (Option TrackedHandle)
 
--- a sum over changed elements
-sum_by-map : {X : Type 0} (f : X → ℕ) (h : X → X) (xs : List X) → sum_by f (map h xs) ≡ sum_by (λ x. f (h x)) xs
+-- a sum over what elements are made into
+pub sum_by-map : {X Y : Type 0} (f : Y → ℕ) (h : X → Y) (xs : List X) →
+    sum_by f (map h xs) ≡ sum_by (λ x. f (h x)) xs
 sum_by-map f h xs = fold-map (λ a x. a + f x) h 0 xs
 
 -- a list all of whose elements were changed in turn, put back in place of the old one
@@ -130,32 +132,3 @@ module _ (object : ℕ) (from to : Way) where
       each k =
           ap (λ m. m + cond (nat_eq from.directory n) (count_by (slot_came_by object from) k.slots) 0) (sum_by-map (slot_uses n) re_slot k.slots)
           ∙ sums-balance (λ s. slot_uses n (re_slot s)) (slot_uses n) share (nat_eq from.directory n) (nat_eq to.directory n) (slot-balance n) k.slots
-
--- a slot with an open handle on an object is found
-found-slot : (n : ℕ) (slots : Slots) (d : ℕ) (h : TrackedHandle) → opened slots d ≡ Some h → h.object ≡ n → list_any (slot_is_on n) slots ≡ true
-found-slot n [] d h is on = absurd (cc)
-found-slot n (s ∷ slots) zero h is on = or_left (slot_is_on n s) (list_any (slot_is_on n) slots) (ap (slot_is_on n) is ∙ eq-eqb n h.object (sym on))
-found-slot n (s ∷ slots) (suc d) h is on = or_right (slot_is_on n s) (list_any (slot_is_on n) slots) (found-slot n slots d h is on)
-
--- a client with such a handle is found
-pub found-handle : (n : ℕ) (ks : TrackedTables) → IsOn ks n → list_any (λ k. list_any (slot_is_on n) k.slots) ks ≡ true
-found-handle n [] on = absurd (let none = on.3 in cc)
-found-handle n (k ∷ ks) on = elim (cases_Bool (nat_eq k.client on.0)) [
-  | inl is ↦ or_left (list_any (slot_is_on n) k.slots) _ (found-slot n k.slots on.1 on.2 (subst (λ p. opened (cond p k.slots (slots_of ks on.0)) on.1 ≡ Some on.2) is on.3) on.4)
-  | inr other ↦ or_right (list_any (slot_is_on n) k.slots) _ (found-handle n ks (on.0, on.1, on.2, subst (λ p. opened (cond p k.slots (slots_of ks on.0)) on.1 ≡ Some on.2) other on.3, on.4))
-]
-
--- what is found is a client's handle on the object
-pub handle-found : (n : ℕ) (ks : TrackedTables) → AreRising (clients_of ks) → list_any (λ k. list_any (slot_is_on n) k.slots) ks ≡ true → IsOn ks n
-handle-found n ks rising found =
-    let client = Any-from_list_any (λ (k : TrackedTable). list_any (slot_is_on n) k.slots) ks found in
-    let k = client.1 in
-    let slot = Any-from_list_any (slot_is_on n) k.slots client.4 in
-    let place = place-from k.client client.0 ks k rising client.2 (ap (λ (x : TrackedTable). x.client) client.3) in
-    let own : slots_of ks k.client ≡ k.slots = place-slots k.client client.0 ks k place ∙ ap (λ (x : TrackedTable). x.slots) client.3 in
-    let read : tracked_by ks k.client slot.0 ≡ slot.1 = ap (λ (xs : Slots). opened xs slot.0) own ∙ opened-read k.slots slot.0 slot.1 slot.2 (sym slot.3) in
-    by k.client slot.0 slot.1 read slot.4
-  where
-    by : (c d : ℕ) (s : Option TrackedHandle) → tracked_by ks c d ≡ s → slot_is_on n s ≡ true → IsOn ks n
-    by c d None read is = absurd (cc)
-    by c d (Some h) read is = (c, d, h, read, sym (eqb-true n h.object is))

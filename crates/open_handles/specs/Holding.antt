@@ -1,10 +1,11 @@
 -- What handles hold among the objects of a mount, and what a handle that is to be opened holds
 -- first.
-use Rattle.std.specs.Prelude.{◌≡◌, ℕ, [], ◌∷◌, Option, Some, None, map}
+use Rattle.std.specs.Prelude.{◌≡◌, ◌≢◌, ℕ, ◌-◌, [], ◌∷◌, Option, Some, None, map}
 use Rattle.std.specs.BTreeMap.{BTreeMap}
 use Rattle.plain_model.specs.Layers.{Path}
 use Rattle.object_table.specs.Objects.{Objects, Spot, At, Nowhere, spot_of, Holds, IsVacant}
-use Rattle.object_table.specs.Objects.{SameSpots, SetsSpot}
+use Rattle.object_table.specs.Objects.{SameSpots, SetsSpot, holders_of, spot_left}
+use Rattle.object_table.specs.Opened.{opened}
 use Rattle.open_handles.specs.declared.descriptors.Descriptors.{Descriptors}
 use Rattle.open_handles.specs.declared.handle.Hold.{Hold}
 use Rattle.open_handles.specs.declared.way.Way.{Way}
@@ -61,3 +62,14 @@ pub record HoldsMore (old new : Objects) (spot : Spot) (n : ℕ) : Type 0 where
   pub mid : Objects
   pub holds : Holds old mid spot n
   pub same : (m : ℕ) → spot_of new m ≡ spot_of mid m
+
+-- So many holders let the object of a number go: it is where it was, unless nobody is left.
+pub record Releases (old new : Objects) (n count : ℕ) : Type 0 where
+  pub sets : SetsSpot old new n (spot_left (holders_of old n - count) (spot_of old n))
+      (holders_of old n - count)
+  pub place : holders_of old n - count ≢ 0 → opened new.tree n ≡ opened old.tree n
+
+-- the directory of a way is let go once; the root has none
+abbrev pub ReleasesWay : Objects → Objects → Option Way → Type 0
+ReleasesWay old new None = new ≡ old
+ReleasesWay old new (Some w) = Releases old new w.directory 1

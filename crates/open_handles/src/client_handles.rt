@@ -201,9 +201,10 @@ impl Clients {
         ensures beside { (n : ℕ) → beside self.new n + cond (nat_eq to.now.directory n) count 0 ≡
             beside self.old n }
     {
-        for own in self.attached.values_mut() {
+        self.attached.retain(|_, own| {
             own.re_way(object, from, to);
-        }
+            true
+        });
         self.objects.release(from.directory, count);
     }
 }

@@ -12,7 +12,7 @@ ghost use Rattle.object_table.specs.declared.dentry.Unlisted.TheVariants as unli
 ghost use Rattle.open_handles.specs.Attaching.{beside, HoldsNoMore, HoldsOne, KeepsClients};
 ghost use Rattle.open_handles.specs.Attaching.{KeepsPlaces, LetsGo, SameBeside};
 ghost use Rattle.open_handles.specs.Holding.{HoldsBoth, HoldsMore, HoldsNew, HoldsWay, IsHeldWay};
-ghost use Rattle.open_handles.specs.Holding.{IsWayTo};
+ghost use Rattle.open_handles.specs.Holding.{IsWayTo, ReleasesWay};
 ghost use Rattle.open_handles.specs.TrackedHandles.{handle_uses, way_uses};
 
 use crate::clients::Clients;
@@ -72,6 +72,7 @@ impl Clients {
         ensures room { room self.old.objects ≤ room self.new.objects }
         ensures err { OnErr result (HoldsNoMore self.old self.new) }
     {
+        self.objects.lawful();
         let number = self.objects.hold_at_names(names)?;
         match self.objects.hold(number, count - 1) {
             Ok(()) => Ok(number),
@@ -105,6 +106,7 @@ impl Clients {
         ensures room { room self.old.objects ≤ room self.new.objects }
         ensures err { OnErr result (HoldsNoMore self.old self.new) }
     {
+        self.objects.lawful();
         let way = self.hold_way(path)?;
         match self.hold_step(path, &way) {
             Ok(object) => Ok(Hold { object, way }),
@@ -126,6 +128,7 @@ impl Clients {
             beside self.new n ≡ beside self.old n + handle_uses n h) }
         ensures err { OnErr result (HoldsNoMore self.old self.new) }
     {
+        self.objects.lawful();
         let way = self.hold_way(path)?;
         match self.objects.hold_key(key) {
             Ok(object) => Ok(Hold { object, way }),
@@ -147,7 +150,9 @@ impl Clients {
         ensures room { room self.old.objects ≤ room self.new.objects }
         ensures err { OnErr result (HoldsNoMore self.old self.new) }
     {
+        self.objects.lawful();
         let way = self.hold_way(path)?;
+        self.objects.lawful();
         match self.objects.hold_new() {
             Ok(object) => Ok(Hold { object, way }),
             Err(fault) => {
@@ -208,6 +213,8 @@ impl Clients {
     fn release_way(&mut self, way: &Option<Way>)
         requires { (n : ℕ) → way_uses n way.now ≤ beside self.old n }
         ensures lets { LetsGo self.old self.new }
+        ensures releases { ReleasesWay self.old.objects self.new.objects way.now }
+        ensures room { room self.old.objects ≤ room self.new.objects }
         ensures beside { (n : ℕ) → beside self.new n + way_uses n way.now ≡ beside self.old n }
     {
         if let Some(way) = way {

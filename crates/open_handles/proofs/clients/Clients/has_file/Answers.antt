@@ -1,0 +1,18 @@
+use Rattle.std.proofs.Common.{◌∙◌, ap, refl, sym}
+use Rattle.std.specs.List.{list_any}
+use Rattle.open_handles.specs.declared.descriptors.Descriptors.{Descriptors}
+use Rattle.open_handles.specs.Handles.{slot_has_file}
+use Rattle.open_handles.proofs.Found.{file-some, found-handle, handle-found, some-file}
+use Rattle.open_handles.proofs.clients.Clients.has_file.Goals as goal
+
+pub returns : goal.returns
+returns c =
+    let attached = c.args.self.now.attached in
+    let key = c.args.key in
+    let answer = c.any.ensures ∙ ap (list_any (λ (x : Descriptors). list_any (slot_has_file key)
+        x.slots.items)) c.values.ensures.rest in (
+      λ yes. some-file c.args.self.now key (handle-found attached c.values.ensures.ordered
+          (slot_has_file key) refl (sym answer ∙ yes)),
+      λ has. answer ∙ found-handle attached (slot_has_file key) (file-some c.args.self.now key
+          has),
+    )

@@ -1,0 +1,17 @@
+use Rattle.std.proofs.Common.{◌∙◌, ap, refl, sym}
+use Rattle.std.specs.List.{list_any}
+use Rattle.open_handles.specs.declared.descriptors.Descriptors.{Descriptors}
+use Rattle.open_handles.specs.Handles.{handle_is_on}
+use Rattle.open_handles.proofs.Found.{found-handle, handle-found, on-some, some-on}
+use Rattle.open_handles.proofs.clients.Clients.is_on.Goals as goal
+
+pub returns : goal.returns
+returns c =
+    let attached = c.args.self.now.attached in
+    let n = c.args.object in
+    let answer = c.any.ensures ∙ ap (list_any (λ (x : Descriptors). list_any (handle_is_on n)
+        x.slots.items)) c.values.ensures.rest in (
+      λ yes. some-on attached n (handle-found attached c.values.ensures.ordered (handle_is_on n)
+          refl (sym answer ∙ yes)),
+      λ on. answer ∙ found-handle attached (handle_is_on n) (on-some attached n on),
+    )

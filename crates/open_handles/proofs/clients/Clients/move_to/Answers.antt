@@ -1,0 +1,43 @@
+use Rattle.std.proofs.Common.{◌≡◌, ℕ, refl, rules}
+use Rattle.open_handles.specs.Descriptors.{opened}
+use Rattle.open_handles.specs.Handles.{tracked_in}
+use Rattle.open_handles.specs.Listings.{with_place}
+use Rattle.open_handles.proofs.Changing.{becomes-few, becomes-held, becomes-rising, client-changes}
+use Rattle.open_handles.proofs.Changing.{keeps-holds, slot-tracked}
+use Rattle.open_handles.proofs.Entries.{Becomes}
+use Rattle.open_handles.proofs.clients.Clients.move_to.Goals.{After-move_to}
+use Rattle.open_handles.proofs.clients.Clients.move_to.Goals as goal
+
+-- the client has other descriptors
+becomes : (c : After-move_to) → Becomes c.args.self.now.attached
+    (c.get_mut.follows.lender c.move_to.new.self) c.args.client c.unwrap.result.now c.move_to.new.self
+becomes c = record {
+  was = search rules;
+  is = search rules;
+  others = search rules;
+  written = (c.get_mut.follows.holds c.move_to.new.self).0;
+}
+
+-- each slot is on what it was
+same : (c : After-move_to) → (d : ℕ) → tracked_in (opened c.move_to.new.self.slots.items d) ≡
+    tracked_in (opened c.unwrap.result.now.slots.items d)
+same c = slot-tracked (with_place c.args.place) (λ h. refl) _ _ c.args.descriptor c.move_to.ensures
+
+pub returns-clause-changes : goal.returns-clause-changes
+returns-clause-changes c =
+    client-changes _ _ _ _ _ _ (becomes (goal.at.returns-clause-changes c).After-move_to)
+    c.move_to.ensures (λ b d o l there at. at) refl
+
+pub returns-clause-holds : goal.returns-clause-holds
+returns-clause-holds c =
+    let at_call = (goal.at.returns-clause-holds c).After-move_to in
+    keeps-holds _ _ _ _ _ (becomes at_call) refl (same at_call)
+
+pub invariant_of-self : goal.invariant_of-self
+invariant_of-self c =
+    let at_call = (goal.at.invariant_of-self c).After-move_to in
+    record {
+      rising = becomes-rising _ _ _ _ _ (becomes at_call);
+      few = becomes-few _ _ _ _ _ (becomes at_call);
+      held = becomes-held _ _ _ _ _ (becomes at_call) (same at_call);
+    }

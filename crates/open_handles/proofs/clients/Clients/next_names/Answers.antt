@@ -1,0 +1,42 @@
+use Rattle.std.proofs.Common.{◌≡◌, ℕ, rules, refl}
+use Rattle.open_handles.specs.Descriptors.{opened}
+use Rattle.open_handles.specs.Handles.{tracked_in}
+use Rattle.open_handles.proofs.Changing.{becomes-few, becomes-held, becomes-rising, client-changes}
+use Rattle.open_handles.proofs.Changing.{gives-tracked, keeps-holds}
+use Rattle.open_handles.proofs.Entries.{Becomes}
+use Rattle.open_handles.proofs.clients.Clients.next_names.Goals.{After-next_names}
+use Rattle.open_handles.proofs.clients.Clients.next_names.Goals as goal
+
+-- the client has other descriptors
+becomes : (c : After-next_names) → Becomes c.args.self.now.attached
+    (c.get_mut.follows.lender c.next_names.new.self) c.args.client c.unwrap.result.now c.next_names.new.self
+becomes c = record {
+  was = search rules;
+  is = search rules;
+  others = search rules;
+  written = (c.get_mut.follows.holds c.next_names.new.self).0;
+}
+
+-- each slot is on what it was
+same : (c : After-next_names) → (d : ℕ) → tracked_in (opened c.next_names.new.self.slots.items d) ≡
+    tracked_in (opened c.unwrap.result.now.slots.items d)
+same c = gives-tracked _ _ c.args.descriptor c.args.count c.next_names.result c.next_names.ensures
+
+pub returns-clause-changes : goal.returns-clause-changes
+returns-clause-changes c =
+    client-changes _ _ _ _ _ _ (becomes (goal.at.returns-clause-changes c).After-next_names)
+    c.next_names.ensures (λ b d o l there at. at) refl
+
+pub returns-clause-holds : goal.returns-clause-holds
+returns-clause-holds c =
+    let at_call = (goal.at.returns-clause-holds c).After-next_names in
+    keeps-holds _ _ _ _ _ (becomes at_call) refl (same at_call)
+
+pub invariant_of-self : goal.invariant_of-self
+invariant_of-self c =
+    let at_call = (goal.at.invariant_of-self c).After-next_names in
+    record {
+      rising = becomes-rising _ _ _ _ _ (becomes at_call);
+      few = becomes-few _ _ _ _ _ (becomes at_call);
+      held = becomes-held _ _ _ _ _ (becomes at_call) (same at_call);
+    }
