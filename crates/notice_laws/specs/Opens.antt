@@ -10,7 +10,7 @@ use Rattle.mount_laws.specs.Looks.{IsMountOf, shows_link}
 use Rattle.open_handles.specs.declared.way.Way.{Way}
 pub use Rattle.open_handles.specs.Holding.{IsHeldWay}
 pub use Rattle.object_table.specs.Objects.{AreFewer}
-use Rattle.object_table.specs.Objects.{Objects, Spot, At, Upper, spot_of, Holds}
+use Rattle.object_table.specs.Objects.{Objects, Spot, Upper, spot_of, Holds}
 use Rattle.open_handles.specs.TrackedHandles.{SetsTracked}
 use Rattle.notice_laws.specs.declared.object.Object.{Object}
 use Rattle.notice_laws.specs.declared.object.Object.TheVariants as object

@@ -1,21 +1,20 @@
--- What is tracked, as the holders are counted.
-use Rattle.std.proofs.Common.{◌≡◌, ◌≢◌, ℕ, ◌+◌, ◌-◌, ◌≤◌, ◌<◌, Bool, true, false, cond, ◌||◌, List, [], ◌∷◌, Option, Some, None, IsSome, refl, sym, ap, subst, ◌∙◌, inl, inr, arith, nat_eq, eqb-true, eq-eqb}
+-- What is held beside the handles, as those are counted who watch.
+use Rattle.std.proofs.Common.{◌≡◌, ◌≢◌, ℕ, ◌+◌, ◌<◌, Bool, true, false, cond, ◌||◌, List, [], ◌∷◌, Option, Some, None, IsSome, refl, sym, subst, ◌∙◌, inl, inr, arith, nat_eq, eqb-true, eq-eqb}
 use Rattle.std.specs.Prelude.{◌↔◌}
 use Rattle.std.proofs.lemmas.Bool.{false≢true, cases_Bool}
 use Rattle.std.proofs.lemmas.List.Sums.{sum_by-cons}
 use Rattle.ov_base.specs.declared.node_id.NodeId.TheVariants.{New}
 use Rattle.plain_model.specs.Watching.{Rule, Subject, Instance, On, AllHear}
 use Rattle.plain_model.specs.Alike.{is_watched}
-use Rattle.open_handles.specs.TrackedHandles.{TrackedHandle}
-use Rattle.open_handles.specs.declared.way.Way.{Way}
 use Rattle.object_table.specs.Objects.{Objects, Spot, spot_of, holders_of}
-use Rattle.open_handles.specs.TrackedHandles.{handle_uses, tracked_by, uses, way_uses}
+use Rattle.open_handles.specs.declared.clients.Clients.{Clients}
+use Rattle.open_handles.specs.Attaching.{beside}
 use Rattle.watch_table.specs.Listening.{is_on}
-use Rattle.notice_laws.specs.Notified.{Notified, AreKnown}
-use Rattle.notifier.specs.Notifying.{AreCounted, watchers, pinned_times}
-use Rattle.notifier.proofs.Hearing.{AreSpared, fewer-watch, others-watch}
+use Rattle.notifier.specs.Notifying.{AreCounted, watchers}
+use Rattle.notifier.specs.Watches.{Watches}
+use Rattle.notifier.proofs.Hearing.{AreSpared, others-watch}
 
--- what somebody holds is tracked
+-- what somebody holds has a number
 held-some : (t : Objects) (n : ℕ) → ((spot_of t n ≡ None) ↔ (holders_of t n ≡ 0)) → 0 < holders_of t n → IsSome (spot_of t n)
 held-some t n counted held = by (spot_of t n) counted
   where
@@ -35,54 +34,35 @@ watched-counts (e ∷ es) n h =
     by true on rest = omega arith
     by false on rest = let more = rest on in omega arith
 
-same-counts : (n : ℕ) → cond {A = ℕ} (nat_eq n n) 1 0 ≡ 1
-same-counts n = ap (λ b. cond {A = ℕ} b 1 0) (eq-eqb n n refl)
+-- what is watched is held
+pub watched-held : (clients : Clients) (k : Watches) → AreCounted clients k →
+    ((n : ℕ) → (spot_of clients.objects n ≡ None) ↔ (holders_of clients.objects n ≡ 0)) →
+    (n : ℕ) → is_watched k.instances (On (New n)) ≡ true → IsSome (spot_of clients.objects n)
+watched-held clients k counts counted n on =
+    let one = watched-counts k.instances n on in
+    let all : beside clients n ≡ watchers k.instances n = counts n in
+    held-some clients.objects n (counted n) (omega arith)
 
--- so is what a handle is on
-on-counts : (h : TrackedHandle) → 0 < handle_uses h.object h
-on-counts h = let one = same-counts h.object in omega arith
-
--- and the directory by which it was opened
-way-counts : (h : TrackedHandle) (w : Way) → h.way ≡ Some w → 0 < handle_uses w.directory h
-way-counts h w is =
-    let way = ap (way_uses w.directory) is in
-    let one = same-counts w.directory in
-    omega arith
-
--- what watches and handles have numbers of is tracked
-pub all-known : (k : Notified) → AreCounted k → ((n : ℕ) → (spot_of k.objects n ≡ None) ↔ (holders_of k.objects n ≡ 0)) →
-    ((c d n : ℕ) (h : TrackedHandle) → tracked_by k.handles c d ≡ Some h → handle_uses n h ≤ uses k.handles n) → AreKnown k
-all-known k counts counted used = record {
-  watched = λ n h.
-      let one = watched-counts k.instances n h in
-      let all = counts n in
-      held-some k.objects n (counted n) (omega arith);
-  opened = λ c fd h is.
-      let one = on-counts h in
-      let most = used c fd h.object h is in
-      let all = counts h.object in
-      held-some k.objects h.object (counted h.object) (omega arith);
-  ways = λ c fd h w is way.
-      let one = way-counts h w way in
-      let most = used c fd w.directory h is in
-      let all = counts w.directory in
-      held-some k.objects w.directory (counted w.directory) (omega arith);
-}
-
-ne : (m n : ℕ) → nat_eq m n ≡ false → m ≢ n
+-- numbers that are told apart differ
+pub ne : (m n : ℕ) → nat_eq m n ≡ false → m ≢ n
 ne m n f same = false≢true (sym f ∙ eq-eqb m n same)
 
--- the holders are counted still, where those let go whose watches ended
-module _ (shows : Rule) (s : Subject) (o : ℕ) (old : Notified) (fs : List Instance) (t : Objects) (hears : AllHear shows (s ∷ []) old.instances fs) where
-  pub counted-told : ((n : ℕ) → n ≢ o → AreSpared s n old.instances) → AreCounted old →
-      holders_of t o ≡ holders_of old.objects o - (watchers old.instances o - watchers fs o) →
-      ((n : ℕ) → n ≢ o → holders_of t n ≡ holders_of old.objects n) →
-      AreCounted (record old { objects = t; instances = fs })
-  counted-told spared counts here others n = elim (cases_Bool (nat_eq n o)) [
-    | inl q ↦ subst (λ x. holders_of t x ≡ uses old.handles x + watchers fs x + pinned_times old.pinned x) (sym (eqb-true n o q))
-        (let all = counts o in
-        let less = fewer-watch shows s o old.instances fs hears in
-        omega arith)
-    | inr f ↦ others n (ne n o f) ∙ counts n
-        ∙ ap (λ m. uses old.handles n + m + pinned_times old.pinned n) (sym (others-watch shows s o n old.instances fs (spared n (ne n o f)) hears))
+-- what is held beside the handles is counted still, where those let go whose watches ended
+module _ (shows : Rule) (s : Subject) (o ended : ℕ) (before after : ℕ → ℕ) (es fs : List Instance) (hears : AllHear shows (s ∷ []) es fs) where
+  pub counted-told : ((n : ℕ) → n ≢ o → AreSpared s n es) → ((n : ℕ) → before n ≡ watchers es n) →
+      ((n : ℕ) → after n + cond (nat_eq o n) ended 0 ≡ before n) →
+      watchers fs o + ended ≡ watchers es o → (n : ℕ) → after n ≡ watchers fs n
+  counted-told spared counts lets less n = elim (cases_Bool (nat_eq o n)) [
+    | inl q ↦
+        let left : after n + ended ≡ before n = subst (λ b. after n + cond b ended 0 ≡ before n) q (lets n) in
+        let here : watchers fs n + ended ≡ watchers es n =
+        subst (λ x. watchers fs x + ended ≡ watchers es x) (eqb-true o n q) less in
+        let all = counts n in
+        omega arith
+    | inr f ↦
+        let left : after n + 0 ≡ before n = subst (λ b. after n + cond b ended 0 ≡ before n) f (lets n) in
+        let same : watchers fs n ≡ watchers es n =
+        others-watch shows s o n es fs (spared n (λ is. ne o n f (sym is))) hears in
+        let all = counts n in
+        omega arith
   ]

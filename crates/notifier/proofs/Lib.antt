@@ -1,10 +1,6 @@
 pub mod Hearing
 pub mod Counting
 pub mod Told
-pub mod Coming
 pub mod Muting
 pub mod Arming
-pub mod Leading
-pub mod Moved
-pub mod HeldForOpens
-pub mod GivenUp
+pub mod Undone

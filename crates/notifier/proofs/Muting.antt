@@ -1,5 +1,5 @@
 -- What is let go with the watches of a client that goes.
-use Rattle.std.proofs.Common.{◌≡◌, ℕ, zero, suc, ◌+◌, ◌-◌, ◌<◌, Bool, true, false, cond, not, ◌||◌, List, [], ◌∷◌, ◌++◌, Some, None, length, map, take, get_or, filter, refl, sym, ap, subst, ◌∙◌, inl, inr, arith, nat_eq, eqb-true, eq-eqb}
+use Rattle.std.proofs.Common.{◌≡◌, ℕ, zero, suc, ◌+◌, ◌<◌, Bool, true, false, cond, not, ◌||◌, List, [], ◌∷◌, ◌++◌, Some, None, length, map, take, get_or, filter, refl, sym, ap, subst, ◌∙◌, inl, inr, arith, nat_eq, eqb-true, eq-eqb}
 use Rattle.std.specs.List.{AllByRecursion, IsDistinct}
 use Rattle.std.proofs.lemmas.Bool.{false≢true, cases_Bool}
 use Rattle.std.proofs.lemmas.List.Folds.{list_any-append}
@@ -10,12 +10,11 @@ use Rattle.plain_model.specs.Tree.{same_id}
 use Rattle.plain_model.specs.Watching.{Instance, Watch}
 use Rattle.plain_model.specs.Machine.{instance_of, watches_of}
 use Rattle.plain_model.proofs.Paths.{ids_tell}
-use Rattle.object_table.specs.Objects.{Objects, SetsSpot, holders_of, spot_left, spot_of}
 use Rattle.watch_table.specs.Clients.{AreRising, clients_of}
 use Rattle.watch_table.specs.Listening.{is_on}
-use Rattle.watch_table.proofs.Clients.{above-absent, absent-instance_of}
-use Rattle.notice_laws.specs.Opens.{AreFewer}
+use Rattle.watch_table.proofs.Clients.{above-absent, absent-instance_of, nat_ne}
 use Rattle.notifier.specs.Notifying.{watchers}
+use Rattle.notifier.proofs.Counting.{ne}
 use Rattle.notifier.proofs.Hearing.{one-more}
 
 -- a node that differs from those of all watches differs from the one at a place
@@ -81,38 +80,22 @@ watchers-apart n c (e ∷ es) h = by (nat_eq e.client c) refl (watchers-apart n 
         let left = one-more n e rest in
         omega arith
 
--- what nobody holds any more is where it was no more; all else is where it was
-pub fewer-left : (old new : Objects) (o count : ℕ) → SetsSpot old new o (spot_left count (spot_of old o)) count → AreFewer old new
-fewer-left old new o count sets n spot at = elim (cases_Bool (nat_eq n o)) [
-  | inl q ↦ subst (λ x. spot_of old x ≡ Some spot) (sym (eqb-true n o q))
-      (by (nat_eq count 0) (sym sets.here ∙ subst (λ x. spot_of new x ≡ Some spot) (eqb-true n o q) at))
-  | inr f ↦ sym (sets.other_spots n (λ same. false≢true (sym f ∙ eq-eqb n o same))) ∙ at
-]
-  where
-    none : None ≡ Some spot → ⊥
-    none is = cc
-
-    by : (b : Bool) → cond b None (spot_of old o) ≡ Some spot → spot_of old o ≡ Some spot
-    by true is = absurd (none is)
-    by false is = is
-
 -- the object of one watch more is held by one less
-pub one-less : (first old new : Objects) (ws : List Watch) (w : Watch) (o : ℕ) → w.node ≡ New o → is_on o ws ≡ false → 0 < holders_of old o →
-    ((n : ℕ) → holders_of old n + cond (is_on n ws) 1 0 ≡ holders_of first n) →
-    SetsSpot old new o (spot_left (holders_of old o - 1) (spot_of old o)) (holders_of old o - 1) →
-    (n : ℕ) → holders_of new n + cond (is_on n (ws ++ w ∷ [])) 1 0 ≡ holders_of first n
-one-less first old new ws w o node off held before sets n = elim (cases_Bool (nat_eq n o)) [
-  | inl q ↦ subst (λ x. holders_of new x + cond (is_on x (ws ++ w ∷ [])) 1 0 ≡ holders_of first x) (sym (eqb-true n o q))
+pub one-less : (first old new : ℕ → ℕ) (ws : List Watch) (w : Watch) (o : ℕ) → w.node ≡ New o → is_on o ws ≡ false →
+    ((n : ℕ) → old n + cond (is_on n ws) 1 0 ≡ first n) → ((n : ℕ) → new n + cond (nat_eq o n) 1 0 ≡ old n) →
+    (n : ℕ) → new n + cond (is_on n (ws ++ w ∷ [])) 1 0 ≡ first n
+one-less first old new ws w o node off before lets n = elim (cases_Bool (nat_eq n o)) [
+  | inl q ↦ subst (λ x. new x + cond (is_on x (ws ++ w ∷ [])) 1 0 ≡ first x) (sym (eqb-true n o q))
       (let now : cond {A = ℕ} (is_on o (ws ++ w ∷ [])) 1 0 ≡ 1 = ap (λ b. cond {A = ℕ} b 1 0) (more o ∙ ap (λ b. b || (nat_eq o o || false)) off ∙ ap (λ b. b || false) (eq-eqb o o refl)) in
       let was : cond {A = ℕ} (is_on o ws) 1 0 ≡ 0 = ap (λ b. cond {A = ℕ} b 1 0) off in
       let here = before o in
-      let left = sets.held in
+      let left : new o + 1 ≡ old o = subst (λ b. new o + cond b 1 0 ≡ old o) (eq-eqb o o refl) (lets o) in
       omega arith)
   | inr f ↦
       let same : cond {A = ℕ} (is_on n (ws ++ w ∷ [])) 1 0 ≡ cond (is_on n ws) 1 0 =
       ap (λ b. cond {A = ℕ} b 1 0) (more n ∙ ap (λ b. is_on n ws || (b || false)) f ∙ no-more (is_on n ws)) in
       let here = before n in
-      let other = sets.other_holders n (λ same. false≢true (sym f ∙ eq-eqb n o same)) in
+      let left : new n + 0 ≡ old n = subst (λ b. new n + cond b 1 0 ≡ old n) (nat_ne o n (λ is. ne n o f (sym is))) (lets n) in
       omega arith
 ]
   where

@@ -1,14 +1,15 @@
 -- What is told one part after another.
-use Rattle.std.proofs.Common.{◌≡◌, ℕ, suc, List, [], ◌++◌, Option, refl, sym, ap, subst₂, ◌∙◌}
+use Rattle.std.proofs.Common.{◌≡◌, ℕ, suc, ◌+◌, List, [], ◌++◌, Option, refl, sym, ap, subst, subst₂, ◌∙◌}
 use Rattle.std.specs.BTreeMap.{BTreeMap, get}
 use Rattle.std.specs.Option.{option_and_then}
 use Rattle.std.specs.Ordering.{nat_cmp}
 use Rattle.ov_base.specs.Cookies.{cookie_of}
-use Rattle.plain_model.specs.Watching.{ATTRIB, MOVED_FROM, MOVED_TO, MOVE_SELF, Rule, Subject}
+use Rattle.plain_model.specs.Watching.{ISDIR, MOVED_FROM, MOVED_TO, MOVE_SELF, AllHear, Rule, Subject}
 use Rattle.plain_model.proofs.Watching.{AllHear-none}
 use Rattle.open_handles.specs.declared.clients.Clients.{Clients}
 use Rattle.open_handles.specs.declared.descriptors.Descriptors.{Descriptors}
 use Rattle.open_handles.specs.declared.way.Way.{Way}
+use Rattle.open_handles.specs.Attaching.{KeepsClients, KeepsPlaces}
 use Rattle.open_handles.specs.Descriptors.{opened}
 use Rattle.open_handles.specs.Listings.{directory_in}
 use Rattle.notice_laws.specs.Moves.{of_move, of_replaced}
@@ -27,19 +28,28 @@ ends-none clients = record {
   places = λ c d o l there at. at;
 }
 
+-- what clients keep in two steps they keep
+pub keeps-then : (a b c : Clients) → KeepsClients a b → KeepsClients b c → KeepsClients a c
+keeps-then a b c h k = record {
+  attached = k.attached ∙ h.attached;
+  next = k.next ∙ h.next;
+}
+
+-- and so with where their directories stand
+pub places-then : (a b c : Clients) → KeepsPlaces a b → KeepsClients b c → KeepsPlaces b c →
+    KeepsPlaces a c
+places-then a b c h same k e d o l there at =
+    k e d o l there (h e d o l
+    (ap (λ (m : BTreeMap ℕ Descriptors). directory_in
+    (option_and_then (λ (x : Descriptors). opened x.slots.items d) (get nat_cmp m e)))
+    (sym same.attached) ∙ there) at)
+
 -- what ends in two steps ends
 pub ends-then : (a b c : Clients) → LetsEnd a b → LetsEnd b c → LetsEnd a c
 ends-then a b c h k = record {
-  clients = record {
-    attached = k.clients.attached ∙ h.clients.attached;
-    next = k.clients.next ∙ h.clients.next;
-  };
+  clients = keeps-then a b c h.clients k.clients;
   fewer = λ n spot is. h.fewer n spot (k.fewer n spot is);
-  places = λ e d o l there at.
-      k.places e d o l there (h.places e d o l
-      (ap (λ (m : BTreeMap ℕ Descriptors). directory_in
-      (option_and_then (λ (x : Descriptors). opened x.slots.items d) (get nat_cmp m e)))
-      (sym k.clients.attached) ∙ there) at);
+  places = places-then a b c h.places k.clients k.places;
 }
 
 -- nothing is told
@@ -60,12 +70,22 @@ told-append shows ss tz a b c t u v h k = record {
   counted = k.counted;
 }
 
--- a change of attributes is none of a rename's events
-pub marked-other : (o : Object) → IsOther (marks o ATTRIB)
-marked-other object.Directory = (refl, refl)
-marked-other object.Lower = (refl, refl)
-marked-other (object.Upper key last) = (refl, refl)
-marked-other object.Other = (refl, refl)
+-- what is told since the same was watched
+pub told-since : (shows : Rule) (ss : List Subject) (a b : Clients) (t u v : Watches) →
+    u.instances ≡ t.instances → IsTold shows a b u v ss → IsTold shows a b t v ss
+told-since shows ss a b t u v same h = record {
+  hears = subst (λ es. AllHear shows ss es v.instances) same h.hears;
+  ends = h.ends;
+  counted = h.counted;
+}
+
+-- bits that are none of a rename's events are none with ISDIR either, where that is so of both
+pub marked-other : (o : Object) (bits : ℕ) → IsOther bits → IsOther (bits + ISDIR) →
+    IsOther (marks o bits)
+marked-other object.Directory bits plain marked = marked
+marked-other object.Lower bits plain marked = plain
+marked-other (object.Upper key last) bits plain marked = plain
+marked-other object.Other bits plain marked = plain
 
 -- what a rename tells, one part after another
 pub moved-told : (shows : Rule) (from to : Option Way) (o e : Object)

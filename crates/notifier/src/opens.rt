@@ -19,11 +19,20 @@ impl<F: Callback, R: Rule> Notifier<F, R> {
         ensures told { IsTold R.shows clients.old clients.new self.old self.new (cond is_emptied (of_both hold.now.way (Some hold.now.object) events.MODIFY) [] ++ of_both hold.now.way (Some hold.now.object) (marks object events.OPEN)) }
         ensures renames { self.new.renames ≡ self.old.renames }
     {
+        self.tell_emptied(clients, hold, is_emptied);
+        let bits = marks(object, OPEN);
+        self.tell_both(clients, &hold.way, Some(hold.object), bits);
+    }
+
+    // Tells that an open emptied its file, where it did.
+    fn tell_emptied(&mut self, clients: &mut Clients, hold: &Hold, is_emptied: bool)
+        requires counted { AreCounted clients.old self.old }
+        ensures told { IsTold R.shows clients.old clients.new self.old self.new (cond is_emptied (of_both hold.now.way (Some hold.now.object) events.MODIFY) []) }
+        ensures renames { self.new.renames ≡ self.old.renames }
+    {
         if is_emptied {
             self.tell_both(clients, &hold.way, Some(hold.object), MODIFY);
         }
-        let bits = marks(object, OPEN);
-        self.tell_both(clients, &hold.way, Some(hold.object), bits);
     }
 
     /// Notifies that a file was made and opened by a handle that holds this. It takes no memory.

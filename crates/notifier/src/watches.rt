@@ -90,6 +90,7 @@ impl<F: Callback, R: Rule> Notifier<F, R> {
         ensures err { OnErr result (HoldsNoMore clients.old clients.new) }
         ensures same { OnErr result (self.new ≡ self.old) }
     {
+        clients.lawful();
         self.watches.lawful();
         let number = hold_object(clients, path, object)?;
         let watched = number as u64;
@@ -97,6 +98,7 @@ impl<F: Callback, R: Rule> Notifier<F, R> {
         let outcome = self.watches.arm(alloc, client, slot, watched, mask);
         let more = self.watches.watchers(watched) - before;
         clients.release(number, 1 - more);
+        clients.lawful();
         outcome
     }
 

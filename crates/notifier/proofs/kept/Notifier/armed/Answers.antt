@@ -1,26 +1,36 @@
-use Rattle.std.proofs.Common.{◌+◌, None, arith, refl, ◌∙◌}
-use Rattle.open_handles.specs.TrackedHandles.{uses}
-use Rattle.notice_laws.specs.Notified.{Notified}
-use Rattle.notifier.specs.Notifying.{pinned_times, watchers}
-use Rattle.notifier.proofs.Arming.{last-first, more-armed, outcome-of, counted-armed, held-judged, lets-fewer, arms-at}
+use Rattle.std.proofs.Common.{◌≡◌, ◌+◌, List, None, cond, eq-eqb, refl, sym, ap, subst, arith, ◌∙◌}
+use Rattle.std.specs.Prelude.{IfOk}
+use Rattle.plain_model.specs.Watching.{Instance}
+use Rattle.open_handles.specs.Attaching.{beside}
+use Rattle.watch_table.proofs.Outcomes.{OnErr-map}
+use Rattle.notifier.specs.Arming.{ArmsAt, IsArmJudged}
+use Rattle.notifier.specs.Notifying.{AreCounted, watchers}
+use Rattle.notifier.specs.Watches.{Watches}
+use Rattle.notifier.proofs.Arming.{arms-at, counted-armed, judged-by, let_go-one, more-armed, outcome-of, spot-there}
+use Rattle.notifier.proofs.Counting.{watched-held}
+use Rattle.notifier.proofs.Told.{keeps-then, places-then}
+use Rattle.notifier.proofs.Undone.{arm-undone, same-holders}
 use Rattle.notifier.proofs.kept.Notifier.armed.Goals as goal
 
 pub arm-outcome-requires-clause-allowed : goal.arm-outcome-requires-clause-allowed
 arm-outcome-requires-clause-allowed g c =
     let inside = c.self.inside in
+    let k : Watches = record { instances = inside.watches; renames = inside.renames } in
+    let clients = c.args.clients.now in
+    let p = c.args.path.now in
     let said = c.lawful.ensures in
-    let old : Notified = record { objects = inside.objects; handles = inside.handles; instances = inside.watches; renames = inside.renames; pinned = inside.pinned } in
-    held-judged c.args.self.now old c.self.view_is said.known said.one_there
-    c.hold_object.new.objects c.args.client c.args.slot
-    c.in_ok-number.number c.args.path.now c.args.object None c.in_ok-number.ensures.holds
-    c.requires.judged
+    let held = c.in_ok-number.ensures.holds in
+    let counts = subst (λ (k : Watches). AreCounted clients k) (sym c.self.view_is) c.requires.counted in
+    let judged = subst (λ (k : Watches). IsArmJudged clients k c.args.client c.args.slot p c.args.object None) (sym c.self.view_is) c.requires.judged in
+    judged-by clients k (watched-held clients k counts said.counted) said.one_there c.args.client c.args.slot c.in_ok-number.number
+    p c.args.object held.0 None held.1 held.2.holds.was judged
 
 pub overflow_sub-more : goal.overflow_sub-more
 overflow_sub-more g c =
     let es = c.self.inside.watches in
     let o = c.in_ok-number.number in
     let done = outcome-of c.arm-outcome.result c.arm-outcome.ensures.arms c.arm-outcome.ensures.err in
-    let more = more-armed c.args.client c.args.slot o c.args.mask es c.arm-outcome.new.self c.lawful-3.ensures done in
+    let more = more-armed c.args.client c.args.slot o c.args.mask es c.arm-outcome.new.self c.lawful-2.ensures done in
     omega (arith, more.least, c.watchers.ensures, c.watchers-before.ensures)
 
 pub overflow_sub-more-2 : goal.overflow_sub-more-2
@@ -28,33 +38,89 @@ overflow_sub-more-2 g c =
     let es = c.self.inside.watches in
     let o = c.in_ok-number.number in
     let done = outcome-of c.arm-outcome.result c.arm-outcome.ensures.arms c.arm-outcome.ensures.err in
-    let more = more-armed c.args.client c.args.slot o c.args.mask es c.arm-outcome.new.self c.lawful-3.ensures done in
+    let more = more-armed c.args.client c.args.slot o c.args.mask es c.arm-outcome.new.self c.lawful-2.ensures done in
     omega (arith, more.most, c.watchers.ensures, c.watchers-before.ensures)
 
-pub invariant_of-self-2 : goal.invariant_of-self-2
-invariant_of-self-2 g c =
-    let inside = c.self.inside in
-    let es = inside.watches in
-    let fs = c.arm-outcome.new.self in
+-- what was held for the watch is let go by whom it isn't held
+pub release-requires : goal.release-requires
+release-requires g c =
     let o = c.in_ok-number.number in
-    let done = outcome-of c.arm-outcome.result c.arm-outcome.ensures.arms c.arm-outcome.ensures.err in
-    let more = more-armed c.args.client c.args.slot o c.args.mask es fs c.lawful-3.ensures done in
-    let at = c.in_ok-number.ensures.holds in
-    let pins = pinned_times inside.pinned in
-    let counts = counted-armed inside.objects c.hold_object.new.objects c.release.new.self at.spot o _ at.holds c.release.ensures.releases
-    (λ n. uses inside.handles n + pins n) es fs
-    (λ n. c.self.invariant n ∙ last-first (uses inside.handles n) (watchers es n) (pins n))
-    more
-    (omega (arith, c.watchers.ensures, c.watchers-before.ensures)) in
-    λ n. counts n ∙ last-first (uses inside.handles n) (pins n) (watchers fs n)
+    let before = c.args.clients.now in
+    let held = c.hold_object.new.clients in
+    let one : beside held o ≡ beside before o + 1
+    = subst (λ b. beside held o ≡ beside before o + cond b 1 0) (eq-eqb o o refl) (c.in_ok-number.ensures.holds.2.beside o) in
+    omega arith
 
 pub returns-clause-armed : goal.returns-clause-armed
 returns-clause-armed g c =
     let inside = c.self.inside in
-    let old : Notified = record { objects = inside.objects; handles = inside.handles; instances = inside.watches; renames = inside.renames; pinned = inside.pinned } in
-    let new : Notified = record { objects = c.release.new.self; handles = inside.handles; instances = c.arm-outcome.new.self; renames = inside.renames; pinned = inside.pinned } in
+    let before = c.args.clients.now in
+    let after = c.release.new.self in
+    let p = c.args.path.now in
+    let old : Watches = record { instances = inside.watches; renames = inside.renames } in
+    let new : Watches = record { instances = c.arm-outcome.new.self; renames = inside.renames } in
     let at = c.in_ok-number.ensures.holds in
-    let fewer = lets-fewer inside.objects c.hold_object.new.objects c.release.new.self at.spot c.in_ok-number.number _ at.holds c.release.ensures.releases in
-    rw (← c.self.view_is)
-    (arms-at old new c.hold_object.new.objects c.args.client c.args.slot c.args.mask c.in_ok-number.number c.args.path.now c.args.object at fewer refl refl
-    c.arm-outcome.result c.arm-outcome.ensures.armed c.arm-outcome.ensures.arms)
+    let r = c.arm-outcome.result in
+    subst (λ (k : Watches). IfOk r (ArmsAt before after k new c.args.client c.args.slot c.args.mask p c.args.object)) c.self.view_is
+    (arms-at before after old new c.hold_object.new.clients.objects c.args.client c.args.slot c.args.mask c.in_ok-number.number p
+    c.args.object (record { spot = at.0; stands = at.1; holds = at.2.holds }) c.release.ensures.lets.fewer refl r
+    c.arm-outcome.ensures.armed c.arm-outcome.ensures.arms)
+
+pub returns-clause-clients : goal.returns-clause-clients
+returns-clause-clients g c =
+    keeps-then c.args.clients.now c.hold_object.new.clients c.release.new.self c.in_ok-number.ensures.holds.2.clients
+    c.release.ensures.lets.clients
+
+pub returns-clause-places : goal.returns-clause-places
+returns-clause-places g c =
+    places-then c.args.clients.now c.hold_object.new.clients c.release.new.self c.in_ok-number.ensures.holds.2.places
+    c.release.ensures.lets.clients c.release.ensures.lets.places
+
+pub returns-clause-counted : goal.returns-clause-counted
+returns-clause-counted g c =
+    let es = c.self.inside.watches in
+    let fs = c.arm-outcome.new.self in
+    let o = c.in_ok-number.number in
+    let before = c.args.clients.now in
+    let done = outcome-of c.arm-outcome.result c.arm-outcome.ensures.arms c.arm-outcome.ensures.err in
+    let more = more-armed c.args.client c.args.slot o c.args.mask es fs c.lawful-2.ensures done in
+    let counts = subst (λ (k : Watches). AreCounted before k) (sym c.self.view_is) c.requires.counted in
+    counted-armed (beside before) (beside c.hold_object.new.clients) (beside c.release.new.self) o _ es fs counts more
+    c.in_ok-number.ensures.holds.2.beside c.release.ensures.beside (omega (arith, c.watchers.ensures, c.watchers-before.ensures))
+
+pub returns-clause-same : goal.returns-clause-same
+returns-clause-same g c =
+    let inside = c.self.inside in
+    OnErr-map c.arm-outcome.result
+    (λ err. ap (λ (es : List Instance). record { instances = es; renames = inside.renames }) err ∙ c.self.view_is) c.arm-outcome.ensures.err
+
+-- what was held for the watch is let go again
+pub returns-clause-err : goal.returns-clause-err
+returns-clause-err g c =
+    let before = c.args.clients.now in
+    let held = c.hold_object.new.clients in
+    let after = c.release.new.self in
+    let o = c.in_ok-number.number in
+    let at = c.in_ok-number.ensures.holds in
+    let first = c.lawful.ensures in
+    let last = c.lawful-3.ensures in
+    let es = c.self.inside.watches in
+    let keeps = keeps-then before held after at.2.clients c.release.ensures.lets.clients in
+    OnErr-map c.arm-outcome.result
+    (λ left.
+    let none : watchers c.arm-outcome.new.self o ≡ watchers es o = ap (λ (es : List Instance). watchers es o) left in
+    let back = let_go-one (beside before) (beside held) (beside after) o _ at.2.beside
+    c.release.ensures.beside (omega (arith, none, c.watchers.ensures, c.watchers-before.ensures)) in
+    arm-undone before held after at.0 o (spot-there c.args.path.now c.args.object at.0 at.1) at.2 c.release.ensures.lets
+    ? first.counted last.counted (same-holders before after keeps first.known last.known back) back)
+    c.arm-outcome.ensures.err
+
+-- out of memory, or where as many hold it as can be counted
+pub returns-in_err-number-clause-clients : goal.returns-in_err-number-clause-clients
+returns-in_err-number-clause-clients g c = c.in_err-number.ensures.err.clients
+
+pub returns-in_err-number-clause-places : goal.returns-in_err-number-clause-places
+returns-in_err-number-clause-places g c = c.in_err-number.ensures.err.places
+
+pub returns-in_err-number-clause-counted : goal.returns-in_err-number-clause-counted
+returns-in_err-number-clause-counted g c n = c.in_err-number.ensures.err.beside n ∙ c.requires.counted n

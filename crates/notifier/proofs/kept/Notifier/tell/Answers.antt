@@ -1,24 +1,36 @@
-use Rattle.std.proofs.Common.{◌≡◌, ℕ, ◌-◌, refl, subst, arith}
+use Rattle.std.proofs.Common.{◌≡◌, ◌≤◌, ℕ, [], ◌∷◌, refl, sym, subst, arith}
 use Rattle.std.specs.Prelude.{option_copied}
 use Rattle.ov_base.specs.declared.node_id.NodeId.TheVariants.{New}
-use Rattle.plain_model.specs.Watching.{On, Subject}
-use Rattle.object_table.specs.Objects.{SetsSpot, holders_of, spot_left, spot_of}
-use Rattle.notifier.specs.Notifying.{watchers}
+use Rattle.plain_model.specs.Watching.{AllHear, On, Subject}
+use Rattle.open_handles.specs.Attaching.{beside}
+use Rattle.notifier.specs.Notifying.{AreCounted, watchers}
+use Rattle.notifier.specs.Watches.{Watches}
 use Rattle.notifier.proofs.Hearing.{others-spared}
 use Rattle.notifier.proofs.Counting.{counted-told}
 use Rattle.notifier.proofs.kept.Notifier.tell.Goals as goal
 
-pub invariant_of-self : goal.invariant_of-self
-invariant_of-self g c =
-    let s : Subject = record { aim = On (New c.args.object); bits = c.args.bits; cookie = c.args.cookie; name = option_copied c.args.name } in
-    let inside = c.self.inside in
+pub release-requires : goal.release-requires
+release-requires g c =
     let o = c.args.object in
-    let after = c.tell_watchers-ended.new.self in
-    let ended : c.tell_watchers-ended.result ≡ watchers inside.watches o - watchers after o = omega (arith, c.tell_watchers-ended.ensures.ended) in
-    let held = holders_of inside.objects o in
-    let sets = subst (λ (m : ℕ). SetsSpot inside.objects c.release.new.self o (spot_left (held - m) (spot_of inside.objects o)) (held - m))
-    ended c.release.ensures.releases in
-    counted-told g.R.Rule.shows s o
-    (record { objects = inside.objects; handles = inside.handles; instances = inside.watches; renames = inside.renames; pinned = inside.pinned })
-    after c.release.new.self c.tell_watchers-ended.ensures.hear (λ n ne. others-spared g.R.Rule.shows s o refl n ne inside.watches) c.self.invariant
-    sets.held sets.other_holders
+    let counts = subst (λ (k : Watches). AreCounted c.args.clients.now k) (sym c.self.view_is) c.requires.counted in
+    let all : beside c.args.clients.now o ≡ watchers c.self.inside.watches o = counts o in
+    omega (arith, c.tell_watchers-ended.ensures.ended)
+
+pub returns-clause-told : goal.returns-clause-told
+returns-clause-told g c =
+    let shows = g.R.Rule.shows in
+    let s : Subject = record { aim = On (New c.args.object); bits = c.args.bits; cookie = c.args.cookie; name = option_copied c.args.name } in
+    let o = c.args.object in
+    let before = c.args.clients.now in
+    let after = c.release.new.self in
+    let es = c.self.inside.watches in
+    let fs = c.tell_watchers-ended.new.self in
+    let heard = c.tell_watchers-ended.ensures.hear in
+    let lets = c.release.ensures.lets in
+    let counts = subst (λ (k : Watches). AreCounted before k) (sym c.self.view_is) c.requires.counted in
+    record {
+      hears = subst (λ (k : Watches). AllHear shows (s ∷ []) k.instances fs) c.self.view_is heard;
+      ends = record { clients = lets.clients; fewer = lets.fewer; places = lets.places };
+      counted = counted-told shows s o c.tell_watchers-ended.result (beside before) (beside after) es fs heard
+          (λ n ne. others-spared shows s o refl n ne es) counts c.release.ensures.beside c.tell_watchers-ended.ensures.ended;
+    }

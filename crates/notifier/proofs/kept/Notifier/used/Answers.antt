@@ -1,15 +1,21 @@
-use Rattle.std.proofs.Common.{Some}
+use Rattle.std.proofs.Common.{◌≡◌, Some, None, option_copied, sym, ap, subst, ◌∙◌}
+use Rattle.open_handles.specs.declared.handle.Handle.{Handle}
+use Rattle.open_handles.specs.Handles.{tracked_of}
+use Rattle.open_handles.specs.TrackedHandles.{TrackedHandle}
 use Rattle.notice_laws.specs.Telling.{of_both}
-use Rattle.notifier.proofs.Told.{tells-told}
+use Rattle.notifier.specs.Notifying.{IsTold}
 use Rattle.notifier.proofs.kept.Notifier.used.Goals as goal
 
-pub returns : goal.returns
-returns g c =
-    let handle = c.handle-handle.result in
-    record {
-      handle = handle;
-      is_open = c.handle-handle.ensures;
-      tells = tells-told g.R.Rule.shows (of_both handle.way (Some handle.object) c.args.bits) c.args.self.now c.tell_both.new.self c.tell_both.ensures;
-      handles = c.tell_both.ensures.handles;
-      renames = c.tell_both.ensures.renames;
-    }
+pub returns-in-Some-clause-told : goal.returns-in-Some-clause-told
+returns-in-Some-clause-told g c h is =
+    let handle : Handle = c.in-Some.handle.now in
+    let found : Some handle ≡ Some h = sym (ap option_copied c.in-Some.is) ∙ c.opened.ensures ∙ is in
+    let same : handle ≡ h = cc in
+    subst
+    (λ (x : TrackedHandle). IsTold g.R.Rule.shows c.args.clients.now c.tell_both.new.clients c.args.self.now c.tell_both.new.self
+    (of_both x.way (Some x.object) c.args.bits))
+    (c.hold-hold.ensures ∙ ap tracked_of same) c.tell_both.ensures.told
+
+pub returns-in_default-clause-told : goal.returns-in_default-clause-told
+returns-in_default-clause-told g c h is =
+    absurd (let none : None ≡ Some h = sym (ap option_copied c.in_default.is) ∙ c.opened.ensures ∙ is in cc)
