@@ -1,9 +1,10 @@
 -- The mount answers each call as the machine does.
 use Rattle.std.proofs.Common.{arith, ◌≡◌, ℕ, ◌+◌, true, min, List, Option, None, Some, Result, Ok, Err, refl, sym, ap, ◌∙◌, subst, is_some, length, take, drop}
-use Rattle.mount_calls.proofs.Words.{after, AllocError, Apart, At, Call, directory_in, Errno, GivesNames, Handle, handle_of, is_directory, Layer, Location, Name, OnErr, OpenDirectory, option_and_then, or_else, parents_fault, Path, refusal, Reply, reply_of, Shown, shows, Stat, State}
+use Rattle.mount_calls.proofs.Words.{after, AllocError, Apart, At, Call, Directory, directory_in, Errno, File, GivesNames, Handle, handle_of, is_directory, Layer, Location, Name, OnErr, OpenDirectory, option_and_then, or_else, parents_fault, Path, refusal, Reply, reply_of, SetsSlot, Shown, shows, Stat, State, with_listing}
 use Rattle.std.specs.Option.{unwrap_or}
 use Rattle.std.proofs.lemmas.List.{drop_min, drop-drop}
 use Rattle.ov_base.specs.declared.call.CallOf.TheVariants as call
+use Rattle.ov_base.specs.declared.errno.Errno.TheVariants as errno
 use Rattle.ov_base.specs.declared.reply.Reply.TheVariants as reply
 use Rattle.plain_model.specs.Machine.{Look, look, is_found}
 use Rattle.plain_model.specs.Refusals.{there}
@@ -16,14 +17,16 @@ use Rattle.mount_laws.proofs.Removed.{law_of_list_removed}
 use Rattle.object_table.specs.declared.dentry.Unlisted.TheVariants as unlisted
 use Rattle.object_table.specs.Opened.{path_in}
 use Rattle.open_handles.specs.declared.handle.Handle as handles
+use Rattle.open_handles.specs.declared.handle.On.{On}
+use Rattle.open_handles.specs.Listings.{directory_on}
 use Rattle.open_handles.specs.declared.clients.Clients.{Clients}
 use Rattle.mount_calls.specs.declared.mount.Mount.{Mount}
 use Rattle.open_handles.specs.Attaching.{opened_by, path_of, ChangesClient}
-use Rattle.mount_calls.specs.Opening.{list_fault}
+use Rattle.mount_calls.specs.Opening.{list_fault, list_fault_on}
 use Rattle.mount_calls.specs.Status.{stat_at, stat_shown, unless_refused}
 use Rattle.mount_calls.specs.States.{IsLeft, Stands, IsHandle, IsStateOf, StaysState, Serves, AreNamesIn, AreLeft, Pages}
 use Rattle.mount_calls.proofs.Directories.{Turns, shown-directory, turns}
-use Rattle.mount_calls.proofs.Slots.{changes-as, opened-after, directory-at, state-set}
+use Rattle.mount_calls.proofs.Slots.{as-directory, by-opened, changes-as, directory-at, directory-no-file, directory-open, listed-directory, opened-after, slot-becomes, state-set}
 use Rattle.mount_calls.proofs.Stating.{the_layers, the_lowers, the_upper, keep-state}
 
 -- a refusal answers as the machine does, where it refuses so
@@ -64,7 +67,12 @@ min-comm a b = omega arith
 
 -- a list that is not refused is of an open directory
 pub unrefused-list : (o : Option handles.Handle) (n : ℕ) → list_fault o n ≡ None → is_some (directory_in o) ≡ true
-unrefused-list o n h = grind arith
+unrefused-list None n fine = let no : Some errno.EBADF ≡ None = fine in absurd (cc)
+unrefused-list (Some x) n fine = by x.on fine
+  where
+    by : (on : On) → list_fault_on on n ≡ None → is_some (directory_on x.object on) ≡ true
+    by (Directory listing) e = refl
+    by (File f) e = let no : Some errno.ENOTDIR ≡ None = e in absurd (cc)
 
 module _ (m : Mount) (s : State) (st : IsStateOf m s) (c : ℕ) where
   -- what is shown at a path is there
@@ -103,7 +111,9 @@ module _ (m : Mount) (s : State) (st : IsStateOf m s) (c : ℕ) where
 
   -- why a list is refused, told by what is open
   refused-list : (d n : ℕ) → refusal s c (call.ListNames d n) ≡ list_fault (opened_by m.clients c d) n
-  refused-list d n = grind arith
+  refused-list d n =
+      by-opened m s st c d (λ o. refusal s c (call.ListNames d n) ≡ list_fault o n) (λ none. grind arith)
+      (λ k way f h on is. grind arith) (λ k way listing h on is. grind arith)
 
   -- where that isn't there it isn't refused
   pub list-allowed : (d n : ℕ) → list_fault (opened_by m.clients c d) n ≡ None →
@@ -121,18 +131,33 @@ module _ (m : Mount) (s : State) (st : IsStateOf m s) (c : ℕ) where
       (list-allowed d n good)
       (ap reply.Names (pages.next ∙ ap (take n) left) ∙ sym (law.answer n))
       (subst (IsStateOf new) (sym (law.state n))
-      (state-set m s st c d h x.1 new pages.layers pages.redirects pages.metacopy pages.limit _ (listed_on s.tree n (Some h)) pages.changes (λ f g k is on. cc is)
+      (state-set m s st c d h x.1 new pages.layers pages.redirects pages.metacopy pages.limit (Some then) (listed_on s.tree n (Some h)) set
+      (λ f g k is on. let no : None ≡ Some f = sym (directory-no-file (Some then) _ leads) ∙ is in absurd (cc))
+      (as-directory (the_upper m) (the_lowers m) s.tree new.clients.objects.tree then (record o { listing = Some (drop n pages.left) }) _ leads
       (record {
         location = x.2.location;
-        located = pages.changes.places c d _ x.2.location (opened-after m.clients new.clients c d _ pages.changes) x.2.located;
+        located = pages.changes.places c d _ x.2.location (ap directory_in (opened-after m.clients new.clients c d then set) ∙ leads) x.2.located;
         stands = x.2.stands;
         directory = x.2.directory;
         access = ap (λ (z : Handle). record z { listed = Some now; place = min (length now) (h.place + n) }) x.2.access;
         left = ap (drop n) left ∙ drop-drop n h.place now ∙ sym (ap (λ z. drop z now) (min-comm (length now) (h.place + n)) ∙ drop_min (h.place + n) now);
-      })))
+      }))))
     where
       o : OpenDirectory
       o = pages.directory
+
+      led : (z : handles.Handle) × (opened_by m.clients c d ≡ Some z) × (directory_in (Some z) ≡ Some o)
+      led = directory-open (opened_by m.clients c d) o pages.was
+
+      -- what the descriptor leads to then
+      then : handles.Handle
+      then = with_listing (Some (drop n pages.left)) led.0
+
+      set : ChangesClient m.clients new.clients c (λ z y. SetsSlot z y d (Some then))
+      set = slot-becomes m.clients new.clients c d led.0 (with_listing (Some (drop n pages.left))) led.1 pages.changes
+
+      leads : directory_in (Some then) ≡ Some (record o { listing = Some (drop n pages.left) })
+      leads = listed-directory led.0 o (Some (drop n pages.left)) led.2
 
       x : (h : Handle) × (handle_of s.tables c d ≡ Some h) × IsHandle s.tree m.clients.objects.tree o h
       x = directory-at m s st c d o pages.was

@@ -1,7 +1,7 @@
 -- The calls that change the layers: what becomes of open directories, and the machine's steps.
-use Rattle.std.proofs.Common.{arith, ◌≡◌, ◌≢◌, ℕ, ◌<◌, Bool, true, false, cond, List, [], ◌∷◌, ◌++◌, Option, None, Some, Result, Ok, IsSome, refl, sym, ap, ◌∙◌, subst}
+use Rattle.std.proofs.Common.{arith, ◌≡◌, ◌≢◌, ℕ, ◌<◌, Bool, true, false, cond, List, [], ◌∷◌, ◌++◌, Option, None, Some, Result, Ok, IsSome, refl, sym, ap, ◌∙◌, subst, inl, inr}
 use Rattle.merged_lookup.specs.Merged.{upper_of}
-use Rattle.mount_calls.proofs.Words.{after, AllocError, Apart, At, Attributes, base, Call, change, Dentries, Descriptors, Directory, Errno, false≢true, folder_attributes, Handle, handle_of, is_directory, is_folder, IsMountOf, Layer, Layers, Location, lowers_of, made_way, MountOptions, Name, nat_cmp, New, Node, node_at, NodeId, OnErr, OpenDirectory, option_and_then, option_map, or_else, over_node, Path, put, refusal, Removes, reply_of, shows, State, StaysMount, Table, Tree, way_of, when}
+use Rattle.mount_calls.proofs.Words.{after, AllocError, Apart, At, Attributes, base, Call, cases_eq, change, Dentries, Descriptors, Directory, Errno, false≢true, folder_attributes, Handle, handle_of, is_directory, is_folder, IsMountOf, Layer, Layers, Location, lowers_of, made_way, MountOptions, Name, nat_cmp, New, Node, node_at, NodeId, OnErr, OpenDirectory, option_and_then, option_map, or_else, over_node, Path, put, refusal, Removes, reply_of, shows, State, StaysMount, Table, Tree, way_of, when}
 use Rattle.std.specs.BTreeMap.{get}
 use Rattle.ov_base.specs.declared.call.CallOf.TheVariants as call
 use Rattle.ov_base.specs.declared.errno.Errno.TheVariants.{EBUSY, EISDIR}
@@ -22,23 +22,26 @@ use Rattle.open_handles.specs.declared.clients.Clients.{Clients}
 use Rattle.open_handles.specs.Descriptors.{opened}
 use Rattle.object_table.specs.declared.dentry.Unlisted.TheVariants as unlisted
 use Rattle.object_table.specs.Opened as places
-use Rattle.object_table.specs.Opened.{NoneBelow, after_removal}
+use Rattle.object_table.specs.Opened.{after_removal}
+use Rattle.object_table.specs.Objects as spots
+use Rattle.object_table.specs.Objects.{Objects, spot_of, IsVacant}
+use Rattle.object_table.specs.declared.dentry.Unlisted.{Unlisted}
+use Rattle.object_table.proofs.Spots.{opened-path, path-spot}
+use Rattle.open_handles.specs.Attaching.{KeepsClients}
 use Rattle.open_handles.specs.declared.handle.Handle as handles
 use Rattle.mount_calls.specs.declared.mount.Mount.{Mount}
 use Rattle.mount_calls.specs.declared.attribute_changes.AttributeCall.{AttributeCall}
 use Rattle.mount_calls.specs.Altering.{AltersUnless}
 use Rattle.mount_calls.specs.AttributeCalls.{asked_fault, call_at}
-use Rattle.mount_calls.specs.Held.{handles_below}
-use Rattle.mount_calls.specs.Removing.{IsOpenNowhere, HasAttributes, RemovesOpen}
+use Rattle.mount_calls.specs.Removing.{HasAttributes}
 use Rattle.mount_calls.specs.Files.{AreOne}
 use Rattle.mount_calls.specs.Living.{StaysLive, KeepsLive, KeepsHeld}
 use Rattle.mount_calls.specs.States.{Stands, IsHandle, AreTables, IsStateOf, StaysState, Serves}
 use Rattle.mount_calls.proofs.Answering.{on-err, serve-refused, serve-done}
 use Rattle.mount_calls.proofs.AttributeCalls.{leaves-asked, refusal-asked, still-asked}
-use Rattle.mount_calls.proofs.Counting.{below-find}
-use Rattle.mount_calls.proofs.Serving.{slot-open, handle-now, open-before, one-fewer}
+use Rattle.mount_calls.proofs.Serving.{handle-now, open-before, one-fewer}
 use Rattle.mount_calls.proofs.Stating.{the_layers, the_lowers, the_upper, Alike}
-use Rattle.mount_calls.proofs.Carrying.{KeepsLeaves, KeepsHeldLeaves, AreCounted, CarriesFiles, tables-on, state-stays, files-kept, files-held}
+use Rattle.mount_calls.proofs.Carrying.{KeepsLeaves, KeepsHeldLeaves, CarriesFiles, tables-on, state-stays, files-kept, files-held}
 use Rattle.mount_calls.proofs.Directories.{seen, shown-attributes, shown-directory}
 
 -- a directory with another name in it is one still
@@ -117,43 +120,38 @@ module _ (s : State) (c : ℕ) (p : Path) (k : Call) (V : Layer) (lowers : List 
       (still-folder (s.tree h.node) (t h.node) (x.held b fd h on) is.directory)
 
 -- clients that have the same descriptors have the same tables
-tables-attached : (P : handles.Handle → Handle → Type 0) (clients new : Clients) (ks : List Table) → new.attached ≡ clients.attached → AreTables P clients ks → AreTables P new ks
+pub tables-attached : (P : handles.Handle → Handle → Type 0) (clients new : Clients) (ks : List Table) → new.attached ≡ clients.attached → AreTables P clients ks → AreTables P new ks
 tables-attached P clients new ks same tables = grind arith
 
 -- and have the same files open
-one-attached : (clients new : Clients) (ks : List Table) → new.attached ≡ clients.attached → AreOne clients ks → AreOne new ks
+pub one-attached : (clients new : Clients) (ks : List Table) → new.attached ≡ clients.attached → AreOne clients ks → AreOne new ks
 one-attached clients new ks same =
     one-fewer clients new ks ks
     (λ k d x. open-before clients new ks ks k d x (ap (λ z. option_and_then (λ (e : Descriptors). opened e.slots.items x.descriptor) (get nat_cmp z x.client)) same) refl)
 
--- a directory below one is below a directory that has a name in it
-record Beneath (t : Tree) (p : Path) : Type 0 where
-  pub name : Name
-  pub node : NodeId
-  pub at : node_at t (name ∷ p) ≡ Some node
-  pub directory : is_folder (t node) ≡ true
+-- what has a name in a directory is in one
+pub folder-above : (t : Tree) (p : Path) (n : Name) (d : NodeId) → node_at t (n ∷ p) ≡ Some d → (e : NodeId) × (node_at t p ≡ Some e) × (is_folder (t e) ≡ true)
+folder-above t p n d at = grind arith
 
-beneath : (t : Tree) (p : Path) (r : Path) (n : Name) (d : NodeId) → node_at t (n ∷ (r ++ p)) ≡ Some d → is_folder (t d) ≡ true → Beneath t p
-beneath t p [] n d at f = record { name = n; node = d; at = at; directory = f }
-beneath t p (x ∷ r) n d at f = grind (arith, beneath t p r x)
+-- another object than the one at a path stands after a removal there where it stood
+removal-apart : (p : Path) (a : Unlisted) (o : Option Location) → o ≢ Some (At p) → option_map (after_removal p a) o ≡ o
+removal-apart p a None away = refl
+removal-apart p a (Some (Apart b)) away = refl
+removal-apart p a (Some (At q)) away = by (same_path p q) refl
+  where
+    by : (b : Bool) → same_path p q ≡ b → Some (cond b (Apart a) (At q)) ≡ Some (At q)
+    by true here = absurd (away (ap (λ z. Some (At z)) (sym ((paths_tell p q).0 here))))
+    by false off = refl
 
--- a handle on the directory that is open at a path is on the node there
-stands-at : (t : Tree) (ds : Dentries) (o : OpenDirectory) (h : Handle) (k : ℕ) (q : Path) → IsHandle t ds o h → o.directory ≡ k → places.opened ds k ≡ Some (At q) → node_at t q ≡ Some h.node
-stands-at t ds o h k q is on at = grind arith
-
--- each directory that is open has a handle
-abbrev pub AreHeld : Clients → Type 0
-AreHeld clients = (k : ℕ) → IsSome (places.opened clients.objects.tree k) → 0 < handles_below (get nat_cmp clients.attached) clients.next k
-
--- a directory that is open at a path is there in the tree
-pub open-there :
-    (m : Mount) (s : State) → IsStateOf m s → AreHeld m.clients → (k : ℕ) (p : Path) → places.opened m.clients.objects.tree k ≡ Some (At p) →
-    (d : NodeId) × (node_at s.tree p ≡ Some d) × (is_folder (s.tree d) ≡ true)
-open-there m s st counted k p is =
-    let found = below-find (get nat_cmp m.clients.attached) m.clients.next k (counted k (subst IsSome (sym is) refl)) in
-    let there = st.tables.slots found.client found.descriptor in
-    let slot = slot-open (Alike m.layers s m.clients) _ _ (Directory found.handle) there found.there in
-    (slot.0.node, stands-at s.tree m.clients.objects.tree found.handle slot.0 k p slot.2 found.on is, slot.2.directory)
+-- the only object at a path, whose directory was removed, is a removed one
+pub removes-one : (t : Objects) (es : Dentries) (n : ℕ) (p : Path) (a : Unlisted) → spot_of t n ≡ Some (spots.At p) → ((k : ℕ) → spot_of t k ≡ Some (spots.At p) → k ≡ n) → places.SetsApart t.tree es n a → places.Removes t.tree es p a
+removes-one t es n p a there one sets = record {
+  located = λ k. elim (cases_eq k n) [
+    | inl e ↦ ap (places.opened es) e ∙ sets.located ∙ ap (λ b. Some (cond b (Apart a) (At p))) (sym ((paths_tell p p).1 refl)) ∙ sym (ap (option_map (after_removal p a)) (ap (places.opened t.tree) e ∙ opened-path t n p there))
+    | inr away ↦ sets.others k away ∙ sym (removal-apart p a (places.opened t.tree k) (λ at. away (one k (path-spot t k p at))))
+  ];
+  counted = sets.counted;
+}
 
 module _ (m : Mount) (s : State) (st : IsStateOf m s) (new : Layers) where
   abbrev V : Layer
@@ -232,34 +230,26 @@ module _ (m : Mount) (s : State) (st : IsStateOf m s) (new : Layers) where
   not-there : (p : Path) → unlink_fault (the_layers m) p ≡ None → (l : Location) (d : NodeId) → Stands s.tree l d → is_folder (s.tree d) ≡ true → l ≢ At p
   not-there p ok l d stands f e = grind (arith, unlinked-none, shown-directory)
 
-  -- no directory is open below one in which no name is shown
-  pub none-below : (p : Path) → ShowsNoName (the_layers m) p → AreHeld m.clients → NoneBelow m.clients.objects.tree p
-  none-below p bare counted k n r is =
-      let there = open-there m s st counted k (n ∷ (r ++ p)) is in
-      let under = beneath s.tree p r n there.0 there.1 there.2 in
-      let shown : is_directory (shows 0 (the_layers m) (under.name ∷ p)) ≡ true = shown-directory (the_upper m) (the_lowers m) s st.layers (under.name ∷ p) under.node under.at under.directory in
-      false≢true (sym (ap is_directory (bare under.name)) ∙ shown)
-
   -- an unlink that isn't refused is served
-  pub unlink-done : (c : ℕ) (p : Path) → unlink_fault (the_layers m) p ≡ None → new.lowers ≡ m.layers.lowers → Removes V (lowers_of new) s c p (call.Unlink p) → AreCounted m.clients → KeepsHeld m.clients m.layers new (call.Unlink p) → KeepsHeldLeaves (call.Unlink p) → Serves (refusal s c (call.Unlink p)) s c (call.Unlink p) reply.Done (record m { layers = new })
-  unlink-done c p ok same x counted live leaves =
+  pub unlink-done : (c : ℕ) (p : Path) → unlink_fault (the_layers m) p ≡ None → new.lowers ≡ m.layers.lowers → Removes V (lowers_of new) s c p (call.Unlink p) → KeepsHeld m.clients m.layers new (call.Unlink p) → KeepsHeldLeaves (call.Unlink p) → Serves (refusal s c (call.Unlink p)) s c (call.Unlink p) reply.Done (record m { layers = new })
+  unlink-done c p ok same x live leaves =
       let k = call.Unlink p in
       done c k (law_of_unlink (the_upper m) (the_lowers m) s st.layers c p ∙ ok) x.answer x.mounts x.tables refl same
       (λ b fd o h on is. handle-apart s c p k V (lowers_of new) x m.clients.objects.tree b fd o h on is (not-there p ok is.location h.node is.stands is.directory))
-      (files-held m.layers new s st.layers c k m.clients (live s st.layers c) leaves counted)
+      (files-held m.layers new s st.layers c k m.clients (live s st.layers c) leaves)
 
   -- the node at the path of a directory that is shown has its attributes
   pub folder-has : (p : Path) (a : Attributes) → HasAttributes (the_layers m) p a → (e : NodeId) → node_at s.tree p ≡ Some e → folder_attributes (s.tree e) ≡ Some a
   folder-has p a has e at = shown-attributes (s.tree e) (base (the_upper m) (the_lowers m) p) (shows 0 (the_layers m) p) a has (seen (the_upper m) (the_lowers m) s st.layers p e at)
 
   -- rmdir of a directory
-  module _ (c : ℕ) (p : Path) (ok : rmdir_fault (the_layers m) p false ≡ None) (bare : ShowsNoName (the_layers m) p) (same : new.lowers ≡ m.layers.lowers) (x : Removes V (lowers_of new) s c p (call.Rmdir p)) (counted : AreCounted m.clients) (live : KeepsHeld m.clients m.layers new (call.Rmdir p)) (leaves : KeepsHeldLeaves (call.Rmdir p)) where
+  module _ (c : ℕ) (p : Path) (ok : rmdir_fault (the_layers m) p false ≡ None) (bare : ShowsNoName (the_layers m) p) (same : new.lowers ≡ m.layers.lowers) (x : Removes V (lowers_of new) s c p (call.Rmdir p)) (live : KeepsHeld m.clients m.layers new (call.Rmdir p)) (leaves : KeepsHeldLeaves (call.Rmdir p)) where
     abbrev u : Tree
     u = (after s c (call.Rmdir p)).tree
 
     -- open files stay
     files : CarriesFiles (the_upper m) V s.tree u m.clients s.tables
-    files = files-held m.layers new s st.layers c (call.Rmdir p) m.clients (live s st.layers c) leaves counted
+    files = files-held m.layers new s st.layers c (call.Rmdir p) m.clients (live s st.layers c) leaves
 
     -- it is served where its tables are right
     rmdir-done : (clients : Clients) → AreTables (Alike new (after s c (call.Rmdir p)) clients) clients s.tables → AreOne clients s.tables → clients.next ≡ m.clients.next → Serves (refusal s c (call.Rmdir p)) s c (call.Rmdir p) reply.Done (record m { layers = new; clients = clients })
@@ -267,20 +257,21 @@ module _ (m : Mount) (s : State) (st : IsStateOf m s) (new : Layers) where
         serve-done _ s c (call.Rmdir p) reply.Done _ ((law_of_rmdir (the_upper m) (the_lowers m) s st.layers c p).empty bare ∙ ok) (sym x.answer)
         (state-after c (call.Rmdir p) clients x.mounts x.tables refl tables one next)
 
-    -- where it is open, its handles are on a removed directory then
-    pub rmdir-open : (a : Attributes) (clients : Clients) → HasAttributes (the_layers m) p a → RemovesOpen m.clients clients p a → Serves (refusal s c (call.Rmdir p)) s c (call.Rmdir p) reply.Done (record m { layers = new; clients = clients })
-    rmdir-open a clients has marks =
-        let directories = handle-marked s c p (call.Rmdir p) V (lowers_of new) x a m.clients.objects.tree clients.objects.tree (folder-has p a has) marks.places in
+    -- where it is held, handles on it are on a removed directory then
+    pub rmdir-held : (a : Attributes) (n : ℕ) (clients : Clients) → HasAttributes (the_layers m) p a → spot_of m.clients.objects n ≡ Some (spots.At p) → ((k : ℕ) → spot_of m.clients.objects k ≡ Some (spots.At p) → k ≡ n) → KeepsClients m.clients clients → places.SetsApart m.clients.objects.tree clients.objects.tree n (unlisted.Removed a) → Serves (refusal s c (call.Rmdir p)) s c (call.Rmdir p) reply.Done (record m { layers = new; clients = clients })
+    rmdir-held a n clients has there one kept sets =
+        let removes = removes-one m.clients.objects clients.objects.tree n p (unlisted.Removed a) there one sets in
+        let directories = handle-marked s c p (call.Rmdir p) V (lowers_of new) x a m.clients.objects.tree clients.objects.tree (folder-has p a has) removes in
         let moved = tables-on m.layers new s.tree u m.clients s.tables same st.tables clients.objects.tree directories files in
         rmdir-done clients
-        (tables-attached (Alike new (after s c (call.Rmdir p)) clients) m.clients clients s.tables marks.attached moved)
-        (one-attached m.clients clients s.tables marks.attached st.one)
-        marks.next
+        (tables-attached (Alike new (after s c (call.Rmdir p)) clients) m.clients clients s.tables kept.attached moved)
+        (one-attached m.clients clients s.tables kept.attached st.one)
+        kept.next
 
     -- where it isn't, no open directory changes
-    pub rmdir-unopened : IsOpenNowhere m.clients p → Serves (refusal s c (call.Rmdir p)) s c (call.Rmdir p) reply.Done (record m { layers = new })
-    rmdir-unopened nowhere =
+    pub rmdir-unheld : IsVacant m.clients.objects (spots.At p) → Serves (refusal s c (call.Rmdir p)) s c (call.Rmdir p) reply.Done (record m { layers = new })
+    rmdir-unheld vacant =
         let apart = handle-apart s c p (call.Rmdir p) V (lowers_of new) x m.clients.objects.tree in
         rmdir-done m.clients
-        (tables-after c (call.Rmdir p) same (λ b fd o h on is. apart b fd o h on is (λ e. nowhere o.directory (is.located ∙ ap Some e))) files)
+        (tables-after c (call.Rmdir p) same (λ b fd o h on is. apart b fd o h on is (λ e. vacant o.directory (path-spot m.clients.objects o.directory p (is.located ∙ ap Some e)))) files)
         st.one refl

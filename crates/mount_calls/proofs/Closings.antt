@@ -1,7 +1,7 @@
 -- What closing a descriptor does to a mount, where a file that nothing names or holds any more is freed.
 use Rattle.std.proofs.Common.{arith, ◌≡◌, ◌↔◌, ℕ, ◌<◌, true, false, cond, ◌||◌, List, Option, None, Some, Ok, Err, refl, sym, ap, ◌∙◌, subst, ◌⊎◌, inl, inr, is_some}
 use Rattle.merged_lookup.specs.Merged.{upper_of}
-use Rattle.mount_calls.proofs.Words.{after, cases_Bool, Errno, false≢true, File, file_holders, Handle, handle_of, Inode, IsLive, IsMountOf, Layer, Layers, lowers_of, node_at, NodeId, OpenFile, Path, refusal, SetsSlot, State, StaysMount, Table, Tree, Upper, with_handle}
+use Rattle.mount_calls.proofs.Words.{after, cases_Bool, cases_eq, Errno, false≢true, File, Handle, handle_of, Inode, IsLive, IsMountOf, Layer, Layers, lowers_of, node_at, NodeId, OpenFile, Path, refusal, SetsSlot, State, StaysMount, Table, Tree, Upper, with_handle}
 use Rattle.ov_base.specs.declared.call.CallOf.TheVariants as call
 use Rattle.ov_base.specs.declared.errno.Errno.TheVariants as errno
 use Rattle.ov_base.specs.declared.reply.Reply.TheVariants as reply
@@ -20,8 +20,8 @@ use Rattle.open_handles.specs.declared.handle.Handle as handles
 use Rattle.open_handles.specs.Listings.{Closes, file_in}
 use Rattle.open_handles.specs.declared.clients.Clients.{Clients}
 use Rattle.mount_calls.specs.declared.mount.Mount.{Mount}
-use Rattle.open_handles.specs.Attaching.{opened_by, file_by, ChangesClient}
-use Rattle.mount_calls.specs.Files.{is_leaf, AreOne, HasFile, key_in_upper}
+use Rattle.open_handles.specs.Attaching.{opened_by, file_by, ChangesClient, HasFile}
+use Rattle.mount_calls.specs.Files.{is_leaf, AreOne, key_in_upper}
 use Rattle.mount_calls.specs.Living.{StaysHeld, KeepsPaths, FreesClosed}
 use Rattle.mount_calls.specs.States.{IsOpenAs, AreTables, IsStateOf, Serves}
 use Rattle.mount_calls.proofs.Carrying.{tables-on}
@@ -74,7 +74,19 @@ module _ (U : Layer) (lowers : List Layer) (s : State) (m : IsMountOf U lowers s
 module _ (clients : Clients) (old new : Layers) (k : ℕ) (f : FreesClosed clients old new k) (i : Inode) (at : (upper_of old).inodes k ≡ Some i) where
   -- the files that handles hold stay live
   freed-held : StaysHeld clients old new
-  freed-held t d j holds l = grind arith
+  freed-held t d j holds l = record {
+    bytes = l.bytes;
+    attributes = l.attributes;
+    links = l.links;
+    mark = l.mark;
+    inode = still (cases_eq j k) ∙ l.inode;
+    node = l.node;
+    paths = λ q. (λ led. f.keeps.objects q ∙ (l.paths q).0 led, λ names. (l.paths q).1 (sym (f.keeps.objects q) ∙ names));
+  }
+    where
+      still : (j ≡ k) ⊎ (j ≡ k → ⊥) → (upper_of new).inodes j ≡ (upper_of old).inodes j
+      still (inl e) = ap (λ (z : Layers). (upper_of z).inodes j) (f.held (subst (HasFile clients) e holds))
+      still (inr off) = f.others j off
 
 -- What the close of a descriptor leaves of the layers: paths hold what they held, no whiteout is needless, the mount stays one of the
 -- machine's, and the files that handles hold stay live.
@@ -107,7 +119,7 @@ live-still : (U : Layer) (t u : Tree) (d : NodeId) (k : ℕ) → ((q : Path) →
 live-still U t u d k paths same l = grind arith
 
 -- what has a key in the upper is an open file of it
-upper-file : (o : Option handles.Handle) (k : ℕ) → key_in_upper (file_in o) ≡ Some k → (f : OpenFile) × (o ≡ Some (File f)) × (f.source ≡ Upper k)
+upper-file : (o : Option OpenFile) (k : ℕ) → key_in_upper o ≡ Some k → (f : OpenFile) × (o ≡ Some f) × (f.source ≡ Upper k)
 upper-file o k h = grind arith
 
 -- a client closes a descriptor
@@ -128,13 +140,13 @@ module _ (m : Mount) (s : State) (st : IsStateOf m s) (c d : ℕ) where
   -- a file of the upper that is open has an inode
   inode-there : (k : ℕ) → key_in_upper (file_by m.clients c d) ≡ Some k → is_some ((the_upper m).inodes k) ≡ true
   inode-there k e =
-      let u = upper-file (opened_by m.clients c d) k e in
+      let u = upper-file (file_by m.clients c d) k e in
       let x = file-at m s st c d u.0 u.1 in
       let of = upper-live (the_upper m) (lowers_of m.layers) s.tree u.0.source u.0.low x.0 k u.2 x.2.source in
       ap is_some of.0.inode
 
   -- an open one is closed
-  module _ (new : Clients) (led : handles.Handle) (ch : ChangesClient m.clients new c (λ x y. Closes x y d (Ok led))) (files : (k : ℕ) → HasFile new k ↔ 0 < file_holders new.files k)
+  module _ (new : Clients) (led : handles.Handle) (ch : ChangesClient m.clients new c (λ x y. Closes x y d (Ok led)))
       (l : Layers) (closed : Option ℕ) (is_closed : closed ≡ key_in_upper (file_in (Some led)))
       (leaves : LeavesOpen new m.layers l closed) where
     -- what the descriptor led to
@@ -170,7 +182,7 @@ module _ (m : Mount) (s : State) (st : IsStateOf m s) (c d : ℕ) where
               (λ b i o g on is. handle-same s.tree step.tree new.objects.tree law.paths o g (law.held b i g on) is)
               (record {
                 live = λ b i f g k opens on key is. live-still (upper_of l) s.tree step.tree g.node k law.paths (law.held b i g on)
-                    (live s.tree g.node k ((files k).0 (record { client = b; descriptor = i; file = f; opened = opens; key = key })) is);
+                    (live s.tree g.node k (record { client = b; descriptor = i; file = f; opened = opens; key = key }) is);
                 leaves = λ b i g on leaf. ap is_leaf (law.held b i g on) ∙ leaf;
                 owns = law_of_own s c (call.Close d);
               }));
@@ -194,4 +206,4 @@ module _ (m : Mount) (s : State) (st : IsStateOf m s) (c d : ℕ) where
         closes = changes-as m.clients new c _ _ (λ x y g. g.closes) ch
 
         state : IsStateOf (record m { clients = new }) (record s { tables = left })
-        state = state-set m s st c d handle.1 handle.2 (record m { clients = new }) refl refl refl refl None None closes (λ f g k e. cc) tt
+        state = state-set m s st c d handle.1 handle.2 (record m { clients = new }) refl refl refl refl None None closes (λ f g k e. let no : None ≡ Some f = e in absurd (cc)) tt

@@ -36,19 +36,16 @@ use Rattle.copy_up.proofs.Keeping.{lowers-same}
 use Rattle.copy_up.proofs.Raising.{inode-raised}
 use Rattle.open_handles.specs.declared.clients.Clients.{Clients}
 use Rattle.mount_calls.specs.declared.mount.Mount.{Mount}
-use Rattle.open_handles.specs.Attaching.{ChangesClient}
 use Rattle.mount_calls.specs.Files.{file_at}
 use Rattle.mount_calls.specs.Keeping.{BringsNone}
 use Rattle.mount_calls.specs.Living.{KeepsFiles, SetsFile}
-use Rattle.mount_calls.specs.Opening.{OpensFile}
 use Rattle.mount_calls.specs.States.{IsStateOf, Serves}
 use Rattle.mount_calls.proofs.Carrying.{state-on}
 use Rattle.mount_calls.proofs.Changing.{handle-on}
 use Rattle.mount_calls.proofs.Directories.{seen}
 use Rattle.mount_calls.proofs.Frames.{none-named, none-parents}
 use Rattle.mount_calls.proofs.Lasting.{chown-leaves, other-names}
-use Rattle.mount_calls.proofs.Makings.{reserved-state}
-use Rattle.mount_calls.proofs.Openings.{IsShownFile, leaf-seen, file-there, free-there, fresh-one, open-leads, state-open, unfaulted}
+use Rattle.mount_calls.proofs.Openings.{IsShownFile, OpensOn, leaf-seen, file-there, free-there, fresh-one, open-leads, state-open, unfaulted}
 use Rattle.mount_calls.proofs.OpeningWrites.{sized-none, writing-served}
 use Rattle.mount_calls.proofs.Rewritten.{state-rewritten}
 use Rattle.mount_calls.proofs.Stating.{the_layers, the_lowers, the_upper}
@@ -128,7 +125,7 @@ module _ (f : OpenFlags) (w : f.writes ≡ true) (options : MountOptions) (t : T
       put-again t d (Some (Leaf (content.File bytes) a (Own false) n)) (Some (Leaf (content.File []) a (Own false) n))
 
 -- an open that copies its file up
-module _ (m : Mount) (s : State) (st : IsStateOf m s) (c : ℕ) (clients : Clients) (same : ChangesClient m.clients clients c (λ x y. y ≡ x))
+module _ (m : Mount) (s : State) (st : IsStateOf m s) (c : ℕ)
     (p : Path) (f : OpenFlags) (mode : ℕ) (fine : opening_fault (layers_of m.layers) p f mode (Some 0) ≡ None) (w : f.writes ≡ true)
     (place : Place) (shown : ShowsInode m.layers p place) (lower : 0 < place.layer)
     (new : Layers) (key : ℕ) (copied : Copied m.layers new p place (λ i. i.attributes) key) where
@@ -224,10 +221,10 @@ module _ (m : Mount) (s : State) (st : IsStateOf m s) (c : ℕ) (clients : Clien
       away e = let z : None ≡ Some (Named j) = sym unheld ∙ ap (held (the_upper m)) (sym e) ∙ f.named in cc
 
   -- the mount stands for the state in which the file is the upper's own
-  copied-state : IsStateOf (record m { layers = new; clients = clients }) (record s { tree = t })
+  copied-state : IsStateOf (record m { layers = new }) (record s { tree = t })
   copied-state =
-      state-on (record m { clients = clients }) s (reserved-state m s st c clients same) new leaf.lowers t s.serial mounts
-      (handle-on s.tree t (λ q d at. owns.paths q ∙ at) owns.hidden (λ d folder. owns.folders d ∙ folder) clients.objects.tree)
+      state-on m s st new leaf.lowers t s.serial mounts
+      (handle-on s.tree t (λ q d at. owns.paths q ∙ at) owns.hidden (λ d folder. owns.folders d ∙ folder) m.clients.objects.tree)
       (record {
         live = λ b fd g h k at on is live. law_of_live_through_owner p a.uid a.gid (the_upper m) V (the_lowers m) whole c a attributes-shown owns h.node k (other-file h.node k live) live;
         leaves = λ b fd h on. chown-leaves p a.uid a.gid whole st.layers.kept c h.node;
@@ -246,7 +243,7 @@ module _ (m : Mount) (s : State) (st : IsStateOf m s) (c : ℕ) (clients : Clien
       ap (λ i. Some (Contents 0 leaf.number i)) leaf.inode ∙
       ap (λ k. Some (Contents 0 k (Some (record { content = there.inode.content; attributes = a; links = 1; mark = None })))) copy.1
 
-  module _ (d : ℕ) (last : Clients) (ch : OpensFile clients last c d (file_at (record { layer = 0; key = key }) f None) (Ok tt)) where
+  module _ (d : ℕ) (last : Clients) (opens : OpensOn m.clients last c d (File (file_at (record { layer = 0; key = key }) f None))) where
     abbrev asked : Call
     asked = call.Open p f mode
 
@@ -255,7 +252,7 @@ module _ (m : Mount) (s : State) (st : IsStateOf m s) (c : ℕ) (clients : Clien
 
     -- the machine finds the same descriptor
     free : lowest_free s.tables c ≡ Some d
-    free = free-there (record m { clients = clients }) s (reserved-state m s st c clients same) c (File file) d last ch
+    free = free-there m s st c (File file) d last opens
 
     -- the machine opens the file
     law : OpensWriting s c p f mode
@@ -284,9 +281,9 @@ module _ (m : Mount) (s : State) (st : IsStateOf m s) (c : ℕ) (clients : Clien
     -- the mount stands for it
     opened-state : IsStateOf (record m { layers = new; clients = last }) held-open
     opened-state =
-        state-open (record m { layers = new; clients = clients }) (record s { tree = t }) copied-state c (File file) d last ch made
+        state-open (record m { layers = new }) (record s { tree = t }) copied-state c (File file) d last opens made
         (record { source = (live, refl); own = λ on. bare-own V t law.node key live _ copied-inode refl; reads = refl; writes = refl; append = refl; place = refl; unlisted = refl })
-        (fresh-one (record m { layers = new; clients = clients }) (record s { tree = t }) copied-state c p file made at-node (live, refl))
+        (fresh-one (record m { layers = new }) (record s { tree = t }) copied-state c p file made at-node (live, refl))
 
     -- the node was a file of a lower layer
     abbrev origin : Origin
@@ -324,4 +321,4 @@ module _ (m : Mount) (s : State) (st : IsStateOf m s) (c : ℕ) (clients : Clien
         let empties : SetsFile new layers key [] = subst (SetsFile new layers key) (sized-none live.bytes) (sets key live.bytes refl bytes) in
         done layers (rewritten t law.node [])
         (own-emptied f w whole.options s.tree law.node there.bytes a origin was.0 was.1 e ∙ sym (own-rewritten f w whole.options s.tree law.node there.bytes a origin was.0 was.1) ∙ ap (λ z. rewritten z law.node []) (sym tree-owned))
-        (state-rewritten (record m { layers = new; clients = last }) held-open opened-state layers key law.node [] (open-leads (record m { layers = new; clients = clients }) (record s { tree = t }) copied-state c (File file) d last ch file made key refl refl) keeps empties)
+        (state-rewritten (record m { layers = new; clients = last }) held-open opened-state layers key law.node [] (open-leads (record m { layers = new }) (record s { tree = t }) copied-state c (File file) d last opens file made key refl refl) keeps empties)

@@ -26,7 +26,8 @@ use Rattle.mount_calls.proofs.Answering.{serve-refused, serve-done, walk-none}
 use Rattle.mount_calls.proofs.Directories.{seen, shown-directory, shown-attributes}
 use Rattle.mount_calls.proofs.FileSight.{Sees, file-sees, file-not-folder}
 use Rattle.mount_calls.proofs.Seeking.{AreBytes, bytes-read}
-use Rattle.mount_calls.proofs.Slots.{file-open, file-at, directory-at, by-opened, place-moved}
+use Rattle.notice_laws.proofs.Numbers.{some-is}
+use Rattle.mount_calls.proofs.Slots.{by-opened, directory-at, file-at, place-moved}
 use Rattle.mount_calls.proofs.Stating.{the_layers, the_lowers, the_upper}
 
 -- the reply that a status is told by, or its refusal
@@ -62,10 +63,6 @@ status-removed Ls t d r (Apart (unlisted.Removed a)) gone none tells = tells a r
 status-removed Ls t d r (Apart (unlisted.Upper key)) gone none tells = absurd gone
 status-removed Ls t d r (Apart unlisted.Nowhere) gone none tells = absurd gone
 
--- the directory that is open under a descriptor
-directory-open : (x : Option handles.Handle) → is_some (directory_in x) ≡ true → (o : OpenDirectory) × (x ≡ Some (Directory o))
-directory-open x h = grind arith
-
 module _ (m : Mount) (s : State) (st : IsStateOf m s) (c d : ℕ) where
   module _ (n : ℕ) where
     -- the read is answered so, by a mount that becomes this
@@ -77,8 +74,8 @@ module _ (m : Mount) (s : State) (st : IsStateOf m s) (c d : ℕ) where
     read-refusal =
         by-opened m s st c d (λ o. refusal s c (call.Read d n) ≡ read_fault o n)
         (λ none. (law_of_unopened s c d none).reading n)
-        (λ f h on is. (law_of_read s c d h on (file-not-folder (the_upper m) (the_lowers m) s.tree f h is)).refused n ∙ ap (λ b. or_else (when (nat_lt TRANSFER_MAX n) errno.EINVAL) (when (not b) errno.EBADF)) is.reads)
-        (λ o h on is. (law_of_directory_handle s c d h on is.directory).reading n)
+        (λ k way f h on is. (law_of_read s c d h on (file-not-folder (the_upper m) (the_lowers m) s.tree f h is)).refused n ∙ ap (λ b. or_else (when (nat_lt TRANSFER_MAX n) errno.EINVAL) (when (not b) errno.EBADF)) is.reads)
+        (λ k way listing h on is. (law_of_directory_handle s c d h on is.directory).reading n)
 
     -- where that isn't there it isn't refused
     pub read-allowed : read_fault (opened_by m.clients c d) n ≡ None →
@@ -92,8 +89,7 @@ module _ (m : Mount) (s : State) (st : IsStateOf m s) (c d : ℕ) where
     -- a read gives the next bytes, and the file's place is after them
     pub read-done : (f : OpenFile) → file_by m.clients c d ≡ Some f → read_fault (opened_by m.clients c d) n ≡ None → (bytes given : List ℕ) → AreBytes m.layers f bytes → given ≡ take n (drop f.place bytes) → (new : Clients) → ChangesClient m.clients new c (λ x y. ChangesSlot x y d (with_place (f.place + length given))) → Reads (reply.Read given) (record m { clients = new })
     read-done f is good bytes given are next new ch =
-        let opens = file-open (opened_by m.clients c d) f is in
-        let x = file-at m s st c d f opens in
+        let x = file-at m s st c d f is in
         let law : ReadsFile s c d x.0 = law_of_read s c d x.0 x.1 (file-not-folder (the_upper m) (the_lowers m) s.tree f x.0 x.2) in
         let read : laws.seen s x.0 ≡ bytes = bytes-read m.layers s f x.0 bytes x.2 are in
         let same : next_bytes s x.0 n ≡ given = (λ i. take n (drop (x.2.place i) (read i))) ∙ sym next in
@@ -102,7 +98,7 @@ module _ (m : Mount) (s : State) (st : IsStateOf m s) (c d : ℕ) where
         (ap reply.Read (sym same) ∙ sym (law.answer n))
         (subst (IsStateOf (record m { clients = new }))
         (ap (λ z. record s { tables = with_handle s.tables c d (Some (record x.0 { place = z })) }) end ∙ sym (law.state n))
-        (place-moved m s st c d x.0 x.1 f opens (f.place + length given) new ch))
+        (place-moved m s st c d x.0 x.1 f is (f.place + length given) new ch))
 
   -- the fstat is answered so
   abbrev Shows : Reply → Type 0
@@ -115,12 +111,12 @@ module _ (m : Mount) (s : State) (st : IsStateOf m s) (c d : ℕ) where
   -- of a file, its inode
   pub file-status : (f : OpenFile) → file_by m.clients c d ≡ Some f → (r : Result Stat Errno) → ((i : Inode) → seen_inode (the_upper m) (the_lowers m) f.source f.low ≡ Some i → r ≡ stat_of_inode (Some i)) → Shows (status_reply r)
   file-status f is r tells =
-      let x = file-at m s st c d f (file-open (opened_by m.clients c d) f is) in
+      let x = file-at m s st c d f is in
       let sees : Sees (the_upper m) (the_lowers m) s.tree f x.0 = file-sees (the_upper m) (the_lowers m) s.tree f x.0 x.2 in
       status-shown x.0 x.1 (status_reply r) (ap status_reply (tells _ sees.inode) ∙ sym sees.status)
 
   -- of a directory, what stands where it does
-  directory-status : (o : OpenDirectory) → opened_by m.clients c d ≡ Some (Directory o) → (r : Result Stat Errno) → ((l : Location) (n : NodeId) → located m.clients o ≡ Some l → Stands s.tree l n → r ≡ status_standing (the_layers m) l) → Shows (status_reply r)
+  directory-status : (o : OpenDirectory) → directory_by m.clients c d ≡ Some o → (r : Result Stat Errno) → ((l : Location) (n : NodeId) → located m.clients o ≡ Some l → Stands s.tree l n → r ≡ status_standing (the_layers m) l) → Shows (status_reply r)
   directory-status o is r tells =
       let a = attributes x.2.location x.2.stands in
       status-shown h x.1 (status_reply r)
@@ -149,8 +145,8 @@ module _ (m : Mount) (s : State) (st : IsStateOf m s) (c d : ℕ) where
 
   module _ (there : is_some (directory_by m.clients c d) ≡ true) where
     -- the directory
-    standing : (o : OpenDirectory) × (opened_by m.clients c d ≡ Some (Directory o))
-    standing = directory-open (opened_by m.clients c d) there
+    standing : (o : OpenDirectory) × (directory_by m.clients c d ≡ Some o)
+    standing = some-is (directory_by m.clients c d) there
 
     -- fstat isn't refused of one
     pub status-allowed : refusal s c (call.Fstat d) ≡ None
@@ -159,12 +155,12 @@ module _ (m : Mount) (s : State) (st : IsStateOf m s) (c d : ℕ) where
     module _ (r : Result Stat Errno) where
       -- of one that has a path, what is there
       pub named-status : (p : Path) → Some p ≡ option_and_then (path_of m.clients) (directory_by m.clients c d) → r ≡ stat_at (the_layers m) p → Shows (status_reply r)
-      named-status p path is = directory-status standing.0 standing.1 r (λ l n at stands. status-named (the_layers m) p r is l (path ∙ ap (λ z. option_and_then (path_of m.clients) (directory_in z)) standing.1 ∙ ap (option_and_then path_in) at))
+      named-status p path is = directory-status standing.0 standing.1 r (λ l n at stands. status-named (the_layers m) p r is l (path ∙ ap (option_and_then (path_of m.clients)) standing.1 ∙ ap (option_and_then path_in) at))
 
       -- of one that was removed, the attributes that it had
       pub removed-status : None ≡ option_and_then (path_of m.clients) (directory_by m.clients c d) → ((a : Attributes) → option_and_then attributes_in (option_and_then (located m.clients) (directory_by m.clients c d)) ≡ Some a → r ≡ Ok (stat_with kind.Directory a 0 1)) → Shows (status_reply r)
       removed-status path tells =
           directory-status standing.0 standing.1 r
           (λ l n at stands. status-removed (the_layers m) s.tree n r l stands
-          (path ∙ ap (λ z. option_and_then (path_of m.clients) (directory_in z)) standing.1 ∙ ap (option_and_then path_in) at)
-          (λ a e. tells a (ap (λ z. option_and_then attributes_in (option_and_then (located m.clients) (directory_in z))) standing.1 ∙ ap (option_and_then attributes_in) at ∙ e)))
+          (path ∙ ap (option_and_then (path_of m.clients)) standing.1 ∙ ap (option_and_then path_in) at)
+          (λ a e. tells a (ap (λ z. option_and_then attributes_in (option_and_then (located m.clients) z)) standing.1 ∙ ap (option_and_then attributes_in) at ∙ e)))

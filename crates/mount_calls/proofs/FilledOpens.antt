@@ -1,5 +1,5 @@
 -- Opens that give a marked file of the upper bytes of its own: the states that the mount stands for on the way.
-use Rattle.std.proofs.Common.{◌≡◌, ◌≢◌, ◌↔◌, ℕ, true, false, cond, List, [], ◌∷◌, Option, None, Some, Ok, refl, sym, ap, ◌∙◌, subst, ◌⊎◌, inl, inr, is_some}
+use Rattle.std.proofs.Common.{◌≡◌, ◌≢◌, ◌↔◌, ℕ, true, false, cond, List, [], ◌∷◌, Option, None, Some, refl, sym, ap, ◌∙◌, subst, ◌⊎◌, inl, inr, is_some}
 use Rattle.merged_lookup.specs.Merged.{upper_of}
 use Rattle.mount_calls.proofs.Words.{AreLayers, bad_flags, bytes_at, Call, cases_eq, change, Content, Contents, EINVAL, false≢true, File, file_bytes, Handle, Inode, IsLive, IsMountOf, Layer, Layers, layers_of, live_handle, lowers_of, lowest_free, NodeId, OpenFile, OpenFlags, opening_fault, option_and_then, option_map, parents_fault, Path, Place, refusal, shows, shows_link, ShowsInode, State, StaysLayers, Tree, way_of, when, with_handle}
 use Rattle.ov_base.specs.declared.bytes.Content.TheVariants as content
@@ -24,17 +24,14 @@ use Rattle.mount_laws.proofs.Opening.{law_of_opened_for_writing}
 use Rattle.copy_up.proofs.Keeping.{lowers-same}
 use Rattle.open_handles.specs.declared.clients.Clients.{Clients}
 use Rattle.mount_calls.specs.declared.mount.Mount.{Mount}
-use Rattle.open_handles.specs.Attaching.{ChangesClient}
 use Rattle.mount_calls.specs.Files.{is_leaf, file_at}
 use Rattle.mount_calls.specs.Living.{KeepsFiles, NamesFile}
-use Rattle.mount_calls.specs.Opening.{OpensFile}
 use Rattle.mount_calls.specs.States.{IsStateOf, Serves}
 use Rattle.mount_calls.proofs.Carrying.{state-on}
 use Rattle.mount_calls.proofs.Changing.{handle-on}
-use Rattle.mount_calls.proofs.Makings.{reserved-state}
 use Rattle.mount_calls.proofs.Marks.{bare-own, over-shown}
 use Rattle.mount_calls.proofs.Raising.{link-filled}
-use Rattle.mount_calls.proofs.Openings.{IsShownFile, file-there, free-there, fresh-one, no-link, state-open, unfaulted}
+use Rattle.mount_calls.proofs.Openings.{IsShownFile, OpensOn, file-there, free-there, fresh-one, no-link, state-open, unfaulted}
 use Rattle.mount_calls.proofs.OpeningWrites.{writing-served}
 use Rattle.mount_calls.proofs.Stating.{the_layers, the_lowers, the_upper}
 
@@ -84,11 +81,11 @@ Gives old new key f = (i : Inode) (b : List ℕ) → (upper_of old).inodes key �
 pub gives-files : (old new : Layers) (key : ℕ) (f : OpenFlags) (i : Inode) (b : List ℕ) → (upper_of old).inodes key ≡ Some i → i.content ≡ content.File b → Gives old new key f → KeepsFiles old new
 gives-files old new key f i b is file gives q j = changed-files (upper_of old) (upper_of new) key (cond f.truncate [] b) (gives i b is file) q j
 
-module _ (m : Mount) (s : State) (st : IsStateOf m s) (c : ℕ) (clients : Clients) (same : ChangesClient m.clients clients c (λ x y. y ≡ x))
+module _ (m : Mount) (s : State) (st : IsStateOf m s) (c : ℕ)
     (p : Path) (f : OpenFlags) (mode : ℕ) (fine : opening_fault (layers_of m.layers) p f mode (Some 0) ≡ None) (w : f.writes ≡ true)
     (place : Place) (own : place.layer ≡ 0) (shown : ShowsInode m.layers p place)
     (new : Layers) (low : new.lowers ≡ m.layers.lowers) (keeps : StaysLayers m.layers new) (gives : Gives m.layers new place.key f)
-    (d : ℕ) (last : Clients) (ch : OpensFile clients last c d (file_at (record { layer = 0; key = place.key }) f None) (Ok tt)) where
+    (d : ℕ) (last : Clients) (opens : OpensOn m.clients last c d (File (file_at (record { layer = 0; key = place.key }) f None))) where
   abbrev V : Layer
   V = upper_of new
 
@@ -98,13 +95,9 @@ module _ (m : Mount) (s : State) (st : IsStateOf m s) (c : ℕ) (clients : Clien
   abbrev file : OpenFile
   file = file_at (record { layer = 0; key = place.key }) f None
 
-  -- the mount in which room is made
-  abbrev reserved : Mount
-  reserved = record m { clients = clients }
-
   -- the machine finds the same descriptor
   free : lowest_free s.tables c ≡ Some d
-  free = free-there reserved s (reserved-state m s st c clients same) c (File file) d last ch
+  free = free-there m s st c (File file) d last opens
 
   -- the file is shown
   there : IsShownFile (shows 0 (the_layers m) p) place.layer place.key
@@ -161,11 +154,11 @@ module _ (m : Mount) (s : State) (st : IsStateOf m s) (c : ℕ) (clients : Clien
   owns = subst (OwnsAlso s.tree) (ap (λ (z : State). z.tree) law.state) (law_of_own s c asked)
 
   -- the mount stands for the state in which the bytes are the file's own
-  filled-state : IsStateOf (record m { layers = new; clients = clients }) (record s { tree = t })
+  filled-state : IsStateOf (record m { layers = new }) (record s { tree = t })
   filled-state =
-      state-on reserved s (reserved-state m s st c clients same) new low t s.serial
+      state-on m s st new low t s.serial
       (subst (λ (Ls : List Layer). IsMountOf V Ls (record s { tree = t })) (sym (lowers-same m.layers new low)) alters.mounts)
-      (handle-on s.tree t (λ q e at. alters.paths q ∙ at) hidden-still (λ e folder. alters.folders e ∙ folder) clients.objects.tree)
+      (handle-on s.tree t (λ q e at. alters.paths q ∙ at) hidden-still (λ e folder. alters.folders e ∙ folder) m.clients.objects.tree)
       (record {
         live = λ b fd g h k at on is. live-still h.node k;
         leaves = λ b fd h on. leaf-still h.node;
@@ -183,9 +176,9 @@ module _ (m : Mount) (s : State) (st : IsStateOf m s) (c : ℕ) (clients : Clien
   -- the mount stands for the state in which it is open
   opened-state : IsStateOf (record m { layers = new; clients = last }) (record s { tree = t; tables = with_handle s.tables c d (Some made) })
   opened-state =
-      state-open (record m { layers = new; clients = clients }) (record s { tree = t }) filled-state c (File file) d last ch made
+      state-open (record m { layers = new }) (record s { tree = t }) filled-state c (File file) d last opens made
       (record { source = (alters.live, refl); own = λ on. own-node; reads = refl; writes = refl; append = refl; place = refl; unlisted = refl })
-      (fresh-one (record m { layers = new; clients = clients }) (record s { tree = t }) filled-state c p file made (alters.paths p ∙ law.at) (alters.live, refl))
+      (fresh-one (record m { layers = new }) (record s { tree = t }) filled-state c p file made (alters.paths p ∙ law.at) (alters.live, refl))
 
   -- and answers as the machine
   pub open-filled : Serves (refusal s c asked) s c asked (reply.Descriptor d) (record m { layers = new; clients = last })

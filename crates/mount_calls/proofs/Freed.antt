@@ -1,7 +1,8 @@
 -- What a removal leaves once what lost its last name is freed.
-use Rattle.std.proofs.Common.{◌≡◌, ◌≢◌, ℕ, Bool, Option, List, ◌∷◌, ◌++◌, Some, sym, ap, ◌∙◌, subst, is_some, rules, arith}
+use Rattle.std.proofs.Common.{◌≡◌, ◌≢◌, ℕ, Bool, true, false, cond, Option, None, List, ◌∷◌, ◌++◌, Some, refl, sym, ap, ◌∙◌, subst, is_some, rules, arith}
 use Rattle.merged_lookup.specs.Merged.{upper_of}
-use Rattle.mount_calls.proofs.Words.{after, AreLayers, Call, Inode, inode_of, Layers, layers_of, lowers_of, option_and_then, option_map, Path, Removes, State, StaysLayers, StaysMount}
+use Rattle.mount_calls.proofs.Words.{after, AreLayers, Call, false≢true, Folder, Inode, inode_of, is_directory, layer_of, Layers, layers_of, lowers_of, option_and_then, option_map, Path, Removes, shows, State, StaysLayers, StaysMount}
+use Rattle.plain_model.specs.Layers.{Directory, Named, Object, Whiteout, below, cuts, held, over, unless}
 use Rattle.plain_model.specs.Tree.{merged}
 use Rattle.mount_laws.specs.Removals.{Loses, ShowsNoName}
 use Rattle.slab.specs.Slab.{get}
@@ -13,7 +14,7 @@ use Rattle.layer_tree.specs.declared.node.Inode.{Inode as StoredInode}
 use Rattle.layer_tree.specs.declared.node.Node.TheVariants as node
 use Rattle.copy_up.specs.Showing.{ShowsSame, KeepsPath, KeepsOthers}
 use Rattle.copy_up.proofs.Keeping.{lowers-same}
-use Rattle.make_remove.specs.Removing.{TakesName}
+use Rattle.make_remove.specs.Removing.{has_more, last_named, TakesName}
 use Rattle.mount_laws.specs.Renaming.{Renames}
 use Rattle.ov_base.specs.declared.call.CallOf.TheVariants as call
 use Rattle.rename_redirect.specs.Renaming.{Moves, RenameSteps}
@@ -95,3 +96,28 @@ unlinked t k x tree unnamed is none = (
   where
     here : inode_at t k ≡ Some (inode_as x)
     here = ap (option_and_then inode_of) is
+
+-- a key that one name alone hands back is its own
+one-back : (b : Bool) (j k : ℕ) → cond b None (Some j) ≡ Some k → j ≡ k
+one-back b j k is = grind arith
+
+-- what is handed back at a path that shows no directory is the inode that the upper names there
+pub released-named : (l : Layers) (p : Path) (released : Option ℕ) (k : ℕ) → is_directory (shows 0 (layers_of l) p) ≡ false → released ≡ last_named l.upper (held (layer_of l.upper) p) → released ≡ Some k → held (layer_of l.upper) p ≡ Some (Named k)
+released-named l p released k file back is = by (held (layer_of l.upper) p) refl
+  where
+    handed : (o : Option Object) → held (layer_of l.upper) p ≡ o → last_named l.upper o ≡ Some k
+    handed o e = sym (back ∙ ap (last_named l.upper) e) ∙ is
+
+    by : (o : Option Object) → held (layer_of l.upper) p ≡ o → held (layer_of l.upper) p ≡ Some (Named k)
+    by None e = let no : None ≡ Some k = handed None e in absurd (cc)
+    by (Some Whiteout) e = let no : None ≡ Some k = handed (Some Whiteout) e in absurd (cc)
+    by (Some (Directory n a o r)) e =
+        let shown : shows 0 (layers_of l) p ≡ Some (Folder 0 n a) =
+            ap (λ z. over 0 (upper_of l).inodes z (unless (cuts (upper_of l) p) (shows 1 (lowers_of l) (below (upper_of l) p)))) e in
+        absurd (false≢true (sym file ∙ ap is_directory shown))
+    by (Some (Named j)) e = e ∙ ap (λ z. Some (Named z)) (one-back (has_more 1 (inode_at l.upper j)) j k (handed (Some (Named j)) e))
+
+-- no number is none
+pub not-some : (number : Option ℕ) → is_some number ≡ false → number ≡ None
+not-some None off = refl
+not-some (Some n) off = absurd (false≢true (sym off))

@@ -4,8 +4,6 @@ pub mod LeftMarks
 pub mod Texts
 pub mod Shown
 pub mod Objects
-pub mod Counting
-pub mod Holding
 pub mod Openings
 pub mod OpeningWrites
 pub mod Serving
@@ -33,6 +31,9 @@ pub mod LinkedCalls
 pub mod Linking
 pub mod Renames
 pub mod Renaming
+pub mod HeldSpots
+pub mod Along
+pub mod Preparing
 pub mod Paging
 pub mod Parsed
 pub mod Altering

@@ -2,17 +2,15 @@
 use Rattle.std.proofs.Common.{◌≡◌, ℕ, true, false, Option, None, Some, Result, Ok, Err, is_some, refl, sym, ap, ◌∙◌, subst}
 use Rattle.std.specs.Prelude.{IsErr}
 use Rattle.std.specs.BTreeMap.{get}
-use Rattle.mount_calls.proofs.Words.{after, AllocError, Attributes, Call, Errno, Layers, nat_cmp, Path, refusal, Reply, reply_of, State, StaysMount}
+use Rattle.mount_calls.proofs.Words.{after, AllocError, Call, Errno, Layers, nat_cmp, refusal, Reply, reply_of, State, StaysMount}
 use Rattle.ov_base.specs.declared.reply.Reply.TheVariants as reply
 use Rattle.copy_up.specs.Showing.{StaysThin}
 use Rattle.open_handles.specs.declared.clients.Clients.{Clients}
 use Rattle.mount_calls.specs.declared.mount.Mount.{Mount}
-use Rattle.open_handles.specs.Attaching.{KeepsAttached}
+use Rattle.open_handles.specs.Attaching.{KeepsAttached, KeepsClients}
 use Rattle.mount_calls.specs.Keeping.{KeepsLayers}
 use Rattle.mount_calls.specs.Living.{KeepsNamed, StaysLive}
 use Rattle.mount_calls.specs.Making.{AnswersCall, MakesCall, RunsOut, ServesEach}
-use Rattle.mount_calls.specs.Removing.{RemovesOpen}
-use Rattle.mount_calls.specs.Renaming.{RenamesOpen, SamePlaces}
 use Rattle.mount_calls.specs.States.{IsStateOf, StaysState}
 use Rattle.mount_calls.specs.Status.{done_result}
 use Rattle.mount_calls.proofs.Carrying.{state-stays}
@@ -29,21 +27,9 @@ done-err (Err e) wrong = wrong
 pub attached-same : (clients : Clients) → KeepsAttached clients clients
 attached-same clients = record { attached = λ n. refl; next = refl }
 
--- and so do those of which an open directory is a removed one now
-pub attached-removed : (old new : Clients) (p : Path) (a : Attributes) → RemovesOpen old new p a → KeepsAttached old new
-attached-removed old new p a marks = record { attached = λ n. ap (λ z. is_some (get nat_cmp z n)) marks.attached; next = marks.next }
-
--- and so do those that keep their places
-pub attached-places : (old new : Clients) → SamePlaces old new → KeepsAttached old new
-attached-places old new same = record { attached = λ n. ap (λ z. is_some (get nat_cmp z n)) same.attached; next = same.next }
-
--- and those of which what was open at one path is open at another then
-pub attached-renamed : (old mid new : Clients) (p q : Path) (replaced : Option Attributes) → SamePlaces old mid → RenamesOpen mid new p q replaced →
-    KeepsAttached old new
-attached-renamed old mid new p q replaced same renames = record {
-  attached = λ n. ap (λ z. is_some (get nat_cmp z n)) (renames.attached ∙ same.attached);
-  next = renames.next ∙ same.next;
-}
+-- and so do those of which only what is held changes
+pub attached-kept : (old new : Clients) → KeepsClients old new → KeepsAttached old new
+attached-kept old new kept = record { attached = λ n. ap (λ z. is_some (get nat_cmp z n)) kept.attached; next = kept.next }
 
 module _ (c : ℕ) (k : Call) (old new : Mount) where
   -- what each live file is told of a call that is not refused

@@ -1,9 +1,7 @@
 -- Opens that make a file: the states that the mount stands for on the way.
 use Rattle.std.proofs.Common.{arith, ◌≡◌, ◌↔◌, ◌<◌, ℕ, zero, suc, false, cond, List, [], None, Some, Ok, refl, sym, ap, ◌∙◌, subst, is_none, is_some}
 use Rattle.merged_lookup.specs.Merged.{upper_of}
-use Rattle.mount_calls.proofs.Words.{after, Call, change, false≢true, File, file_holders, fresh, Handle, inode_of, IsLive, IsMountOf, Layer, Layers, layers_of, Leaf, live_handle, lowers_of, lowest_free, made_way, New, NodeId, OpenFile, OpenFlags, opening_fault, option_and_then, option_map, Own, Path, refusal, shows, State, StaysMount, Tree, Upper, way_of, with_handle}
-use mathlib.Core.Logic.{∥∥₁_elim}
-use mathlib.Core.HLevel.{⊥_prop}
+use Rattle.mount_calls.proofs.Words.{after, Call, change, false≢true, File, fresh, Handle, inode_of, IsLive, IsMountOf, Layer, Layers, layers_of, Leaf, live_handle, lowers_of, lowest_free, made_way, New, NodeId, OpenFile, OpenFlags, opening_fault, option_and_then, option_map, Own, Path, refusal, shows, State, StaysMount, Tree, Upper, way_of, with_handle}
 use Rattle.slab.specs.Slab.{get}
 use Rattle.ov_base.specs.declared.bytes.Content.TheVariants as content
 use Rattle.ov_base.specs.declared.call.CallOf.TheVariants as call
@@ -14,24 +12,22 @@ use Rattle.mount_laws.specs.Leaves.{GainsLeaf, MakesFile}
 use Rattle.mount_laws.specs.Opening.{OpensMaking}
 use Rattle.mount_laws.proofs.OpenFiles.{one-number, law_of_live_made}
 use Rattle.mount_laws.proofs.Opening.{law_of_opened_making}
-use Rattle.open_handles.specs.FileHolders.{HOLDERS_MAX}
 use Rattle.copy_up.specs.Showing.{GainsParents}
 use Rattle.copy_up.proofs.Keeping.{lowers-same}
 use Rattle.make_remove.specs.Making.{new_attributes}
 use Rattle.make_remove.specs.Leaves.{MakesLeaf, CreateSteps}
 use Rattle.open_handles.specs.declared.clients.Clients.{Clients}
 use Rattle.mount_calls.specs.declared.mount.Mount.{Mount}
-use Rattle.open_handles.specs.Attaching.{ChangesClient}
-use Rattle.mount_calls.specs.Files.{HasFile, IsOpenOn, file_at}
-use Rattle.mount_calls.specs.Opening.{OpensFile}
-use Rattle.mount_calls.specs.States.{HasStateOf, IsStateOf, Serves}
-use Rattle.mount_calls.proofs.Carrying.{AreCounted, files-kept, state-on, state-stays}
+use Rattle.open_handles.specs.Attaching.{HasFile}
+use Rattle.mount_calls.specs.Files.{IsOpenOn, file_at}
+use Rattle.mount_calls.specs.States.{IsStateOf, Serves}
+use Rattle.mount_calls.proofs.Carrying.{files-kept, state-on, state-stays}
 use Rattle.mount_calls.proofs.Changing.{handle-beside}
 use Rattle.mount_calls.proofs.Lasting.{create-live, open-leaves, parents-live}
 use Rattle.mount_calls.proofs.Marks.{bare-own}
-use Rattle.mount_calls.proofs.Openings.{free-there, state-open, open-served, unfaulted}
+use Rattle.mount_calls.proofs.Openings.{OpensOn, free-there, state-open, open-served, unfaulted}
 use Rattle.mount_calls.proofs.Slots.{file-at, open-live, upper-live}
-use Rattle.mount_calls.proofs.Stating.{the_lowers, the_upper, keep-state}
+use Rattle.mount_calls.proofs.Stating.{the_lowers, the_upper}
 
 -- no client has a file open under whose key nothing stands
 not-open : (m : Mount) (s : State) → IsStateOf m s → (k : ℕ) → get m.layers.upper k ≡ None → HasFile m.clients k → ⊥
@@ -41,43 +37,15 @@ not-open m s st k vacant has =
     let none : (the_upper m).inodes k ≡ None = ap (λ o. option_map (fill (the_lowers m)) (option_and_then inode_of o)) vacant in
     false≢true (sym (ap is_some none) ∙ ap is_some of.0.inode)
 
--- so no handle holds it, where room is made
-pub none-holds : (m : Mount) (c : ℕ) (clients : Clients) → ChangesClient m.clients clients c (λ x y. y ≡ x) → ∥ HasStateOf m ∥₁ → AreCounted clients → (key : ℕ) → ((s : State) → IsStateOf m s → get m.layers.upper key ≡ None) → (k : ℕ) → Upper key ≡ Upper k → file_holders clients.files k ≡ 0
-none-holds m c clients same state counted key vacant k is = by (file_holders clients.files k) refl
-  where
-    -- a client would have it open
-    open-no : HasFile clients k → ⊥
-    open-no has =
-        let keyed : key ≡ k = cc in
-        ∥∥₁_elim state ⊥_prop (λ x. not-open (record m { clients = clients }) x.0 (keep-state m x.0 x.1 c clients same) k (ap (get m.layers.upper) (sym keyed) ∙ vacant x.0 x.1) has)
-
-    by : (n : ℕ) → file_holders clients.files k ≡ n → n ≡ 0
-    by zero e = refl
-    by (suc n) e = absurd (open-no ((counted k).1 (rw e (omega arith))))
-
--- and one more can be counted
-pub none-countable : (m : Mount) (c : ℕ) (clients : Clients) → ChangesClient m.clients clients c (λ x y. y ≡ x) → ∥ HasStateOf m ∥₁ → AreCounted clients → (key : ℕ) → ((s : State) → IsStateOf m s → get m.layers.upper key ≡ None) → (k : ℕ) → Upper key ≡ Upper k → file_holders clients.files k < HOLDERS_MAX
-none-countable m c clients same state counted key vacant k is =
-    let none : file_holders clients.files k ≡ 0 = none-holds m c clients same state counted key vacant k is in
-    omega (arith, none)
-
-module _ (m : Mount) (s : State) (st : IsStateOf m s) (c : ℕ) (clients : Clients) (same : ChangesClient m.clients clients c (λ x y. y ≡ x)) where
-  -- the mount in which room is made
-  abbrev reserved : Mount
-  reserved = record m { clients = clients }
-
-  -- stands for the state still
-  pub reserved-state : IsStateOf reserved s
-  reserved-state = keep-state m s st c clients same
-
-  -- and one that then runs out of memory leaves the state
-  pub wanted-state : (new : Layers) (p : Path) → StaysMount m.layers new → GainsParents m.layers new p → IsStateOf (record m { layers = new; clients = clients }) s
-  wanted-state new p mounts parents = state-stays reserved s reserved-state new parents.lowers (mounts s st.layers) (parents-live m.layers new p parents)
+module _ (m : Mount) (s : State) (st : IsStateOf m s) where
+  -- a mount that runs out of memory leaves the state
+  pub wanted-state : (new : Layers) (p : Path) → StaysMount m.layers new → GainsParents m.layers new p → IsStateOf (record m { layers = new }) s
+  wanted-state new p mounts parents = state-stays m s st new parents.lowers (mounts s st.layers) (parents-live m.layers new p parents)
 
   -- an open that makes its file
-  module _ (p : Path) (f : OpenFlags) (mode : ℕ) (fine : opening_fault (layers_of m.layers) p f mode (Some 0) ≡ None) (absent : shows 0 (layers_of m.layers) p ≡ None)
+  module _ (c : ℕ) (p : Path) (f : OpenFlags) (mode : ℕ) (fine : opening_fault (layers_of m.layers) p f mode (Some 0) ≡ None) (absent : shows 0 (layers_of m.layers) p ≡ None)
       (new : Layers) (key : ℕ) (leaf : MakesLeaf m.layers new p (content.File []) (new_attributes mode)) (number : leaf.number ≡ key) (steps : CreateSteps m.layers new p mode)
-      (d : ℕ) (last : Clients) (ch : OpensFile clients last c d (file_at (record { layer = 0; key = key }) f None) (Ok tt)) where
+      (d : ℕ) (last : Clients) (opens : OpensOn m.clients last c d (File (file_at (record { layer = 0; key = key }) f None))) where
     abbrev V : Layer
     V = upper_of new
 
@@ -92,7 +60,7 @@ module _ (m : Mount) (s : State) (st : IsStateOf m s) (c : ℕ) (clients : Clien
 
     -- the machine finds the same descriptor
     free : lowest_free s.tables c ≡ Some d
-    free = free-there reserved s reserved-state c (File file) d last ch
+    free = free-there m s st c (File file) d last opens
 
     -- the machine makes a file
     law : OpensMaking s c p f mode
@@ -117,11 +85,11 @@ module _ (m : Mount) (s : State) (st : IsStateOf m s) (c : ℕ) (clients : Clien
     tree-made = ap (λ o. cond (is_none o) (made_way s.tree s.serial (way_of s.tree p) (Leaf (content.File []) (fresh mode) (Own false) 1)) (change (opened f) s.tree o)) law.absent
 
     -- what was open is what it was
-    made-state : IsStateOf (record m { layers = new; clients = clients }) (record s { tree = u; serial = suc s.serial })
+    made-state : IsStateOf (record m { layers = new }) (record s { tree = u; serial = suc s.serial })
     made-state =
-        state-on reserved s reserved-state new leaf.lowers u (suc s.serial) made-mounts
-        (handle-beside reserved s reserved-state new c asked p _ tree-made steps-there.stays steps-there.hidden)
-        (files-kept m.layers new s st.layers c asked clients m.metacopy st.metacopy (create-live m.layers new m.metacopy p mode leaf steps f) (open-leaves p f mode))
+        state-on m s st new leaf.lowers u (suc s.serial) made-mounts
+        (handle-beside m s st new c asked p _ tree-made steps-there.stays steps-there.hidden)
+        (files-kept m.layers new s st.layers c asked m.clients m.metacopy st.metacopy (create-live m.layers new m.metacopy p mode leaf steps f) (open-leaves p f mode))
 
     -- the new file is live
     made-live : IsLive V u (New s.serial) key
@@ -131,20 +99,20 @@ module _ (m : Mount) (s : State) (st : IsStateOf m s) (c : ℕ) (clients : Clien
         subst (IsLive V u (New s.serial)) (sym (one-number V p leaf.number g.number leaf.held_there g.here) ∙ number) (law_of_live_made (the_upper m) V (the_lowers m) s c p f mode g x)
 
     -- no open file is on its node or under its key
-    made-fresh : (j : ℕ) (e : NodeId) → IsOpenOn clients s.tables j e → (New s.serial ≡ e) ↔ (key ≡ j)
+    made-fresh : (j : ℕ) (e : NodeId) → IsOpenOn m.clients s.tables j e → (New s.serial ≡ e) ↔ (key ≡ j)
     made-fresh j e y =
-        let live : IsLive (the_upper m) s.tree e j = open-live reserved s reserved-state j e y in
+        let live : IsLive (the_upper m) s.tree e j = open-live m s st j e y in
         let none : s.tree (New s.serial) ≡ None = st.layers.kept.unused s.serial (omega arith) in (
           λ same_node. absurd (false≢true (sym (ap is_some none) ∙ ap (λ z. is_some (s.tree z)) same_node ∙ ap is_some live.node)),
           λ same_key.
-              absurd (not-open reserved s reserved-state j (ap (get m.layers.upper) (sym same_key) ∙ ap (get m.layers.upper) (sym number) ∙ leaf.vacant)
+              absurd (not-open m s st j (ap (get m.layers.upper) (sym same_key) ∙ ap (get m.layers.upper) (sym number) ∙ leaf.vacant)
               (record { client = y.client; descriptor = y.descriptor; file = y.file; opened = y.opened; key = y.key })),
         )
 
     -- the mount stands for the state in which the file is open
     opened-state : IsStateOf (record m { layers = new; clients = last }) (record s { tree = u; serial = suc s.serial; tables = with_handle s.tables c d (Some made) })
     opened-state =
-        state-open (record m { layers = new; clients = clients }) (record s { tree = u; serial = suc s.serial }) made-state c (File file) d last ch made
+        state-open (record m { layers = new }) (record s { tree = u; serial = suc s.serial }) made-state c (File file) d last opens made
         (record { source = (made-live, refl); own = λ on. bare-own V u (New s.serial) key made-live _ (ap V.inodes (sym number) ∙ leaf.inode) refl; reads = refl; writes = refl; append = refl; place = refl; unlisted = refl })
         (λ g k j e same_file of y.
         let files : file ≡ g = cc in

@@ -1,16 +1,18 @@
 -- The names that a listing gives.
 use Rattle.std.proofs.Common.{◌≡◌, ℕ, true, false, List, [], Option, None, Some, Result, Ok, Err, refl, sym, ap, ◌∙◌, subst, is_some, take, drop, option_map, unwrap_or}
 use Rattle.std.proofs.Common.{arith}
-use Rattle.mount_calls.proofs.Words.{AllocError, ChangesSlot, Directory, directory_in, false≢true, GivesNames, IfOk, layers_of, Name, OpenDirectory, SetsSlot, with_listing}
+use Rattle.mount_calls.proofs.Words.{AllocError, ChangesSlot, Directory, directory_in, false≢true, File, GivesNames, IfOk, layers_of, Name, OpenDirectory, SetsSlot, with_listing}
 use Rattle.std.specs.Option.{IsSomeAnd}
 use Rattle.open_handles.specs.declared.clients.Clients.{Clients}
 use Rattle.open_handles.specs.declared.handle.Handle as handles
 use Rattle.mount_calls.specs.declared.mount.Mount.{Mount}
-use Rattle.open_handles.specs.Attaching.{opened_by, path_of, ChangesClient}
+use Rattle.open_handles.specs.declared.handle.On.{On}
+use Rattle.open_handles.specs.Attaching.{directory_by, path_of, ChangesClient}
 use Rattle.open_handles.specs.Descriptors.{opened}
-use Rattle.open_handles.specs.Listings.{after_names, names_left}
+use Rattle.open_handles.specs.Listings.{after_names, directory_on, listed_as, listed_on, names_left, open_directory}
 use Rattle.mount_calls.specs.States.{AreNamesIn, AreLeft, Pages}
-use Rattle.mount_calls.proofs.Slots.{changes-to, slot-becomes}
+use Rattle.mount_calls.proofs.Serving.{opened-is}
+use Rattle.mount_calls.proofs.Slots.{changes-to}
 
 abbrev Slots : Type 0
 Slots = List (Option handles.Handle)
@@ -18,22 +20,33 @@ Slots = List (Option handles.Handle)
 set-as : (x y : Slots) (d : ℕ) (u v : Option handles.Handle) → u ≡ v → SetsSlot x y d u → SetsSlot x y d v
 set-as x y d u v e h = subst (SetsSlot x y d) e h
 
-module _ (m : Mount) (new : Clients) (c d : ℕ) (o : OpenDirectory) (was : opened_by m.clients c d ≡ Some (Directory o)) where
-  opened-before : (P : Slots → Slots → Type 0) (h : ChangesClient m.clients new c P) → opened h.before.slots.items d ≡ Some (Directory o)
-  opened-before P h = grind arith
+-- names that are given of a listing leave the rest of it
+names-listed : (x : Option handles.Handle) (o : OpenDirectory) (n : ℕ) (left : List Name) → directory_in x ≡ Some o → o.listing ≡ Some left → option_map (after_names n) x ≡ option_map (with_listing (Some (drop n left))) x
+names-listed None o n left is e = refl
+names-listed (Some h) o n left is e = by h.on is
+  where
+    by : (on : On) → directory_on h.object on ≡ Some o → Some (record h { on = listed_on n on }) ≡ Some (record h { on = listed_as (Some (drop n left)) on })
+    by (Directory listing) leads =
+        let same : record { directory = h.object; listing = listing } ≡ o = cc in
+        ap (λ z. Some (record h { on = Directory (option_map (drop n) z) })) (ap (λ (z : OpenDirectory). z.listing) same ∙ e)
+    by (File f) leads = refl
+
+module _ (m : Mount) (new : Clients) (c d : ℕ) (o : OpenDirectory) (was : directory_by m.clients c d ≡ Some o) where
+  opened-before : (P : Slots → Slots → Type 0) (h : ChangesClient m.clients new c P) → open_directory h.before.slots.items d ≡ Some o
+  opened-before P h = ap directory_in (sym (opened-is m.clients c d h.before h.was)) ∙ was
 
   module _ (n : ℕ) where
     next-names : (left names : List Name) → o.listing ≡ Some left → ChangesClient m.clients new c (λ x y. GivesNames x y d n (Ok names)) → Pages m (record m { clients = new }) c d n names
     next-names left names e h =
-        let before : opened h.before.slots.items d ≡ Some (Directory o) = opened-before _ h in
+        let before : open_directory h.before.slots.items d ≡ Some o = opened-before _ h in
         record {
           directory = o;
           was = was;
           left = left;
           from = subst (λ l. AreLeft (layers_of m.layers) (path_of m.clients o) l left) (sym e) refl;
-          next = h.changes.names ∙ ap (λ z. take n (names_left (directory_in z))) before ∙ ap (λ z. take n (names_left (Some (record o { listing = z })))) e;
-          changes = changes-to m.clients new c _ (λ x y. SetsSlot x y d (Some (Directory (record o { listing = Some (drop n left) })))) h
-              (set-as _ _ d _ _ (ap (option_map (after_names n)) before ∙ ap (λ z. Some (Directory (record o { listing = option_map (drop n) z }))) e) h.changes.left);
+          next = h.changes.names ∙ ap (λ z. take n (names_left z)) before ∙ ap (λ z. take n (unwrap_or z [])) e;
+          changes = changes-to m.clients new c _ (λ x y. ChangesSlot x y d (with_listing (Some (drop n left)))) h
+              (set-as _ _ d _ _ (names-listed (opened h.before.slots.items d) o n left before e) h.changes.left);
           layers = refl;
           redirects = refl;
           metacopy = refl;
@@ -58,7 +71,7 @@ module _ (m : Mount) (new : Clients) (c d : ℕ) (o : OpenDirectory) (was : open
       left = left;
       from = by o.listing none;
       next = e;
-      changes = slot-becomes m.clients new c d (Directory o) (with_listing (Some (drop n left))) was h;
+      changes = h;
       layers = refl;
       redirects = refl;
       metacopy = refl;

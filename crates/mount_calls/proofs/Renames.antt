@@ -2,7 +2,7 @@
 use Rattle.std.proofs.Common.{◌≡◌, ℕ, true, ◌||◌, List, [], ◌∷◌, ◌++◌, Option, None, Some, IsSome, refl, sym, ap, ◌∙◌, inl, inr, is_some, length, nat_eq, arith}
 use Rattle.std.proofs.lemmas.List.{length-map}
 use Rattle.std.specs.BTreeMap.{get}
-use Rattle.mount_calls.proofs.Words.{after, Apart, At, Attributes, Dentries, Descriptors, false≢true, folder_attributes, Handle, handle_of, handles_of, is_folder, Layer, list_any, Location, Name, nat_cmp, node_at, NodeId, OpenDirectory, option_and_then, option_map, Path, State, Table, Tree}
+use Rattle.mount_calls.proofs.Words.{after, Apart, At, Attributes, Dentries, Descriptors, Directory, false≢true, File, file_in, folder_attributes, Handle, handle_of, handles_of, is_folder, Layer, list_any, Location, Name, nat_cmp, node_at, NodeId, OpenDirectory, option_and_then, option_map, Path, State, Table, Tree}
 use Rattle.ov_base.specs.declared.call.CallOf.TheVariants as call
 use Rattle.plain_model.specs.Changes.{re_ways, way_of}
 use Rattle.plain_model.proofs.Paths.{place}
@@ -12,20 +12,53 @@ use Rattle.open_handles.specs.Descriptors.{opened}
 use Rattle.object_table.specs.declared.dentry.Unlisted.TheVariants as unlisted
 use Rattle.object_table.specs.Opened as places
 use Rattle.object_table.specs.Opened.{NoneBelow}
+use Rattle.object_table.specs.Objects.{left_of}
 use Rattle.object_table.specs.Renames.{Moves}
 use Rattle.open_handles.specs.declared.handle.Handle as handles
 use Rattle.open_handles.specs.declared.clients.Clients.{Clients}
+use Rattle.open_handles.specs.declared.handle.On.{On}
 use Rattle.open_handles.specs.Attaching.{opened_by}
 use Rattle.mount_calls.specs.Files.{AreOne, IsOpenOn}
-use Rattle.mount_calls.specs.States.{Stands, IsHandle, IsOpenAs, IsSlot, AreTables}
+use Rattle.mount_calls.specs.States.{Stands, IsHandle, IsOpenAs, IsOpenOnAs, IsSlot, AreTables}
 use Rattle.mount_calls.proofs.Carrying.{CarriesFiles, file-on, open-on}
-use Rattle.mount_calls.proofs.Changing.{stands-on, still-folder}
+use Rattle.mount_calls.proofs.Changing.{folder-above, stands-on, still-folder}
 use Rattle.mount_calls.proofs.Serving.{handle-now, one-fewer, slot-as}
+use Rattle.mount_calls.proofs.Slots.{of-on}
+
+-- a path doesn't lead to a directory
+abbrev pub LeadsToNone : Tree → Path → Type 0
+LeadsToNone t p = (d : NodeId) → node_at t p ≡ Some d → is_folder (t d) ≡ true → ⊥
+
+-- then no directory is below it
+none-above : (t : Tree) (p : Path) → LeadsToNone t p → (r : Path) (d : NodeId) → node_at t (r ++ p) ≡ Some d → is_folder (t d) ≡ true → ⊥
+none-above t p none [] d at f = none d at f
+none-above t p none (n ∷ r) d at f =
+    let up = folder-above t (r ++ p) n d at in
+    none-above t p none r up.0 up.1 up.2
 
 -- a handle is alike still with another way in
 module _ (U : Layer) (lowers : List Layer) (t : Tree) (ds : Dentries) (way : Option (NodeId × Name)) where
   pub way-open : (o : handles.Handle) (h : Handle) → IsOpenAs U lowers t ds o h → IsOpenAs U lowers t ds o (record h { way = way })
-  way-open o h is = grind arith
+  way-open o h is = by o.on is
+    where
+      by : (on : On) → IsOpenOnAs U lowers t ds o.object on h → IsOpenOnAs U lowers t ds o.object on (record h { way = way })
+      by (Directory listing) x = record {
+        location = x.location;
+        located = x.located;
+        stands = x.stands;
+        directory = x.directory;
+        access = ap (λ (z : Handle). record z { way = way }) x.access;
+        left = x.left;
+      }
+      by (File f) x = record {
+        source = of-on U U lowers t t f.source f.low h (record h { way = way }) refl refl (λ k e live. live) (λ leaf. leaf) x.source;
+        own = x.own;
+        reads = x.reads;
+        writes = x.writes;
+        append = x.append;
+        place = x.place;
+        unlisted = x.unlisted;
+      }
 
 -- tables in which handles get other ways in have the same clients, each with as many descriptors
 ways-attached :
@@ -87,7 +120,7 @@ module _
             descriptor = z.descriptor;
             file = z.file;
             handle = h;
-            opened = sym (opened-same clients new same z.client z.descriptor) ∙ z.opened;
+            opened = sym (ap file_in (opened-same clients new same z.client z.descriptor)) ∙ z.opened;
             key = z.key;
             on = on;
             at = ap (λ (g : Handle). g.node) is ∙ z.at;
@@ -102,7 +135,7 @@ module _
     pub located : places.opened es k ≡ Some location
     pub stands : Stands u location d
 
-  module _ (ds es : Dentries) (replaced : Option Attributes) (moves : Moves ds es p q (option_map unlisted.Removed replaced)) (below : NoneBelow ds q)
+  module _ (ds es : Dentries) (replaced : Option Attributes) (moves : Moves ds es p q (Some (left_of replaced))) (below : NoneBelow ds q)
       (copied : (k : ℕ) → places.opened ds k ≡ Some (At q) → IsSome replaced)
       (has : (a : Attributes) → replaced ≡ Some a → (e : NodeId) → node_at s.tree q ≡ Some e → folder_attributes (s.tree e) ≡ Some a) where
     -- the directory that was replaced
@@ -114,7 +147,7 @@ module _
         let gone = x.empty d at f in
         record {
           location = Apart (unlisted.Removed a);
-          located = moves.removed k (unlisted.Removed a) (ap (option_map unlisted.Removed) e) on;
+          located = moves.removed k (unlisted.Removed a) (ap (λ z. Some (left_of z)) e) on;
           stands = record { hidden = gone.1; empty = gone.0; attributes = still ∙ has a e d at };
         }
 
@@ -161,6 +194,26 @@ module _
         let then = stands-then is.location o.directory h.node is.located is.stands is.directory still in
         handle-now s.tree u ds es o h is then.location then.located then.stands (still-folder (s.tree h.node) (u h.node) still is.directory)
 
+  -- where neither path leads to a directory, each open directory stands where it stood
+  module _ (ds : Dentries) (left : LeadsToNone s.tree p) (entered : LeadsToNone s.tree q) where
+    stands-still :
+        (l : Location) (d : NodeId) → Stands s.tree l d → is_folder (s.tree d) ≡ true → Stands u l d
+    stands-still (Apart a) d gone f = stands-on s.tree u x.hidden (Apart a) d f (λ y e at. cc) gone
+    stands-still (At y) d at f = elim (place p y) [
+      | inl b ↦ absurd (none-above s.tree p left b.0 d (ap (node_at s.tree) (sym b.1) ∙ at) f)
+      | inr out ↦ elim (place q y) [
+        | inl b ↦ absurd (none-above s.tree q entered b.0 d (ap (node_at s.tree) (sym b.1) ∙ at) f)
+        | inr away ↦ x.follows y y (Stays out away refl) ∙ at
+      ]
+    ]
+
+    -- and so does a handle on one
+    pub handle-still :
+        (b fd : ℕ) (o : OpenDirectory) (h : Handle) → handle_of s.tables b fd ≡ Some h → IsHandle s.tree ds o h → IsHandle u ds o h
+    handle-still b fd o h on is =
+        handle-now s.tree u ds ds o h is is.location is.located (stands-still is.location h.node is.stands is.directory)
+        (still-folder (s.tree h.node) (u h.node) (x.held b fd h on) is.directory)
+
   -- what is open is alike still
   pub open-renamed :
       (U : Layer) (ds es : Dentries) →
@@ -172,5 +225,5 @@ module _
       way-open V lowers u es way o h
       (open-on U V lowers s.tree u ds es o h
       (λ d e. directories b fd d h on)
-      (λ f e is. file-on U V lowers s.tree u f h is (λ k. files.live b fd f h k (at ∙ ap Some e) on) (files.leaves b fd h on) (files.owns h.node))
+      (λ f e is. file-on U V lowers s.tree u f h is (λ k. files.live b fd f h k (ap file_in at ∙ e) on) (files.leaves b fd h on) (files.owns h.node))
       is)

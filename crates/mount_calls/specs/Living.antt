@@ -1,6 +1,6 @@
 -- What changes of the layers leave of open files: those of the upper stay live (POSIX.1-2017, unlink() and close(): a file without a name
 -- is there until its last descriptor is closed).
-use Rattle.std.specs.Prelude.{◌≡◌, ℕ, ◌<◌, Bool, true, Some, List}
+use Rattle.std.specs.Prelude.{◌≡◌, ◌≢◌, ℕ, ◌<◌, Bool, true, Some, List}
 use Rattle.ov_base.specs.declared.bytes.Content.TheVariants as content
 use Rattle.ov_base.specs.Calls.{Call}
 use Rattle.ov_base.specs.declared.node_id.NodeId.{NodeId}
@@ -69,9 +69,11 @@ pub record KeepsPaths (old new : Layers) : Type 0 where
   pub inodes :
       (x : Path) (k : ℕ) → held (upper_of old) x ≡ Some (Named k) → (upper_of new).inodes k ≡ (upper_of old).inodes k
 
--- The file of this key was closed. Where it has no name and no handle holds it any more, it is gone; else nothing changes.
+-- The file of this key was closed. Where it has no name and no handle holds it any more, it is gone; else nothing changes. Other inodes
+-- stay in either case.
 pub record FreesClosed (clients : Clients) (old new : Layers) (k : ℕ) : Type 0 where
   pub keeps : KeepsPaths old new
+  pub others : (j : ℕ) → j ≢ k → (upper_of new).inodes j ≡ (upper_of old).inodes j
   pub held : HasFile clients k → new ≡ old
   pub named : (i : Inode) → (upper_of old).inodes k ≡ Some i → 0 < i.links → new ≡ old
   pub freed :

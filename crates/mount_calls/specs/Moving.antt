@@ -77,6 +77,7 @@ IsFreeFor objects p q object.Other e key = Unit {0}
 -- key is that under which the upper has it.
 pub record MovesFile (m : Mount) (p q : Path) (course : Course) (key : ℕ) : Type 0 where
   pub file : course.object ≢ object.Directory
+  pub apart : p ≢ q
   pub found : IsNumberOf m.clients.objects p course.object course.number
   pub present : IsNumberOf m.clients.objects q course.over course.replaced
   pub room : HasRoom m.clients.objects p course.object

@@ -1,7 +1,7 @@
 // What a rename finds and holds before the layers change, and leads along after.
 ghost use Rattle.std.specs.Prelude.{◌≡◌, ◌≢◌, ◌+◌, ◌<◌, ◌≤◌, ℕ, [], IfOk, OnErr, OnOk, Some};
 ghost use Rattle.plain_model.specs.Layers.{Path as Names};
-ghost use Rattle.object_table.specs.Objects.{AreFewer, IsPrepared};
+ghost use Rattle.object_table.specs.Objects.{AreFewer, IsPrepared, Spot, spot_of};
 ghost use Rattle.open_handles.specs.declared.way.Way.{Way};
 ghost use Rattle.open_handles.specs.Attaching.{beside, tables_of, HoldsNoMore, KeepsAttached};
 ghost use Rattle.open_handles.specs.Attaching.{KeepsClients, SameBeside};
@@ -44,6 +44,7 @@ impl Mount {
         ensures stays { StaysState self.old self.new }
         ensures err { OnErr result (HoldsNoMore self.old.clients self.new.clients) }
     {
+        self.clients.lawful();
         let number = self.number_of(old, object);
         let from = self.clients.way_to(old);
         let led = self.count_led(number, &from);
@@ -63,6 +64,7 @@ impl Mount {
             Ok(()) => Ok(course),
             Err(fault) => {
                 self.unpin(&course);
+                self.clients.lawful();
                 Err(fault)
             }
         }
@@ -85,6 +87,10 @@ impl Mount {
         ensures held { MayHold self.old.clients.objects self.new.clients.objects path.now }
         ensures way { IfOk result (IsWayTo self.new.clients.objects path.now) }
         ensures some { 0 < count → IfOk result (λ to. (w : Way) × (to ≡ Some w)) }
+        ensures none { count ≡ 0 → self.new ≡ self.old }
+        ensures kept { (n : ℕ) (spot : Spot) → OnOk result
+            (spot_of self.old.clients.objects n ≡ Some spot →
+            spot_of self.new.clients.objects n ≡ Some spot) }
         ensures beside { IfOk result (λ to. (n : ℕ) → beside self.new.clients n ≡
             beside self.old.clients n + way_times count to n) }
         ensures only { self.new ≡ record self.old { clients = self.new.clients } }
@@ -168,7 +174,9 @@ impl Mount {
         ensures stays { StaysState self.old self.new }
     {
         self.lose_name(course.replaced, course.over);
-        self.lift(course.number, course.object, key);
+        if let Object::Lower = course.object {
+            self.lift(course.number, course.object, key);
+        }
     }
 
     /// Leads the handles on what moved that came by the old way to the new one, whose directory was

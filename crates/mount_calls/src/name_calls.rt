@@ -159,7 +159,8 @@ impl Mount {
             directory,
             place,
             number,
-        )
+        )?;
+        Ok(())
     }
 
     /// Judges a rmdir of what was seen at a path. Gives the merged directory in which the name
@@ -203,6 +204,7 @@ impl Mount {
         ensures beside { SameBeside self.old.clients self.new.clients }
         ensures err { OnErr result (self.new.clients ≡ self.old.clients) }
     {
+        self.clients.lawful();
         let attributes = self.attributes_seen(look, number)?;
         rmdir_and_free(&mut self.layers, &self.clients, path, directory)?;
         if let (Some(number), Some(attributes)) = (number, attributes) {

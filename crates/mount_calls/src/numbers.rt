@@ -1,9 +1,10 @@
 // The numbers of what a call changes, and what becomes of the objects by it.
-ghost use Rattle.std.specs.Prelude.{◌≡◌, ◌<◌, ◌≤◌, ℕ, None, Some, IsSome, OnOk, true};
+ghost use Rattle.std.specs.Prelude.{◌≡◌, ◌≢◌, ◌<◌, ◌≤◌, ℕ, None, Some, IsSome, OnOk, true};
 ghost use Rattle.plain_model.specs.Layers.{Path as Names};
 ghost use Rattle.object_table.specs.Objects.{Nowhere, Upper, holders_of, room, spot_of, IsBare};
 ghost use Rattle.object_table.specs.Objects.{IsVacant, SetsSpot};
-ghost use Rattle.open_handles.specs.Attaching.{tables_of, HoldsNoMore, KeepsClients, SameBeside};
+ghost use Rattle.open_handles.specs.Listings.{OpenDirectory};
+ghost use Rattle.open_handles.specs.Attaching.{directory_by, tables_of, HoldsNoMore, KeepsClients, SameBeside};
 ghost use Rattle.open_handles.specs.Holding.{IsWayTo};
 ghost use Rattle.notice_laws.specs.Objects.{IsNumberOf};
 ghost use Rattle.notice_laws.specs.Steps.{is_last_name, Lifts, Loses};
@@ -95,14 +96,18 @@ impl Mount {
         ensures only { self.new ≡ record self.old { clients = self.new.clients } }
         ensures stays { StaysState self.old self.new }
     {
+        self.clients.lawful();
         if let (Some(number), Object::Lower) = (number, object) {
             self.clients.rise(number, key);
         }
     }
 
-    /// Notes that a file that was made is in the upper under a key now. It takes no memory.
+    /// Notes that a file that was made, on which no directory is open, is in the upper under a key
+    /// now. It takes no memory.
     pub fn lift_new(&mut self, number: usize, key: usize)
         requires nowhere { spot_of self.old.clients.objects number ≡ Some Nowhere }
+        requires file { (c d : ℕ) (o : OpenDirectory) →
+            directory_by self.old.clients c d ≡ Some o → o.directory ≢ number }
         requires room { 0 < room self.old.clients.objects }
         requires vacant { IsVacant self.old.clients.objects (Upper key) }
         ensures clients { KeepsClients self.old.clients self.new.clients }
@@ -132,6 +137,7 @@ impl Mount {
         ensures only { self.new ≡ record self.old { clients = self.new.clients } }
         ensures stays { StaysState self.old self.new }
     {
+        self.clients.lawful();
         match number {
             Some(lost) if is_last_name(object) => self.clients.lose(lost),
             _ => (),

@@ -1,9 +1,11 @@
-use Rattle.std.proofs.Common.{true, false, ◌∙◌, Some}
-use Rattle.mount_calls.proofs.Freed.{moves-then}
+use Rattle.std.proofs.Common.{true, false, sym, ◌∙◌, Some}
+use Rattle.merged_lookup.specs.Merged.{upper_of, lowers_of}
+use Rattle.mount_calls.proofs.Freed.{moves-then, not-some, released-named}
 use Rattle.mount_calls.proofs.Frames.{renames-moved, renames-parents}
 use Rattle.mount_calls.proofs.Keys.{folder-key, named-key}
 use Rattle.copy_up.proofs.Keeping.{on-err}
 use Rattle.mount_calls.proofs.Lasting.{both-live}
+use Rattle.mount_calls.proofs.Renaming.{file-target}
 use Rattle.copy_up.proofs.Texts.{texts-after}
 use Rattle.mount_calls.proofs.removals.rename_and_free.Goals as goal
 
@@ -34,6 +36,16 @@ returns-in-Directory-clause-key c =
 pub returns-in-Directory-clause-texts : goal.returns-in-Directory-clause-texts
 returns-in-Directory-clause-texts c =
     texts-after c.args.layers.now c.rename.new.layers c.free_released.new.layers (Some c.args.old.now) c.rename.ensures.texts c.free_released.ensures.texts
+
+pub free_released-in-Inode-requires-clause-held : goal.free_released-in-Inode-requires-clause-held
+free_released-in-Inode-requires-clause-held c = λ key is off has.
+    let does = rw c.in-Inode.is at c.in_ok-renamed.ensures.does in
+    let l = c.args.layers.now in
+    let may = c.requires.may.1 in
+    c.requires.held (not-some c.args.replaced (sym c.is_some.ensures ∙ off)) key
+    (released-named l c.args.new.now c.in-Inode.released key
+    (file-target (upper_of l) (lowers_of l) c.requires.may.0 c.args.old.now c.args.new.now may.apart may.fine does.0.kind)
+    does.0.replaces.handed_back is) has
 
 pub returns-in-Inode-clause-moves : goal.returns-in-Inode-clause-moves
 returns-in-Inode-clause-moves c = λ redirects may.

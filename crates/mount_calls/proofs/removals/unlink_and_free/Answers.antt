@@ -1,18 +1,19 @@
-use Rattle.std.proofs.Common.{None}
+use Rattle.std.proofs.Common.{None, sym, ap, ◌∙◌}
+use Rattle.plain_model.specs.Layers.{is_directory}
 use Rattle.ov_base.specs.declared.call.CallOf.TheVariants as call
 use Rattle.copy_up.proofs.Keeping.{on-err, sound-then}
 use Rattle.copy_up.proofs.Texts.{texts-after, texts-gained}
 use Rattle.mount_calls.proofs.Frames.{none-parents, none-taken}
-use Rattle.mount_calls.proofs.Freed.{takes-then, removes-then}
+use Rattle.mount_calls.proofs.Freed.{not-some, released-named, removes-then, takes-then}
 use Rattle.mount_calls.proofs.Lasting.{parents-live, unlink-held}
 use Rattle.mount_calls.proofs.Texts.{texts-unnamed}
 use Rattle.mount_calls.proofs.removals.unlink_and_free.Goals as goal
 
-pub object_in-object-requires : goal.object_in-object-requires
-object_in-object-requires c = (c.args.path.now, c.requires.shown)
-
-pub returns-clause-object : goal.returns-clause-object
-returns-clause-object c = c.object_in-object.ensures c.args.path.now c.requires.shown
+pub free_released-requires-clause-held : goal.free_released-requires-clause-held
+free_released-requires-clause-held c = λ key is off has.
+    c.requires.held (not-some c.args.number (sym c.is_some.ensures ∙ off)) key
+    (released-named c.args.layers.now c.args.path.now c.in_ok-key.key key (ap is_directory c.requires.judged.shown.shown)
+    c.in_ok-key.ensures.unnames.handed_back is) has
 
 pub returns-clause-takes : goal.returns-clause-takes
 returns-clause-takes c = takes-then c.args.layers.now c.unlink.new.layers c.free_released.new.layers c.args.path.now c.free_released.ensures.held c.free_released.ensures.same c.free_released.ensures.sound.layers c.in_ok-key.ensures.takes

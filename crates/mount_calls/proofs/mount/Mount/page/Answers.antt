@@ -3,7 +3,6 @@ use Rattle.std.specs.Option.{IsSomeAnd, option_and_then}
 use Rattle.merged_lookup.specs.Merged.{layers_of}
 use Rattle.mount_calls.specs.States.{AreNamesIn}
 use Rattle.open_handles.specs.Attaching.{directory_by, path_of}
-use Rattle.open_handles.proofs.Slots.{directory-is}
 use Rattle.mount_calls.proofs.Answering.{page-failed}
 use Rattle.mount_calls.proofs.Paging.{page-kept, page-fresh}
 use Rattle.mount_calls.proofs.mount.Mount.page.Goals as goal

@@ -10,8 +10,8 @@ use Rattle.mount_calls.proofs.Seeking.{seek-done, seek-refused}
 use Rattle.mount_calls.proofs.Serving.{keeps-attached}
 use Rattle.mount_calls.proofs.mount.Mount.seek.Goals as goal
 
-pub returns-in-Some : goal.returns-in-Some
-returns-in-Some c =
+pub returns-in-Some-clause-makes : goal.returns-in-Some-clause-makes
+returns-in-Some-clause-makes c =
     let m = c.args.self.now in
     let offset = to_z-of_z w64 c.args.offset c.ranges.offset in
     let fault : seek_fault (opened_by c.args.self.now.clients c.args.client c.args.descriptor) c.args.offset c.args.whence ≡ Some c.in-Some.errno =
@@ -19,13 +19,13 @@ returns-in-Some c =
     makes-read c.args.client (call.Seek c.args.descriptor c.args.offset c.args.whence) m m (attached-same m.clients) refl (reply.Refused c.in-Some.errno) (λ s. refl)
     (λ s st. seek-refused m s st c.args.client c.args.descriptor c.args.offset c.args.whence c.in-Some.errno fault)
 
-pub returns-in-None : goal.returns-in-None
-returns-in-None c =
+pub returns-in-None-clause-makes : goal.returns-in-None-clause-makes
+returns-in-None-clause-makes c =
     let m = c.args.self.now in
     let new = c.rewind.new.self in
     let offset = to_z-of_z w64 c.args.offset c.ranges.offset in
     let none : seek_fault (opened_by c.args.self.now.clients c.args.client c.args.descriptor) c.args.offset c.args.whence ≡ None =
     sym (c.in_default.ensures ∙ ap (λ (z : ℤ). seek_fault (opened_by c.args.self.now.clients c.args.client c.args.descriptor) z c.args.whence) offset) in
     makes-read c.args.client (call.Seek c.args.descriptor c.args.offset c.args.whence) m (record m { clients = new })
-    (keeps-attached m.clients new c.args.client _ c.rewind.ensures) refl (reply.Place 0) (λ s. refl)
-    (λ s st. seek-done m s st c.args.client c.args.descriptor c.args.offset c.args.whence new none (sym c.in-None.ensures) c.rewind.ensures)
+    (keeps-attached m.clients new c.args.client _ c.rewind.ensures.changes) refl (reply.Place 0) (λ s. refl)
+    (λ s st. seek-done m s st c.args.client c.args.descriptor c.args.offset c.args.whence new none (sym c.in-None.ensures) c.rewind.ensures.changes)

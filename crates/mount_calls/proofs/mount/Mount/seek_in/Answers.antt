@@ -9,8 +9,8 @@ use Rattle.mount_calls.proofs.Seeking.{file-sought, file-unsought}
 use Rattle.mount_calls.proofs.Serving.{keeps-attached}
 use Rattle.mount_calls.proofs.mount.Mount.seek_in.Goals as goal
 
-pub returns-in-Ok : goal.returns-in-Ok
-returns-in-Ok c =
+pub returns-in-Ok-clause-makes : goal.returns-in-Ok-clause-makes
+returns-in-Ok-clause-makes c =
     let m = c.args.self.now in
     let new = c.move_to.new.self in
     let same = to_z-of_z w64 c.args.offset c.ranges.offset in
@@ -19,11 +19,11 @@ returns-in-Ok c =
     sym (c.in-Ok.ensures ∙ ap (λ (z : ℤ). seek_place c.args.file c.size_of-size.result z c.args.whence) same
     ∙ ap (λ n. seek_place c.args.file n c.args.offset c.args.whence) c.size_of-size.ensures) in
     makes-read c.args.client (call.Seek c.args.descriptor c.args.offset c.args.whence) m (record m { clients = new })
-    (keeps-attached m.clients new c.args.client _ c.move_to.ensures) refl (reply.Place c.in-Ok.place) (λ s. refl)
-    (λ s st. file-sought m s st c.args.client c.args.descriptor c.args.offset c.args.whence c.args.file c.requires bytes c.bytes_in.ensures c.in-Ok.place to new c.move_to.ensures)
+    (keeps-attached m.clients new c.args.client _ c.move_to.ensures.changes) refl (reply.Place c.in-Ok.place) (λ s. refl)
+    (λ s st. file-sought m s st c.args.client c.args.descriptor c.args.offset c.args.whence c.args.file c.requires bytes c.bytes_in.ensures c.in-Ok.place to new c.move_to.ensures.changes)
 
-pub returns-in-Err : goal.returns-in-Err
-returns-in-Err c =
+pub returns-in-Err-clause-makes : goal.returns-in-Err-clause-makes
+returns-in-Err-clause-makes c =
     let m = c.args.self.now in
     let same = to_z-of_z w64 c.args.offset c.ranges.offset in
     let bytes : List ℕ = unwrap_or (option_copied c.bytes_in.result) [] in
