@@ -1,5 +1,7 @@
 pub mod Shown
 pub mod Watching
+pub mod Counted
+pub mod Between
 pub mod Performing
 pub mod Instances
 pub mod Arriving

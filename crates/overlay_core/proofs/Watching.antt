@@ -19,7 +19,7 @@ use Rattle.merged_lookup.specs.declared.layers.Layers.{Layers}
 use Rattle.merged_lookup.specs.Merged.{upper_of, lowers_of}
 use Rattle.mount_laws.specs.Looks.{IsMountOf}
 use Rattle.mount_laws.proofs.OneName.{law_of_one_name_kept}
-use Rattle.notice_laws.specs.Notified.{AreBorne, IsSlotOn, Notified, Passes, Resumes, Tracks, stands_for}
+use Rattle.notice_laws.specs.Notified.{Notified, Passes, Resumes, Tracks}
 use Rattle.notice_laws.proofs.Staying.{law_of_staying}
 use Rattle.notifier.specs.Notifying.{notified}
 use Rattle.notifier.specs.Watches.{Watches}
