@@ -170,12 +170,12 @@ module _ (U : Layer) (lowers : List Layer) (s : State) (m : IsMountOf U lowers s
 module _ (U : Layer) (lowers : List Layer) (s : State) (m : IsMountOf U lowers s) (clients : Clients) (w : Watches)
     (t : Tracks U s (notified clients w)) (p : Path) (o : Object) (is : IsObject U lowers p o) (file : shows_link (shows 0 (U ∷ lowers) p) ≡ false)
     (held : Objects) (number : ℕ) (at : HoldsObject clients.objects held p o number) where
-  abbrev k : Notified
-  k = notified clients w
+  abbrev view : Notified
+  view = notified clients w
 
   -- what is held is tracked
-  pub tracks-held : Tracks U s (record k { objects = held })
-  tracks-held = law_of_held_number U lowers s m k t p o at.spot is file at.stands held number at.holds
+  pub tracks-held : Tracks U s (record view { objects = held })
+  tracks-held = law_of_held_number U lowers s m view t p o at.spot is file at.stands held number at.holds
 
   -- its number means the node that stands there
   means-held : Means held tracks-held.bearers (Some number) (node_at s.tree p)
@@ -184,8 +184,8 @@ module _ (U : Layer) (lowers : List Layer) (s : State) (m : IsMountOf U lowers s
       (number-at held p o at.spot number at.stands at.holds.sets.here)
 
   -- a client's instance answers with it as the state's does
-  asked-held : (c : ℕ) → AnswersAlike (stands_for held tracks-held.bearers) (instance_of k.instances c) (instance_of s.instances c)
-  asked-held c = law_of_asked U s (record k { objects = held }) tracks-held c
+  asked-held : (c : ℕ) → AnswersAlike (stands_for held tracks-held.bearers) (instance_of w.instances c) (instance_of s.instances c)
+  asked-held c = law_of_asked U s (record view { objects = held }) tracks-held c
 
   -- an arm of it gives the watch that one of the node gives
   pub held-number : (c : ℕ) → watch_of w c number ≡ number_of (watch_on (watches_of (instance_of s.instances c)) (node_at s.tree p)) (next_number (instance_of s.instances c))
@@ -196,7 +196,7 @@ module _ (U : Layer) (lowers : List Layer) (s : State) (m : IsMountOf U lowers s
       by None h = absurd h
       by (Some d) h =
           let a = asked-held c in
-          ap (λ n. number_of (watch_on (watches_of (instance_of k.instances c)) (Some (New number))) n) a.next
+          ap (λ n. number_of (watch_on (watches_of (instance_of w.instances c)) (Some (New number))) n) a.next
           ∙ a.number (New number) d (next_number (instance_of s.instances c)) (number, refl, h.0, h.1)
 
 -- the refusal of an arm, by what the mount and its watches say

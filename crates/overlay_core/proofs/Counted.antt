@@ -49,7 +49,7 @@ tracked-held clients known c d h is n =
         subst (λ x. handle_uses n x ≤ holders_of clients.objects n) same (known.opened c d g at n)
 
 -- a number counts once where it is asked for itself
-once : (n : ℕ) → cond (nat_eq n n) 1 0 ≡ 1
+once : (n : ℕ) → ◌≡◌ {A = ℕ} (cond (nat_eq n n) 1 0) 1
 once n = ap (λ b. cond b 1 0) (eq-eqb n n refl)
 
 -- WHAT IS HELD AND COUNTED IS KNOWN: every number of a watch, a handle or a way has an object

@@ -24,7 +24,7 @@ use Rattle.open_handles.specs.Attaching.{HoldsNoMore, KeepsAttached, is_attached
 use Rattle.mount_calls.specs.Keeping.{KeepsLayers}
 use Rattle.mount_calls.specs.Living.{KeepsNamed}
 use Rattle.mount_calls.specs.Making.{MakesCall}
-use Rattle.mount_calls.specs.States.{HasStateOf, IsStateOf, Serves}
+use Rattle.mount_calls.specs.States.{HasStateOf, IsStateOf, Serves, StaysState}
 use Rattle.mount_calls.proofs.Frames.{same-layers}
 use Rattle.overlay_core.specs.Watching.{Agrees, Goes, HasState, Keeps, Stays}
 use Rattle.overlay_core.proofs.Counted.{same-fewer, tracks-fewer}

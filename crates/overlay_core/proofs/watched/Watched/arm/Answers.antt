@@ -32,7 +32,7 @@ armed-armed-requires-clause-stands g c =
 pub armed-armed-requires-clause-judged : goal.armed-armed-requires-clause-judged
 armed-armed-requires-clause-judged g c =
     subst (IsArmJudged c.args.self.now.mount.clients c.args.self.now.notifier c.args.client c.args.slot c.args.path.now c.in-Ok.object) c.in_default-arm_refusal.is
-    c.arm_refusal.ensures
+    (record { number = c.number_of-number.result; found = c.number_of-number.ensures; judged = c.arm_refusal.ensures })
 
 pub returns-in-Err-clause-goes : goal.returns-in-Err-clause-goes
 returns-in-Err-clause-goes g c =
@@ -52,7 +52,7 @@ returns-in-Some-clause-goes g c =
     let said = c.in-Ok.ensures in
     object-refused g.R.Rule.shows c.args.self.now.mount old c.args.client c.args.slot c.args.path.now c.args.mask c.in-Ok.object
     c.requires.there c.in_default.ensures said.allowed said.object c.in-Some.errno
-    (subst (IsArmJudged c.args.self.now.mount.clients old c.args.client c.args.slot c.args.path.now c.in-Ok.object) c.in-Some.is c.arm_refusal.ensures)
+    (subst (IsArmJudged c.args.self.now.mount.clients old c.args.client c.args.slot c.args.path.now c.in-Ok.object) c.in-Some.is (record { number = c.number_of-number.result; found = c.number_of-number.ensures; judged = c.arm_refusal.ensures }))
 
 pub returns-in_err-number-clause-err : goal.returns-in_err-number-clause-err
 returns-in_err-number-clause-err g c =
@@ -75,7 +75,7 @@ returns-in_err-number-clause-allowed g c =
     on-err c.from_residual.result _
     (arm-judged c.args.self.now.mount old c.args.client c.args.slot c.args.path.now c.args.mask c.in-Ok.object c.in_default.ensures said.allowed
     said.object None
-    (subst (IsArmJudged c.args.self.now.mount.clients old c.args.client c.args.slot c.args.path.now c.in-Ok.object) c.in_default-arm_refusal.is c.arm_refusal.ensures))
+    (subst (IsArmJudged c.args.self.now.mount.clients old c.args.client c.args.slot c.args.path.now c.in-Ok.object) c.in_default-arm_refusal.is (record { number = c.number_of-number.result; found = c.number_of-number.ensures; judged = c.arm_refusal.ensures })))
 
 pub returns-clause-goes : goal.returns-clause-goes
 returns-clause-goes g c =
@@ -89,7 +89,7 @@ returns-clause-goes g c =
     let mask = c.args.mask in
     let number = c.in_ok-number.number in
     let said = c.in-Ok.ensures in
-    let judged = subst (IsArmJudged m.clients old client slot p c.in-Ok.object) c.in_default-arm_refusal.is c.arm_refusal.ensures in
+    let judged = subst (IsArmJudged m.clients old client slot p c.in-Ok.object) c.in_default-arm_refusal.is (record { number = c.number_of-number.result; found = c.number_of-number.ensures; judged = c.arm_refusal.ensures }) in
     let clients = c.armed-armed.new.clients in
     let lawful = c.lawful.ensures in
     let says = c.armed-armed.ensures in
