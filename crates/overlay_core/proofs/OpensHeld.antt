@@ -1,6 +1,6 @@
 -- What an open holds beforehand, and what is let go of it where memory runs out: what is kept for
 -- watches agrees with each state still.
-use Rattle.std.proofs.Common.{arith, ◌≡◌, ◌≢◌, ◌∙◌, ℕ, ◌+◌, ◌≤◌, true, cond, nat_eq, eq-eqb}
+use Rattle.std.proofs.Common.{arith, ◌≡◌, ◌≢◌, ◌∙◌, ℕ, ◌+◌, ◌≤◌, true, cond, nat_eq, eq-eqb, [], ◌∷◌}
 use Rattle.std.proofs.Common.{Option, None, Some, is_some, refl, sym, ap, subst, inl, inr, ◌⊎◌}
 use Rattle.std.proofs.lemmas.Bool.{cases_eq, false≢true}
 use Rattle.ov_base.specs.declared.call.CallOf.TheVariants.{Open}
@@ -13,25 +13,27 @@ use Rattle.merged_lookup.specs.declared.found.Topmost.{Topmost}
 use Rattle.merged_lookup.specs.Merged.{layers_of, lowers_of, IsTopmost}
 use Rattle.mount_laws.specs.Opening.{opening_fault}
 use Rattle.mount_laws.proofs.Opening.{law_of_open_refusal}
-use Rattle.object_table.specs.Objects.{At, AreFewer, Objects, SameSpots, Spot, holders_of, spot_of}
+use Rattle.object_table.specs.Objects.{At, AreFewer, Holds, IsVacant, Objects, SameSpots, Spot}
+use Rattle.object_table.specs.Objects.{holders_of, spot_of}
 use Rattle.open_handles.specs.declared.clients.Clients.{Clients}
 use Rattle.open_handles.specs.declared.handle.Hold.{Hold}
 use Rattle.open_handles.specs.Attaching as held
 use Rattle.open_handles.specs.Attaching.{beside, is_attached, tables_of, KeepsClients, LetsGo}
-use Rattle.open_handles.specs.Holding.{HoldsNew, uses_in}
+use Rattle.open_handles.specs.Holding.{HoldsNew, HoldsWay, IsHeldWay, uses_in}
 use Rattle.open_handles.specs.TrackedHandles.{SameTracked, handle_uses}
 use Rattle.open_handles.proofs.Counting.{IsCounted}
 use Rattle.notice_laws.specs.declared.object.Object.{Object}
 use Rattle.notice_laws.specs.declared.object.Object.TheVariants as object
 use Rattle.notice_laws.specs.Notified.{AreKnown, IsSlotOn, Notified, Tracks}
-use Rattle.notice_laws.specs.Objects.{IsObject}
+use Rattle.notice_laws.specs.Objects.{IsNumberOf, IsObject}
+use Rattle.open_handles.specs.declared.way.Way.{Way}
 use Rattle.notice_laws.proofs.FewerObjects.{law_of_fewer_numbers}
 use Rattle.notifier.specs.Notifying.{notified}
 use Rattle.notifier.specs.Watches.{Watches}
 use Rattle.mount_calls.specs.declared.open_calls.Judged.{Judged}
 use Rattle.mount_calls.specs.declared.mount.Mount.{Mount}
 use Rattle.mount_calls.specs.Looking.{IsJudged}
-use Rattle.mount_calls.specs.Numbers.{HoldsFor, IsHeldAt, KeepsOpen}
+use Rattle.mount_calls.specs.Numbers.{HasRoom, HasRoomFor, HoldsFor, IsHeldAt, KeepsOpen}
 use Rattle.mount_calls.specs.States.{IsStateOf}
 use Rattle.overlay_core.specs.Watching.{Agrees}
 use Rattle.overlay_core.proofs.Counted.{known-room, same-fewer}
@@ -170,3 +172,55 @@ held-at m first p top o hold shown stands holds d is = by o stands holds
     by object.Other (inr link) h =
         let x = shows 0 (layers_of m.layers) p in
         absurd (false≢true (sym (directory-no-link x folder) ∙ link))
+
+-- what is held for an open of what stands there has its number
+pub held-number : (old new : Objects) (p : Path) (o : Object) (h : Hold) → o ≢ object.Other →
+    HoldsFor old new p o h → IsNumberOf new p o (Some h.object)
+held-number old new p object.Directory h isnt holds = holds.object.sets.here
+held-number old new p object.Lower h isnt holds = holds.object.sets.here
+held-number old new p (object.Upper key last) h isnt holds = holds.object.sets.here
+held-number old new p object.Other h isnt holds = absurd (isnt refl)
+
+-- and its way in
+pub held-way : (old new : Objects) (p : Path) (o : Object) (h : Hold) → o ≢ object.Other →
+    HoldsFor old new p o h → IsHeldWay new p h.way
+held-way old new p o h isnt holds =
+    let at = held-spot old new p o h isnt holds in
+    way-on at.2.mid new p h.way (λ m spot is. holds-on at.2.mid new at.0 h.object m spot at.2.object is)
+    (way-held old at.2.mid p h.way at.2.way)
+  where
+    holds-on : (mid new : Objects) (spot : Spot) (n m : ℕ) (x : Spot) → Holds mid new spot n →
+        spot_of mid m ≡ Some x → spot_of new m ≡ Some x
+    holds-on mid new spot n m x holds is = by (cases_eq m n)
+      where
+        by : (m ≡ n) ⊎ (m ≡ n → ⊥) → spot_of new m ≡ Some x
+        by (inr other) = holds.sets.other_spots m other ∙ is
+        by (inl e) = was holds.was
+          where
+            was : (spot_of mid n ≡ Some spot) ⊎ (IsVacant mid spot × (spot_of mid n ≡ None)) →
+                spot_of new m ≡ Some x
+            was (inl at) =
+                ap (spot_of new) e ∙ holds.sets.here ∙ sym at ∙ ap (spot_of mid) (sym e) ∙ is
+            was (inr none) =
+                let no : None ≡ Some x = sym none.1 ∙ ap (spot_of mid) (sym e) ∙ is in absurd (cc)
+
+    way-held : (old mid : Objects) (q : Path) (w : Option Way) → HoldsWay old mid q w →
+        IsHeldWay mid q w
+    way-held old mid [] w h = h.0
+    way-held old mid (n ∷ q) None h = h
+    way-held old mid (n ∷ q) (Some w) h = (h.0.sets.here, h.1)
+
+    way-on : (mid new : Objects) (q : Path) (w : Option Way) →
+        ((m : ℕ) (spot : Spot) → spot_of mid m ≡ Some spot → spot_of new m ≡ Some spot) →
+        IsHeldWay mid q w → IsHeldWay new q w
+    way-on mid new [] w stays h = h
+    way-on mid new (n ∷ q) None stays h = h
+    way-on mid new (n ∷ q) (Some w) stays h = (stays w.directory (At q) h.0, h.1)
+
+-- there is room for a file of a lower layer that is opened for writing
+pub room-for : (objects : Objects) (p : Path) (o : Object) → HasRoomFor objects o →
+    HasRoom objects p o
+room-for objects p object.Lower room = λ n at. room
+room-for objects p object.Directory room = tt
+room-for objects p (object.Upper key last) room = tt
+room-for objects p object.Other room = tt
