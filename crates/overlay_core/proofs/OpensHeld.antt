@@ -3,7 +3,9 @@
 use Rattle.std.proofs.Common.{arith, ◌≡◌, ◌≢◌, ◌∙◌, ℕ, ◌+◌, ◌≤◌, true, cond, nat_eq, eq-eqb, [], ◌∷◌}
 use Rattle.std.proofs.Common.{Option, None, Some, is_some, refl, sym, ap, subst, inl, inr, ◌⊎◌}
 use Rattle.std.proofs.lemmas.Bool.{cases_eq, false≢true}
+use Rattle.ov_base.specs.Calls.{Call}
 use Rattle.ov_base.specs.declared.call.CallOf.TheVariants.{Open}
+use Rattle.ov_base.specs.declared.reply.Reply.{Reply}
 use Rattle.ov_base.specs.declared.call.OpenFlags.{OpenFlags}
 use Rattle.plain_model.specs.Layers.{Layer, Path, is_directory, shows}
 use Rattle.plain_model.specs.Machine.{State, handle_of}
@@ -18,9 +20,9 @@ use Rattle.object_table.specs.Objects.{holders_of, spot_of}
 use Rattle.open_handles.specs.declared.clients.Clients.{Clients}
 use Rattle.open_handles.specs.declared.handle.Hold.{Hold}
 use Rattle.open_handles.specs.Attaching as held
-use Rattle.open_handles.specs.Attaching.{beside, is_attached, tables_of, KeepsClients, LetsGo}
-use Rattle.open_handles.specs.Holding.{HoldsNew, HoldsWay, IsHeldWay, uses_in}
-use Rattle.open_handles.specs.TrackedHandles.{SameTracked, handle_uses}
+use Rattle.open_handles.specs.Attaching.{beside, is_attached, tables_of, KeepsAttached, KeepsClients, LetsGo}
+use Rattle.open_handles.specs.Holding.{HoldsNew, HoldsWay, IsHeldWay, tables_in, uses_in}
+use Rattle.open_handles.specs.TrackedHandles.{SameTracked, SetsTracked, TrackedTables, handle_uses}
 use Rattle.open_handles.proofs.Counting.{IsCounted}
 use Rattle.notice_laws.specs.declared.object.Object.{Object}
 use Rattle.notice_laws.specs.declared.object.Object.TheVariants as object
@@ -34,11 +36,14 @@ use Rattle.mount_calls.specs.declared.open_calls.Judged.{Judged}
 use Rattle.mount_calls.specs.declared.mount.Mount.{Mount}
 use Rattle.mount_calls.specs.Looking.{IsJudged}
 use Rattle.mount_calls.specs.Numbers.{HasRoom, HasRoomFor, HoldsFor, IsHeldAt, KeepsOpen}
-use Rattle.mount_calls.specs.States.{IsStateOf}
+use Rattle.mount_calls.specs.Living.{KeepsNamed}
+use Rattle.mount_calls.specs.Making.{AnswersCall}
+use Rattle.mount_calls.specs.States.{IsStateOf, StaysState}
 use Rattle.overlay_core.specs.Watching.{Agrees}
 use Rattle.overlay_core.proofs.Counted.{known-room, same-fewer}
 use Rattle.overlay_core.proofs.Opens.{held-spot, lowest-given, open-no-link, open-shown}
 use Rattle.overlay_core.proofs.Opens.{ready-tracks, way-tracks}
+use Rattle.overlay_core.proofs.Performing.{Performed}
 use Rattle.overlay_core.proofs.Shown.{directory-no-link, directory-some, none-some}
 use Rattle.overlay_core.proofs.Watching.{mount_upper}
 
@@ -224,3 +229,44 @@ room-for objects p object.Lower room = λ n at. room
 room-for objects p object.Directory room = tt
 room-for objects p (object.Upper key last) room = tt
 room-for objects p object.Other room = tt
+
+-- what a handle takes over isn't held beside the handles any more
+pub beside-opened : (old first mid : Clients) (hold : Hold) (n : ℕ) →
+    beside first n ≡ beside old n + handle_uses n hold →
+    beside mid n + handle_uses n hold ≡ beside first n → beside mid n ≡ beside old n
+beside-opened old first mid hold n more less = omega (arith, more, less)
+
+-- an open that the mount made, and what it was prepared for
+pub opened-by : (old first mid : Mount) (c : ℕ) (k : Call) (r : Reply) →
+    is_attached old.clients c ≡ true → first ≡ record old { clients = first.clients } →
+    KeepsAttached old.clients first.clients → StaysState old first → AnswersCall c k first mid r →
+    mid.layers.lowers ≡ first.layers.lowers → Performed c k r old mid
+opened-by old first mid c k r there only kept stays answers lowers =
+    let same : first.layers ≡ old.layers = ap (λ (m : Mount). m.layers) only in
+    record {
+      there = there;
+      serves = λ s st. answers.serves s (stays s st);
+      lowers = lowers ∙ ap (λ (l : Layers). l.lowers) same;
+      named = λ s st fine. subst (λ (l : Layers). KeepsNamed s c l mid.layers k) same
+          (answers.named s (stays s st) fine);
+      refused = λ e is. answers.refused e is ∙ same;
+    }
+
+-- a descriptor is on what was held for it, of those that were on the same before
+pub sets-since : (old first mid : Clients) (c d : ℕ) (hold : Hold) →
+    SameTracked (tables_of old) (tables_of first) →
+    SetsTracked (tables_of first) (tables_of mid) c d (Some hold) →
+    SetsTracked (tables_of old) (tables_of mid) c d (Some hold)
+sets-since old first mid c d hold same sets = record {
+  here = sets.here;
+  others = λ b e other. sets.others b e other ∙ same.slots b e;
+  clients = sets.clients ∙ same.clients;
+}
+
+-- and it is so still where the clients only hold otherwise
+pub sets-on : {ks : TrackedTables} (mid lifted new : Clients) (c d : ℕ) (hold : Hold) →
+    KeepsClients mid lifted → KeepsClients lifted new →
+    SetsTracked ks (tables_of mid) c d (Some hold) → SetsTracked ks (tables_of new) c d (Some hold)
+sets-on {ks} mid lifted new c d hold first second sets =
+    subst (λ a. SetsTracked ks (tables_in a) c d (Some hold))
+    (sym (second.attached ∙ first.attached)) sets
