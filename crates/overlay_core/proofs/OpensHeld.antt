@@ -30,6 +30,7 @@ use Rattle.notice_laws.specs.Notified.{AreKnown, IsSlotOn, Notified, Tracks}
 use Rattle.notice_laws.specs.Objects.{IsNumberOf, IsObject}
 use Rattle.open_handles.specs.declared.way.Way.{Way}
 use Rattle.notice_laws.proofs.FewerObjects.{law_of_fewer_numbers}
+use Rattle.notice_laws.proofs.Staying.{law_of_staying}
 use Rattle.notifier.specs.Notifying.{notified}
 use Rattle.notifier.specs.Watches.{Watches}
 use Rattle.mount_calls.specs.declared.open_calls.Judged.{Judged}
@@ -37,7 +38,7 @@ use Rattle.mount_calls.specs.declared.mount.Mount.{Mount}
 use Rattle.mount_calls.specs.Looking.{IsJudged}
 use Rattle.mount_calls.specs.Numbers.{HasRoom, HasRoomFor, HoldsFor, IsHeldAt, KeepsOpen}
 use Rattle.mount_calls.specs.Living.{KeepsNamed}
-use Rattle.mount_calls.specs.Making.{AnswersCall}
+use Rattle.mount_calls.specs.Making.{AnswersCall, RunsOut}
 use Rattle.mount_calls.specs.States.{IsStateOf, StaysState}
 use Rattle.overlay_core.specs.Watching.{Agrees}
 use Rattle.overlay_core.proofs.Counted.{known-room, same-fewer}
@@ -45,7 +46,7 @@ use Rattle.overlay_core.proofs.Opens.{held-spot, lowest-given, open-no-link, ope
 use Rattle.overlay_core.proofs.Opens.{ready-tracks, way-tracks}
 use Rattle.overlay_core.proofs.Performing.{Performed}
 use Rattle.overlay_core.proofs.Shown.{directory-no-link, directory-some, none-some}
-use Rattle.overlay_core.proofs.Watching.{mount_upper}
+use Rattle.overlay_core.proofs.Watching.{mount_upper, tracks-same}
 
 -- AN OPEN THAT WAS JUDGED is not refused
 pub judged-allowed : (m : Mount) (s : State) → IsStateOf m s → (c : ℕ) (p : Path) (f : OpenFlags)
@@ -270,3 +271,20 @@ pub sets-on : {ks : TrackedTables} (mid lifted new : Clients) (c d : ℕ) (hold 
 sets-on {ks} mid lifted new c d hold first second sets =
     subst (λ a. SetsTracked ks (tables_in a) c d (Some hold))
     (sym (second.attached ∙ first.attached)) sets
+
+-- WHERE MEMORY RAN OUT for an open that was prepared, and it was taken back, each state that agreed
+-- agrees still, if what is kept for watches is right for the clients then
+pub back-agrees : (old first mid last : Mount) (from : Watches) (s : State) → Agrees old from s →
+    first.layers ≡ old.layers → StaysState old first → RunsOut first mid →
+    last ≡ record mid { clients = last.clients } → StaysState mid last →
+    Tracks (mount_upper old) s (notified last.clients from) → Agrees last from s
+back-agrees old first mid last from s a same prepared out only cancelled t =
+    let k = notified last.clients from in
+    record {
+      stands = cancelled s (out.states s (prepared s a.stands));
+      settled = a.settled;
+      one = a.one;
+      tracks = tracks-same mid last s k (ap (λ (m : Mount). m.layers) only)
+          (law_of_staying (mount_upper first) (mount_upper mid) s k
+          (λ d key q is at. out.live s.tree d key is) (tracks-same old first s k same t));
+    }

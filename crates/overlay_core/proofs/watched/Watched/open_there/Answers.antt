@@ -1,4 +1,4 @@
-use Rattle.std.proofs.Common.{◌≡◌, ◌≤◌, arith, ap, Some, refl, subst, sym, ◌∙◌}
+use Rattle.std.proofs.Common.{◌≡◌, ◌≤◌, ◌+◌, ℕ, arith, ap, Some, refl, subst, sym, ◌∙◌}
 use mathlib.Core.Logic.{∥∥₁_map}
 use Rattle.ov_base.specs.Calls.{Call}
 use Rattle.ov_base.specs.declared.call.CallOf.TheVariants.{Open}
@@ -18,12 +18,15 @@ use Rattle.overlay_core.proofs.Counted.{counts-on, known}
 use Rattle.notice_laws.specs.Opens.{opens_to}
 use Rattle.mount_calls.specs.Numbers.{Becomes}
 use Rattle.overlay_core.proofs.Between.{performed-on}
-use Rattle.overlay_core.proofs.Counted.{ends-stay}
+use Rattle.open_handles.specs.declared.clients.Clients.{Clients}
+use Rattle.open_handles.specs.Attaching.{LetsGo, beside}
+use Rattle.open_handles.specs.TrackedHandles.{handle_uses}
+use Rattle.overlay_core.proofs.Counted.{ends-stay, tracks-fewer}
 use Rattle.overlay_core.proofs.Lifts.{at-lower}
 use Rattle.overlay_core.proofs.OpensHeld.{held-way, sets-on, sets-since}
 use Rattle.overlay_core.proofs.OpensHeld.{beside-opened, held-number, opened-by, room-for}
 use Rattle.overlay_core.proofs.OpensTold.{goes-opened, opened-free, opened-shown}
-use Rattle.overlay_core.proofs.OpensHeld.{held-at, judged-since, tracks-spots}
+use Rattle.overlay_core.proofs.OpensHeld.{back-agrees, held-at, judged-since, tracks-spots, tracks-there}
 use Rattle.overlay_core.proofs.Performing.{keeps-layers, on-err}
 use Rattle.overlay_core.proofs.Watching.{mount_upper, tracks-same}
 use Rattle.overlay_core.proofs.watched.Watched.open_there.Goals as goal
@@ -197,3 +200,35 @@ returns-in-Ok-clause-goes g c =
           (sets-since old.clients first.clients mid.clients client fd hold all.tracked opens.sets);
       renames = c.opened.ensures.renames;
     })
+
+pub cancel_open-requires : goal.cancel_open-requires
+cancel_open-requires g c = subst (λ (x : Clients). (n : ℕ) → handle_uses n c.in_ok-hold.hold ≤ beside x n)
+    (sym c.in-Err.ensures.err) (λ n. let more = c.in_ok-hold.ensures.beside n in omega arith)
+
+pub returns-in-Err-clause-err : goal.returns-in-Err-clause-err
+returns-in-Err-clause-err g c =
+    let client = c.args.client in
+    let path = c.args.path.now in
+    let object = c.args.object in
+    let old = c.args.self.now.mount in
+    let from = c.args.self.now.notifier in
+    let first = c.prepare_open-prepared.new.self in
+    let all = c.prepare_open-prepared.ensures in
+    let mid = c.open_judged.new.self in
+    let last = c.cancel_open.new.self in
+    let hold = c.in_ok-hold.hold in
+    let lets = subst (λ (x : Clients). LetsGo x last.clients) c.in-Err.ensures.err
+    c.cancel_open.ensures.lets in
+    let knows = known old.clients from c.lawful.ensures.known c.lawful.ensures.counted
+    c.args.self.now.counted in
+    let counts = λ n. beside-opened old.clients first.clients last.clients hold n
+    (c.in_ok-hold.ensures.beside n)
+    (subst (λ (x : Clients). beside last.clients n + handle_uses n hold ≡ beside x n)
+    c.in-Err.ensures.err (c.cancel_open.ensures.beside n)) ∙ c.args.self.now.counted n in
+    λ s a. back-agrees old first mid last from s a (ap (λ (m : Mount). m.layers) all.only) all.stays
+    c.in-Err.ensures.no_memory c.cancel_open.ensures.only c.cancel_open.ensures.stays
+    (tracks-fewer (mount_upper old) s first.clients last.clients from lets.clients lets.fewer
+    (known last.clients from c.lawful-in-Err.ensures.known c.lawful-in-Err.ensures.counted counts)
+    (tracks-there old from client path c.args.flags c.args.judged c.requires.there
+    c.requires.judged knows first.clients hold all.tracked s a object c.requires.stands
+    c.requires.something c.in_ok-hold.ensures.holds))
