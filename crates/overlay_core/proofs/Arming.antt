@@ -9,6 +9,7 @@ use Rattle.ov_base.specs.declared.node_id.NodeId.{NodeId}
 use Rattle.ov_base.specs.declared.node_id.NodeId.TheVariants.{New}
 use Rattle.ov_base.specs.declared.reply.Reply.TheVariants.{Refused, Watch}
 use Rattle.plain_model.specs.Layers.{Layer, Path, Shown, shows}
+use Rattle.plain_model.specs.Layers.{shows as shows_at}
 use Rattle.plain_model.specs.Tree.{node_at}
 use Rattle.plain_model.specs.Alike.{AnswersAlike, AreAllAlike, AreAlikeWatches, Identities}
 use Rattle.plain_model.specs.Watching.{Instance, Rule}
@@ -31,19 +32,22 @@ use Rattle.notice_laws.specs.Notified.{AreKnown, Notified, Tracks, stands_for}
 use Rattle.notice_laws.specs.Objects.{IsObject, Means}
 use Rattle.notice_laws.proofs.ArmedWatches.{law_of_armed}
 use Rattle.notice_laws.proofs.Clients.{law_of_asked}
-use Rattle.notice_laws.proofs.FewerObjects.{law_of_fewer_numbers}
 use Rattle.notice_laws.proofs.GivenNumbers.{law_of_held_number}
 use Rattle.notice_laws.proofs.Numbers.{number-at, law_of_numbers, node-shown}
 use Rattle.notice_laws.proofs.Told.{unheard}
-use Rattle.notifier.specs.Arming.{ArmsAt, IsArmJudged, IsLeft, refusal_of, watch_of}
-use Rattle.notifier.specs.Opening.{HoldsObject}
+use Rattle.open_handles.specs.declared.clients.Clients.{Clients}
+use Rattle.notifier.specs.Arming.{ArmsAt, HoldsObject, IsArmJudged, refusal_of, watch_of}
+use Rattle.notifier.specs.Notifying.{notified}
+use Rattle.notifier.specs.Watches.{Watches}
 use Rattle.watch_table.specs.Listening.{slot_refusal}
 use Rattle.watch_table.proofs.Arming.{unwatched-arm}
 use Rattle.mount_calls.specs.declared.mount.Mount.{Mount}
-use Rattle.open_handles.specs.Attaching.{is_attached}
+use Rattle.open_handles.specs.Attaching.{KeepsClients, KeepsPlaces, is_attached}
+use Rattle.open_handles.specs.Holding.{tables_in}
+use Rattle.mount_calls.proofs.HeldSpots.{clients-stay}
 use Rattle.mount_calls.specs.States.{Serves}
 use Rattle.overlay_core.specs.PathFaults.{arm_fault}
-use Rattle.overlay_core.specs.Watching.{Agrees, Goes, Stays}
+use Rattle.overlay_core.specs.Watching.{Agrees, Goes}
 use Rattle.overlay_core.proofs.ArmCalls.{arm-refusal, node_refusal}
 use Rattle.overlay_core.proofs.WatchCalls.{goes-refused}
 use Rattle.overlay_core.proofs.Watching.{goes-agreed, passes, mount_upper, with-instances}
@@ -99,8 +103,12 @@ slot-alike of (e ∷ es) (f ∷ fs) alike c slot =
         e.watches f.watches alike.0.watches
     by false rest = rest
 
-module _ (U : Layer) (lowers : List Layer) (s : State) (m : IsMountOf U lowers s) (k : Notified)
-    (t : Tracks U s k) (p : Path) (c slot : ℕ) where
+module _ (U : Layer) (lowers : List Layer) (s : State) (m : IsMountOf U lowers s)
+    (clients : Clients) (w : Watches) (t : Tracks U s (notified clients w)) (p : Path) (c slot : ℕ)
+    where
+  abbrev k : Notified
+  k = notified clients w
+
   -- a client's instance answers as the state's does
   asked : AnswersAlike (stands_for k.objects t.bearers) (instance_of k.instances c)
       (instance_of s.instances c)
@@ -114,11 +122,11 @@ module _ (U : Layer) (lowers : List Layer) (s : State) (m : IsMountOf U lowers s
 
   -- an arm of what a number means is refused as one of the node is
   number-refusal : (number : ℕ) → Means k.objects t.bearers (Some number) (node_at s.tree p) →
-      node_refusal s c slot p ≡ refusal_of k c slot (Some number)
+      node_refusal s c slot p ≡ refusal_of w c slot (Some number)
   number-refusal number means = ap refused-on (found-at s.tree p) ∙ by (node_at s.tree p) means
     where
       by : (d : Option NodeId) → Means k.objects t.bearers (Some number) d →
-          refused-on d ≡ refusal_of k c slot (Some number)
+          refused-on d ≡ refusal_of w c slot (Some number)
       by None h = absurd h
       by (Some d) h =
           let one : stands_for k.objects t.bearers (New number) d = (number, refl, h.0, h.1) in
@@ -132,7 +140,7 @@ module _ (U : Layer) (lowers : List Layer) (s : State) (m : IsMountOf U lowers s
   -- and one of what none means as one that nobody watches
   unknown-refusal : (d : NodeId) → node_at s.tree p ≡ Some d →
       Means k.objects t.bearers None (Some d) →
-      node_refusal s c slot p ≡ refusal_of k c slot None
+      node_refusal s c slot p ≡ refusal_of w c slot None
   unknown-refusal d at unknown =
       ap refused-on (found-at s.tree p ∙ at)
       ∙ unwatched-arm s.instances c slot d
@@ -146,25 +154,28 @@ module _ (U : Layer) (lowers : List Layer) (s : State) (m : IsMountOf U lowers s
 
   -- so it is refused as it was judged
   pub judged-refusal : (o : Object) → IsObject U lowers p o →
-      is_some (shows 0 (U ∷ lowers) p) ≡ true → (r : Option Errno) → IsArmJudged k c slot p o r →
+      is_some (shows 0 (U ∷ lowers) p) ≡ true → (r : Option Errno) → IsArmJudged clients w c slot p o r →
       node_refusal s c slot p ≡ r
   judged-refusal o is shown r judged =
       by judged.number (law_of_numbers U lowers s m k.objects t.bearers t.borne p o judged.number is
       judged.found) ∙ sym judged.judged
     where
       by : (number : Option ℕ) → Means k.objects t.bearers number (node_at s.tree p) →
-          node_refusal s c slot p ≡ refusal_of k c slot number
+          node_refusal s c slot p ≡ refusal_of w c slot number
       by (Some number) means = number-refusal number means
       by None means =
           let there = node-shown U lowers s m p shown in
           unknown-refusal there.0 there.1 (subst (Means k.objects t.bearers None) there.1 means)
 
-module _ (U : Layer) (lowers : List Layer) (s : State) (m : IsMountOf U lowers s) (k : Notified) (t : Tracks U s k)
-    (p : Path) (o : Object) (is : IsObject U lowers p o) (file : shows_link (shows 0 (U ∷ lowers) p) ≡ false)
-    (held : Objects) (number : ℕ) (at : HoldsObject k.objects held p o number) where
+module _ (U : Layer) (lowers : List Layer) (s : State) (m : IsMountOf U lowers s) (clients : Clients) (w : Watches)
+    (t : Tracks U s (notified clients w)) (p : Path) (o : Object) (is : IsObject U lowers p o) (file : shows_link (shows 0 (U ∷ lowers) p) ≡ false)
+    (held : Objects) (number : ℕ) (at : HoldsObject clients.objects held p o number) where
+  abbrev view : Notified
+  view = notified clients w
+
   -- what is held is tracked
-  pub tracks-held : Tracks U s (record k { objects = held })
-  tracks-held = law_of_held_number U lowers s m k t p o at.spot is file at.stands held number at.holds
+  pub tracks-held : Tracks U s (record view { objects = held })
+  tracks-held = law_of_held_number U lowers s m view t p o at.spot is file at.stands held number at.holds
 
   -- its number means the node that stands there
   means-held : Means held tracks-held.bearers (Some number) (node_at s.tree p)
@@ -173,114 +184,124 @@ module _ (U : Layer) (lowers : List Layer) (s : State) (m : IsMountOf U lowers s
       (number-at held p o at.spot number at.stands at.holds.sets.here)
 
   -- a client's instance answers with it as the state's does
-  asked-held : (c : ℕ) → AnswersAlike (stands_for held tracks-held.bearers) (instance_of k.instances c) (instance_of s.instances c)
-  asked-held c = law_of_asked U s (record k { objects = held }) tracks-held c
+  asked-held : (c : ℕ) → AnswersAlike (stands_for held tracks-held.bearers) (instance_of w.instances c) (instance_of s.instances c)
+  asked-held c = law_of_asked U s (record view { objects = held }) tracks-held c
 
   -- an arm of it gives the watch that one of the node gives
-  pub held-number : (c : ℕ) → watch_of k c number ≡ number_of (watch_on (watches_of (instance_of s.instances c)) (node_at s.tree p)) (next_number (instance_of s.instances c))
+  pub held-number : (c : ℕ) → watch_of w c number ≡ number_of (watch_on (watches_of (instance_of s.instances c)) (node_at s.tree p)) (next_number (instance_of s.instances c))
   held-number c = by (node_at s.tree p) means-held
     where
       by : (d : Option NodeId) → Means held tracks-held.bearers (Some number) d →
-          watch_of k c number ≡ number_of (watch_on (watches_of (instance_of s.instances c)) d) (next_number (instance_of s.instances c))
+          watch_of w c number ≡ number_of (watch_on (watches_of (instance_of s.instances c)) d) (next_number (instance_of s.instances c))
       by None h = absurd h
       by (Some d) h =
           let a = asked-held c in
-          ap (λ n. number_of (watch_on (watches_of (instance_of k.instances c)) (Some (New number))) n) a.next
+          ap (λ n. number_of (watch_on (watches_of (instance_of w.instances c)) (Some (New number))) n) a.next
           ∙ a.number (New number) d (next_number (instance_of s.instances c)) (number, refl, h.0, h.1)
 
 -- the refusal of an arm, by what the mount and its watches say
-refusal-by : (m : Mount) (k : Notified) (s : State) → Agrees m k s → (c slot : ℕ) (p : Path) (mask : ℕ) (x y z : Option Errno) →
+refusal-by : (m : Mount) (k : Watches) (s : State) → Agrees m k s → (c slot : ℕ) (p : Path) (mask : ℕ) (x y z : Option Errno) →
     slot_refusal (hooks_of (instance_of k.instances c)) slot mask ≡ x → arm_fault (layers_of m.layers) p mask ≡ y → node_refusal s c slot p ≡ z →
     refusal s c (Arm slot p mask) ≡ first x (first y z)
 refusal-by m k s a c slot p mask x y z slots fault node =
     arm-refusal (mount_upper m) (lowers_of m.layers) s a.stands.layers c slot p mask
     ∙ ap (λ h. first (slot_refusal h slot mask) (first (arm_fault (layers_of m.layers) p mask) (node_refusal s c slot p)))
-    (sym (law_of_asked (mount_upper m) s k a.tracks c).hooks)
+    (sym (law_of_asked (mount_upper m) s (notified m.clients k) a.tracks c).hooks)
     ∙ ap (λ b. first b (first (arm_fault (layers_of m.layers) p mask) (node_refusal s c slot p))) slots
     ∙ ap (λ b. first x (first b (node_refusal s c slot p))) fault
     ∙ ap (λ b. first x (first y b)) node
 
 -- AN ARM IS REFUSED for its slot or its mask
-pub slot-refused : (shows : Rule) (m : Mount) (k : Notified) (c slot : ℕ) (p : Path) (mask : ℕ) (e : Errno) → is_attached m.clients c ≡ true →
+pub slot-refused : (shows : Rule) (m : Mount) (k : Watches) (c slot : ℕ) (p : Path) (mask : ℕ) (e : Errno) → is_attached m.clients c ≡ true →
     slot_refusal (hooks_of (instance_of k.instances c)) slot mask ≡ Some e → Goes shows m k c (Called (Arm slot p mask) (Refused e)) m k
 slot-refused shows m k c slot p mask e there slots =
     goes-refused shows m k c (Arm slot p mask) e there (λ s a. refusal-by m k s a c slot p mask (Some e) _ _ slots refl refl)
 
 -- for its path
-pub path-refused : (shows : Rule) (m : Mount) (k : Notified) (c slot : ℕ) (p : Path) (mask : ℕ) (e : Errno) → is_attached m.clients c ≡ true →
+pub path-refused : (shows : Rule) (m : Mount) (k : Watches) (c slot : ℕ) (p : Path) (mask : ℕ) (e : Errno) → is_attached m.clients c ≡ true →
     slot_refusal (hooks_of (instance_of k.instances c)) slot mask ≡ None → arm_fault (layers_of m.layers) p mask ≡ Some e →
     Goes shows m k c (Called (Arm slot p mask) (Refused e)) m k
 path-refused shows m k c slot p mask e there slots fault =
     goes-refused shows m k c (Arm slot p mask) e there (λ s a. refusal-by m k s a c slot p mask None (Some e) _ slots fault refl)
 
--- what leaves each object where it was leaves what is tracked
-pub left-tracks : (U : Layer) (s : State) (old new : Notified) → IsLeft old new → AreKnown new → Tracks U s old → Tracks U s new
-left-tracks U s old new left known t =
-    subst (Tracks U s) (sym left.rest)
-    (law_of_fewer_numbers U s old t new.objects (λ n spot is. sym (left.spots n) ∙ is) (subst AreKnown left.rest known))
-
--- so each state that agreed agrees still
-pub left-stays : (m : Mount) (old new : Notified) → IsLeft old new → AreKnown new → Stays m old m new
-left-stays m old new left known s a = record {
-  stands = a.stands;
-  settled = a.settled;
-  one = a.one;
-  tracks = left-tracks (mount_upper m) s old new left known a.tracks;
-}
-
 -- an arm that passes its slot and its path is refused as it was judged
-pub arm-judged : (m : Mount) (k : Notified) (c slot : ℕ) (p : Path) (mask : ℕ) (o : Object) →
+pub arm-judged : (m : Mount) (k : Watches) (c slot : ℕ) (p : Path) (mask : ℕ) (o : Object) →
     slot_refusal (hooks_of (instance_of k.instances c)) slot mask ≡ None →
     arm_fault (layers_of m.layers) p mask ≡ None →
     IsObject (mount_upper m) (lowers_of m.layers) p o → (r : Option Errno) →
-    IsArmJudged k c slot p o r → (s : State) → Agrees m k s →
+    IsArmJudged m.clients k c slot p o r → (s : State) → Agrees m k s →
     refusal s c (Arm slot p mask) ≡ r
 arm-judged m k c slot p mask o slots fault is r judged s a =
     refusal-by m k s a c slot p mask None None r slots fault
-    (judged-refusal (mount_upper m) (lowers_of m.layers) s a.stands.layers k a.tracks p c slot o is
+    (judged-refusal (mount_upper m) (lowers_of m.layers) s a.stands.layers m.clients k a.tracks p c slot o is
     (is-shown (layers_of m.layers) p mask fault) r judged)
 
 -- AN ARM IS REFUSED for what stands at its path
-pub object-refused : (shows : Rule) (m : Mount) (k : Notified) (c slot : ℕ) (p : Path) (mask : ℕ)
+pub object-refused : (shows : Rule) (m : Mount) (k : Watches) (c slot : ℕ) (p : Path) (mask : ℕ)
     (o : Object) → is_attached m.clients c ≡ true →
     slot_refusal (hooks_of (instance_of k.instances c)) slot mask ≡ None →
     arm_fault (layers_of m.layers) p mask ≡ None →
     IsObject (mount_upper m) (lowers_of m.layers) p o → (e : Errno) →
-    IsArmJudged k c slot p o (Some e) →
+    IsArmJudged m.clients k c slot p o (Some e) →
     Goes shows m k c (Called (Arm slot p mask) (Refused e)) m k
 object-refused shows m k c slot p mask o there slots fault is e judged =
     goes-refused shows m k c (Arm slot p mask) e there
     (arm-judged m k c slot p mask o slots fault is (Some e) judged)
 
-module _ (shows : Rule) (m : Mount) (old new : Notified) (c slot : ℕ) (p : Path) (mask : ℕ) (o : Object)
-    (there : is_attached m.clients c ≡ true)
+module _ (shows : Rule) (m : Mount) (clients : Clients) (old new : Watches) (c slot : ℕ) (p : Path)
+    (mask : ℕ) (o : Object) (there : is_attached m.clients c ≡ true)
     (slots : slot_refusal (hooks_of (instance_of old.instances c)) slot mask ≡ None)
     (fault : arm_fault (layers_of m.layers) p mask ≡ None)
     (is : IsObject (mount_upper m) (lowers_of m.layers) p o)
-    (judged : IsArmJudged old c slot p o None)
-    (known : AreKnown new) where
+    (judged : IsArmJudged m.clients old c slot p o None) (kept : KeepsClients m.clients clients)
+    (places : KeepsPlaces m.clients clients) (knows : AreKnown (notified clients new)) where
+  -- the mount after it
+  abbrev armed_mount : Mount
+  armed_mount = record m { clients = clients }
+
   -- AN ARM GOES
-  pub arm-goes : (n : ℕ) → ArmsAt old new c slot mask p o n → Goes shows m old c (Called (Arm slot p mask) (Watch (pos n))) m new
+  pub arm-goes : (n : ℕ) → ArmsAt m.clients clients old new c slot mask p o n →
+      Goes shows m old c (Called (Arm slot p mask) (Watch (pos n))) armed_mount new
   arm-goes n arms =
-      goes-agreed shows c (Arm slot p mask) (Watch (pos n)) m m old new there serves
+      goes-agreed shows c (Arm slot p mask) (Watch (pos n)) m armed_mount old new there serves
       (λ s a e same. absurd (let no : Watch (pos n) ≡ Refused e = same in cc))
-      (λ s a fine. law_of_armed shows (mount_upper m) (mount_upper m) (lowers_of m.layers) s c slot mask p
-      (passes s c (Arm slot p mask) (Watch (pos n)) m m old refl a fine (serves s a) (λ d key q live at. live)) o is (record old { objects = arms.held })
-      new (tracks s a) known arms.arms)
+      (λ s a fine. law_of_armed shows (mount_upper m) (mount_upper m) (lowers_of m.layers) s c slot
+      mask p (passes s c (Arm slot p mask) (Watch (pos n)) m armed_mount old refl a fine
+      (serves s a) (λ d key q live at. live)) o is held_first (notified clients new) (tracks s a)
+      knows (record {
+        number = arms.number;
+        found = number-at arms.held p o arms.holds.spot arms.number arms.holds.stands
+            arms.holds.holds.sets.here;
+        instances = arms.instances;
+        objects = arms.fewer;
+        handles = ap tables_in kept.attached;
+        renames = arms.renames;
+      }))
     where
-      tracks : (s : State) → Agrees m old s → Tracks (mount_upper m) s (record old { objects = arms.held })
+      held_first : Notified
+      held_first = record (notified m.clients old) { objects = arms.held }
+
+      shown : shows_link (shows_at 0 (layers_of m.layers) p) ≡ false
+      shown = no-link (layers_of m.layers) p mask fault
+
+      tracks : (s : State) → Agrees m old s → Tracks (mount_upper m) s held_first
       tracks s a =
-          tracks-held (mount_upper m) (lowers_of m.layers) s a.stands.layers old a.tracks p o is (no-link (layers_of m.layers) p mask fault)
-          arms.held arms.arms.number arms.holds
+          tracks-held (mount_upper m) (lowers_of m.layers) s a.stands.layers m.clients old a.tracks
+          p o is shown arms.held arms.number arms.holds
 
       answer : (s : State) → Agrees m old s →
-          n ≡ number_of (watch_on (watches_of (instance_of s.instances c)) (node_at s.tree p)) (next_number (instance_of s.instances c))
+          n ≡ number_of (watch_on (watches_of (instance_of s.instances c)) (node_at s.tree p))
+          (next_number (instance_of s.instances c))
       answer s a =
           arms.given
-          ∙ held-number (mount_upper m) (lowers_of m.layers) s a.stands.layers old a.tracks p o is (no-link (layers_of m.layers) p mask fault)
-          arms.held arms.arms.number arms.holds c
+          ∙ held-number (mount_upper m) (lowers_of m.layers) s a.stands.layers m.clients old
+          a.tracks p o is shown arms.held arms.number arms.holds c
 
-      serves : (s : State) → Agrees m old s → Serves (refusal s c (Arm slot p mask)) s c (Arm slot p mask) (Watch (pos n)) m
+      serves : (s : State) → Agrees m old s →
+          Serves (refusal s c (Arm slot p mask)) s c (Arm slot p mask) (Watch (pos n)) armed_mount
       serves s a =
-          subst (λ x. Serves x s c (Arm slot p mask) (Watch (pos n)) m) (sym (arm-judged m old c slot p mask o slots fault is None judged s a))
-          (ap (λ i. Watch (pos i)) (answer s a), with-instances m s (after s c (Arm slot p mask)).instances a.stands)
+          subst (λ x. Serves x s c (Arm slot p mask) (Watch (pos n)) armed_mount)
+          (sym (arm-judged m old c slot p mask o slots fault is None judged s a))
+          (ap (λ i. Watch (pos i)) (answer s a),
+          with-instances armed_mount s (after s c (Arm slot p mask)).instances
+          (clients-stay m clients kept places s a.stands))

@@ -1,8 +1,11 @@
 -- Closes of a client, also while it goes, on both sides.
-use Rattle.std.proofs.Common.{◌≡◌, ◌≢◌, ℕ, zero, suc, ◌+◌, ◌<◌, ◌≤◌, true, cond, List, [], ◌∷◌, ◌++◌, Option, None, Some, IsSome, slice_get, slice_set, get_or, take, refl, sym, ap, ◌∙◌, subst, is_none, nat_eq, length, option_map, arith, ◌⊎◌, inl, inr}
+use Rattle.std.proofs.Common.{◌≡◌, ◌≢◌, ℕ, zero, suc, ◌+◌, ◌<◌, ◌≤◌, Bool, true, false, cond, filter, not, is_some, List, [], ◌∷◌, ◌++◌, Option, None, Some, IsSome, slice_get, slice_set, get_or, take, refl, sym, ap, ◌∙◌, subst, is_none, nat_eq, length, option_map, arith, ◌⊎◌, inl, inr}
 use mathlib.Core.Logic.{∥∥₁_elim, ∥∥₁_map}
 use mathlib.Core.HLevel.{⊥_prop}
+use Rattle.std.specs.Prelude.{◌↔◌}
+use Rattle.std.specs.BTreeMap.{get}
 use Rattle.std.specs.List.{IsDistinct, list_any}
+use Rattle.std.specs.Ordering.{nat_cmp}
 use Rattle.std.proofs.lemmas.Bool.{false≢true, cases_lt}
 use Rattle.std.proofs.lemmas.List.{length-map, length-take-le, take_all, take_more}
 use Rattle.std.proofs.lemmas.Option.{slice_get-get_or, slice_get_past}
@@ -13,7 +16,7 @@ use Rattle.ov_base.specs.declared.errno.Errno.TheVariants.{EBADF}
 use Rattle.ov_base.specs.declared.reply.Reply.{Reply}
 use Rattle.ov_base.specs.declared.reply.Reply.TheVariants.{Refused}
 use Rattle.plain_model.specs.Layers.{Layer}
-use Rattle.plain_model.specs.Watching.{ISDIR, Instance, Rule}
+use Rattle.plain_model.specs.Watching.{CLOSE_NOWRITE, CLOSE_WRITE, ISDIR, Instance, Rule}
 use Rattle.plain_model.specs.Machine.{Handle, State, Table, handle_of, handles_of, held_in}
 use Rattle.plain_model.specs.Refusals.{refusal, when}
 use Rattle.plain_model.specs.Changes.{after, with_handle}
@@ -29,10 +32,11 @@ use Rattle.merged_lookup.specs.Merged.{lowers_of}
 use Rattle.mount_laws.proofs.Lists.{law_of_bad_descriptors}
 use Rattle.mount_laws.proofs.OneName.{law_of_one_name_kept}
 use Rattle.open_handles.specs.declared.handle.Handle as handles
+use Rattle.open_handles.specs.declared.handle.On.{On}
 use Rattle.open_handles.specs.declared.handle.On.TheVariants.{Directory, File}
 use Rattle.open_handles.specs.TrackedHandles.{TrackedHandle}
 use Rattle.object_table.specs.Dentries.{Dentries}
-use Rattle.object_table.specs.Objects.{Objects}
+use Rattle.object_table.specs.Objects.{Nowhere, Objects, spot_of}
 use Rattle.open_handles.specs.TrackedHandles.{tracked_by}
 use Rattle.notice_laws.specs.Notified.{AreKnown, Bearers, IsSlotOn, Notified, Passes, Resumes}
 use Rattle.notice_laws.specs.Steps.{Closed, closing_bits}
@@ -41,20 +45,30 @@ use Rattle.notice_laws.proofs.Clients.{law_of_departed, law_of_muted}
 use Rattle.notice_laws.proofs.Closing.{law_of_closed}
 use Rattle.mount_calls.specs.declared.mount.Mount.{Mount}
 use Rattle.open_handles.specs.declared.clients.Clients.{Clients}
-use Rattle.open_handles.specs.Attaching.{KeepsOthers, is_attached, opened_by}
+use Rattle.open_handles.specs.Attaching.{KeepsClients, KeepsOthers, Leaves, is_attached, opened_by, tables_of}
+use Rattle.open_handles.specs.Handles.{tracked_in, tracked_of}
+use Rattle.open_handles.specs.Holding.{tables_in}
+use Rattle.open_handles.specs.TrackedHandles.{SetsTracked, TrackedTables}
+use Rattle.notice_laws.specs.Steps.{IsClosedEnd}
+use Rattle.notice_laws.specs.Telling.{IsEnd, of_both, of_end}
+use Rattle.mount_calls.specs.Numbers as closes
+use Rattle.open_handles.proofs.Entries.{tracked-read}
+use Rattle.notifier.specs.Notifying.{IsOther, IsTold, LetsEnd, notified}
+use Rattle.notifier.specs.Watches.{Watches}
 use Rattle.mount_calls.specs.Living.{KeepsNamed, KeepsPaths}
 use Rattle.mount_calls.proofs.FileSight.{file-not-folder}
 use Rattle.mount_calls.proofs.Serving.{get-others, slot-closed, slot-open}
-use Rattle.mount_calls.specs.States.{IsOpenAs, IsSlot, IsStateOf, Serves}
-use Rattle.overlay_core.specs.Leaving.{ClosesEach, Follows, IsFollowed, Shuts, closing}
+use Rattle.mount_calls.specs.States.{IsOpenAs, IsOpenOnAs, IsSlot, IsStateOf, Serves}
+use Rattle.overlay_core.specs.Leaving.{ClosesEach, Follows, IsFollowed, Shuts, closing, closing_on}
 use Rattle.overlay_core.specs.Watching.{Agrees, Goes, HasState}
+use Rattle.overlay_core.proofs.Counted.{ends-stay, tells-by}
 use Rattle.overlay_core.proofs.Watching.{lowers-same, tracks-same, mount_upper, with-instances}
 
 -- what agrees, agrees but for its instances
-pub follows : (m : Mount) (k : Notified) (s : State) → Agrees m k s → Follows m k s
+pub follows : (m : Mount) (k : Watches) (s : State) → Agrees m k s → Follows m k s
 follows m k s a = record { stands = a.stands; settled = (s.instances, a.settled); one = a.one; tracks = a.tracks }
 
-pub followed : (m : Mount) (k : Notified) → ∥ HasState m k ∥₁ → ∥ IsFollowed m k ∥₁
+pub followed : (m : Mount) (k : Watches) → ∥ HasState m k ∥₁ → ∥ IsFollowed m k ∥₁
 followed m k has = ∥∥₁_map has (λ x. (x.0, follows m k x.0 x.1))
 
 -- a state that would be settled with other instances keeps what a settled one keeps, and the other way
@@ -84,12 +98,17 @@ shuts s es cs hs heard x = record {
 -- an open handle tells its close as the machine's
 pub closing-same : (U : Layer) (lowers : List Layer) (s : State) (directories : Dentries) (o : handles.Handle) (h : Handle) →
     IsOpenAs U lowers s.tree directories o h → closing_bits s (Some h) ≡ closing o
-closing-same U lowers s directories (Directory o) h is =
-    ap (λ b. cond b (closes (Some h) + ISDIR) (closes (Some h))) is.directory
-    ∙ ap (λ (x : Handle). closes (Some x) + ISDIR) is.access
-closing-same U lowers s directories (File f) h is =
-    ap (λ b. cond b (closes (Some h) + ISDIR) (closes (Some h))) (file-not-folder U lowers s.tree f h is)
-    ∙ ap (λ b. cond b 8 16) is.writes
+closing-same U lowers s directories o h is = by o.on is
+  where
+    by : (x : On) → IsOpenOnAs U lowers s.tree directories o.object x h →
+        closing_bits s (Some h) ≡ closing_on x
+    by (Directory listing) is =
+        ap (λ b. cond b (closes (Some h) + ISDIR) (closes (Some h))) is.directory
+        ∙ ap (λ (x : Handle). closes (Some x) + ISDIR) is.access
+    by (File f) is =
+        ap (λ b. cond b (closes (Some h) + ISDIR) (closes (Some h)))
+        (file-not-folder U lowers s.tree f h is)
+        ∙ ap (λ b. cond b 8 16) is.writes
 
 -- what is free in the state is free for the mount
 free-slot : (alike : handles.Handle → Handle → Type 0) (o : Option handles.Handle) (x : Option Handle) → IsSlot alike o x → x ≡ None → o ≡ None
@@ -97,44 +116,60 @@ free-slot alike None x is at = refl
 free-slot alike (Some a) (Some h) is at = absurd (cc)
 free-slot alike (Some a) None is at = absurd is
 
--- what is open in the state is open for its watches
-open-tracked : (t : Objects) (bearers : Bearers) (r : Option TrackedHandle) (h : Handle) → IsSlotOn t bearers r (Some h) → IsSome r
-open-tracked t bearers (Some r) h is = refl
-open-tracked t bearers None h is = absurd is
-
--- and what is free in the state is free for its watches
-pub free-tracked : (t : Objects) (bearers : Bearers) (r : Option TrackedHandle) (x : Option Handle) → IsSlotOn t bearers r x → x ≡ None → r ≡ None
-free-tracked t bearers None x is at = refl
-free-tracked t bearers (Some r) (Some h) is at = absurd (cc)
-free-tracked t bearers (Some r) None is at = absurd is
-
--- so what is open for the mount is open for its watches
-pub tracked-open : (m : Mount) (k : Notified) (c d : ℕ) (o : handles.Handle) → ∥ IsFollowed m k ∥₁ → opened_by m.clients c d ≡ Some o →
-    IsSome (tracked_by k.handles c d)
-tracked-open m k c d o has at = by (tracked_by k.handles c d) refl
-  where
-    there : (x : IsFollowed m k) → IsSome (tracked_by k.handles c d)
-    there x =
-        let h = slot-open _ (opened_by m.clients c d) (handle_of x.0.tables c d) o (x.1.stands.tables.slots c d) at in
-        open-tracked k.objects x.1.tracks.bearers (tracked_by k.handles c d) h.0
-        (subst (IsSlotOn k.objects x.1.tracks.bearers (tracked_by k.handles c d)) h.1 (x.1.tracks.slots c d))
-
-    by : (r : Option TrackedHandle) → tracked_by k.handles c d ≡ r → IsSome r
-    by (Some r) is = refl
-    by None is = absurd (∥∥₁_elim has ⊥_prop (λ x. let no = subst IsSome is (there x) in false≢true no))
-
 -- a descriptor that isn't open is refused, and nothing happens
-pub shuts-free : (shows : Rule) (old new : Mount) (k : Notified) (c d : ℕ) (r : Reply) → opened_by old.clients c d ≡ None →
-    ((s : State) → IsStateOf old s → Serves (refusal s c (Close d)) s c (Close d) r new) →
-    ((e : Errno) → r ≡ Refused e → new.layers ≡ old.layers) → Shuts shows old k c d r new k
-shuts-free shows old new k c d r none serves same s a =
-    let free = slot-closed _ (opened_by old.clients c d) (handle_of s.tables c d) (a.stands.tables.slots c d) none in
+pub shuts-free : (shows : Rule) (m : Mount) (k : Watches) (c d : ℕ) →
+    opened_by m.clients c d ≡ None → Shuts shows m k c d (Refused EBADF) m k
+shuts-free shows m k c d none s a =
+    let free = slot-closed _ (opened_by m.clients c d) (handle_of s.tables c d)
+    (a.stands.tables.slots c d) none in
     let bad = (law_of_bad_descriptors s c d free).closing in
-    let served : Serves (Some EBADF) s c (Close d) r new = subst (λ o. Serves o s c (Close d) r new) bad (serves s a.stands) in
-    let step : Step shows s c (Close d) r s = subst (λ x. Answered x shows s c (Close d) r s) (sym bad) (served.0, refl) in
-    (s, step, record { stands = served.1; settled = a.settled; one = a.one; tracks = tracks-same old new s k (same EBADF served.0) a.tracks })
+    let step : Step shows s c (Close d) (Refused EBADF) s =
+    subst (λ x. Answered x shows s c (Close d) (Refused EBADF) s) (sym bad) (refl, refl) in
+    (s, step, a)
 
-module _ (shows : Rule) (old new : Mount) (from to : Notified) (c d : ℕ) (r : Reply) (o : handles.Handle) (is_open : opened_by old.clients c d ≡ Some o) (serves : (s : State) → IsStateOf old s → Serves (refusal s c (Close d)) s c (Close d) r new) (lowers : new.layers.lowers ≡ old.layers.lowers) (named : (s : State) → IsStateOf old s → refusal s c (Close d) ≡ None → KeepsNamed s c old.layers new.layers (Close d)) (known : AreKnown to) (closed : Closed shows from to c d (closing o)) where
+-- the bits by which a close is told are no rename's
+pub closing-other : (h : handles.Handle) → IsOther (closing h)
+closing-other h = by h.on
+  where
+    of : (b : Bool) → IsOther (cond b CLOSE_WRITE CLOSE_NOWRITE)
+    of true = (refl, refl)
+    of false = (refl, refl)
+
+    by : (x : On) → IsOther (closing_on x)
+    by (Directory listing) = (refl, refl)
+    by (File f) = of f.writes
+
+-- whose end is told, by whether the object is nowhere
+ended-as : (ks : TrackedTables) (objects : Objects) (n : ℕ) (lost : Bool) (ended : Option ℕ) →
+    (lost ≡ true) ↔ (spot_of objects n ≡ Some Nowhere) → IsEnd ks lost (Some n) ended →
+    ((spot_of objects n ≡ Some Nowhere) × IsEnd ks true (Some n) ended)
+    ⊎ ((spot_of objects n ≢ Some Nowhere) × (ended ≡ None))
+ended-as ks objects n true ended is ends = inl (is.0 refl, ends)
+ended-as ks objects n false ended is ends = inr (λ at. false≢true (is.1 at), ends)
+
+-- A CLOSE WAS TOLD
+pub closed-told : (shows : Rule) (old mid after_it : Clients) (from to : Watches) (c d : ℕ)
+    (h : handles.Handle) (lost : Bool) (ended : Option ℕ) → opened_by old c d ≡ Some h →
+    (lost ≡ true) ↔ (spot_of old.objects h.object ≡ Some Nowhere) →
+    IsEnd (tables_of mid) lost (Some h.object) ended → closes.Shuts old mid c d →
+    IsTold shows mid after_it from to
+    (of_both h.way (Some h.object) (closing h) ++ of_end ended) → to.renames ≡ from.renames →
+    Closed shows (notified old from) (notified after_it to) c d (closing h)
+closed-told shows old mid after_it from to c d h lost ended is_open is ends shut told renames =
+    let same : tables_of after_it ≡ tables_of mid = ap tables_in told.ends.clients.attached in
+    record {
+      handle = tracked_of h;
+      is_open = tracked-read old.attached c d ∙ ap tracked_in is_open;
+      ended = ended;
+      ends = subst (λ ts. IsClosedEnd (notified old from) ts h.object ended) (sym same)
+          (ended-as (tables_of mid) old.objects h.object lost ended is ends);
+      tells = tells-by shows old mid after_it from to _
+          (λ n spot at. (spot, shut.fewer n spot at, refl)) told;
+      sets = subst (λ ts. SetsTracked (tables_of old) ts c d None) (sym same) shut.sets;
+      renames = renames;
+    }
+
+module _ (shows : Rule) (old new : Mount) (from to : Watches) (c d : ℕ) (r : Reply) (o : handles.Handle) (is_open : opened_by old.clients c d ≡ Some o) (serves : (s : State) → IsStateOf old s → Serves (refusal s c (Close d)) s c (Close d) r new) (lowers : new.layers.lowers ≡ old.layers.lowers) (named : (s : State) → IsStateOf old s → refusal s c (Close d) ≡ None → KeepsNamed s c old.layers new.layers (Close d)) (known : AreKnown (notified new.clients to)) (closed : Closed shows (notified old.clients from) (notified new.clients to) c d (closing o)) where
   -- an open descriptor is closed, and that is told
   pub shuts-open : Shuts shows old from c d r new to
   shuts-open s a =
@@ -152,9 +187,9 @@ module _ (shows : Rule) (old new : Mount) (from to : Notified) (c d : ℕ) (r : 
       } in
       let bits : closing_bits s (handle_of s.tables c d) ≡ closing o =
       ap (closing_bits s) h.1 ∙ closing-same (mount_upper old) (lowers_of old.layers) s old.clients.objects.tree o h.0 h.2 in
-      let on : Resumes shows (mount_upper new) s c (Close d) to =
-      law_of_closed shows (mount_upper old) (mount_upper new) (lowers_of old.layers) s c d pass from to a.tracks known
-      (subst (Closed shows from to c d) (sym bits) closed) in
+      let on : Resumes shows (mount_upper new) s c (Close d) (notified new.clients to) =
+      law_of_closed shows (mount_upper old) (mount_upper new) (lowers_of old.layers) s c d pass (notified old.clients from) (notified new.clients to) a.tracks known
+      (subst (Closed shows (notified old.clients from) (notified new.clients to) c d) (sym bits) closed) in
       let t : State = record (after s c (Close d)) { instances = on.heard } in
       let taken : Answered None shows s c (Close d) r t = record { answer = served.0; state = refl; heard = on.hears } in
       let step : Step shows s c (Close d) r t = subst (λ x. Answered x shows s c (Close d) r t) (sym fine) taken in
@@ -173,7 +208,7 @@ module _ (shows : Rule) (old new : Mount) (from to : Notified) (c d : ℕ) (r : 
       )
 
 -- in a state that agrees a close is what a client does
-pub goes-shut : (shows : Rule) (old new : Mount) (from to : Notified) (c d : ℕ) (r : Reply) → is_attached old.clients c ≡ true →
+pub goes-shut : (shows : Rule) (old new : Mount) (from to : Watches) (c d : ℕ) (r : Reply) → is_attached old.clients c ≡ true →
     Shuts shows old from c d r new to → Goes shows old from c (Called (Close d) r) new to
 goes-shut shows old new from to c d r there shut s a =
     let on = shut s (follows old from s a) in
@@ -188,30 +223,38 @@ goes-shut shows old new from to c d r there shut s a =
       },
     )
 
--- what has bits is open, and these are its own
-pub closing-from : (o : Option handles.Handle) (bits : ℕ) → option_map closing o ≡ Some bits → (h : handles.Handle) × (o ≡ Some h) × (closing h ≡ bits)
-closing-from (Some h) bits is = (h, refl, cc)
-closing-from None bits is = absurd (cc)
-
--- and what has none isn't
-pub closing-none : (o : Option handles.Handle) → option_map closing o ≡ None → o ≡ None
-closing-none (Some h) is = absurd (cc)
-closing-none None is = refl
-
--- a client whose watches ended unheard is followed without its instance
-pub muted-follows : (m : Mount) (k l : Notified) (s : State) (c : ℕ) → Agrees m k s → Mutes k l c → AreKnown l → Follows m l (without_instance s c)
-muted-follows m k l s c a mutes known = record {
-  stands = with-instances m s (without_instance s c).instances a.stands;
-  settled = (s.instances, a.settled);
-  one = a.one;
-  tracks = law_of_muted (mount_upper m) s c k l a.tracks known mutes;
+-- watches that ended unheard, as the laws of notices ask
+pub mutes-as : (old new : Clients) (k l : Watches) (c : ℕ) → LetsEnd old new →
+    l.instances ≡ filter (λ e. not (nat_eq e.client c)) k.instances → l.renames ≡ k.renames →
+    Mutes (notified old k) (notified new l) c
+mutes-as old new k l c ends instances renames = record {
+  objects = ends.fewer;
+  handles = ap tables_in ends.clients.attached;
+  instances = instances;
+  renames = renames;
 }
 
-pub muted-followed : (m : Mount) (k l : Notified) (c : ℕ) → ∥ HasState m k ∥₁ → Mutes k l c → AreKnown l → ∥ IsFollowed m l ∥₁
-muted-followed m k l c has mutes known = ∥∥₁_map has (λ x. (without_instance x.0 c, muted-follows m k l x.0 c x.1 mutes known))
+module _ (m : Mount) (clients : Clients) (k l : Watches) (c : ℕ) (ends : LetsEnd m.clients clients)
+    (mutes : Mutes (notified m.clients k) (notified clients l) c)
+    (knows : AreKnown (notified clients l)) where
+  -- a client whose watches ended unheard is followed without its instance
+  pub muted-follows : (s : State) → Agrees m k s →
+      Follows (record m { clients = clients }) l (without_instance s c)
+  muted-follows s a = record {
+    stands = with-instances (record m { clients = clients }) s (without_instance s c).instances
+        (ends-stay m clients ends s a.stands);
+    settled = (s.instances, a.settled);
+    one = a.one;
+    tracks = law_of_muted (mount_upper m) s c (notified m.clients k) (notified clients l) a.tracks
+        knows mutes;
+  }
+
+  -- so it is where the state isn't told
+  pub muted-followed : ∥ HasState m k ∥₁ → ∥ IsFollowed (record m { clients = clients }) l ∥₁
+  muted-followed has = ∥∥₁_map has (λ x. (without_instance x.0 c, muted-follows x.0 x.1))
 
 -- a client's descriptors below one are closed, the lowest first, and the others lead where they led
-pub record ClosesBelow (shows : Rule) (s : State) (c i : ℕ) (new : Mount) (l : Notified) : Type 0 where
+pub record ClosesBelow (shows : Rule) (s : State) (c i : ℕ) (new : Mount) (l : Watches) : Type 0 where
   pub last : State
   pub closes : Closes shows s c 0 (take i (handles_of s.tables c)) last
   pub follows : Follows new l last
@@ -219,7 +262,7 @@ pub record ClosesBelow (shows : Rule) (s : State) (c i : ℕ) (new : Mount) (l :
   pub rest : (d : ℕ) → i ≤ d → handle_of last.tables c d ≡ handle_of s.tables c d
 
 -- none is closed yet
-pub closes-none : (shows : Rule) (m : Mount) (k : Notified) (s : State) (c : ℕ) → Follows m k s → ClosesBelow shows s c 0 m k
+pub closes-none : (shows : Rule) (m : Mount) (k : Watches) (s : State) (c : ℕ) → Follows m k s → ClosesBelow shows s c 0 m k
 closes-none shows m k s c f = record {
   last = s;
   closes = refl;
@@ -243,7 +286,7 @@ closed-none [] i = refl
 closed-none (h ∷ hs) zero = refl
 closed-none (h ∷ hs) (suc i) = closed-none hs i
 
-module _ (shows : Rule) (s : State) (m new : Mount) (k l : Notified) (c i : ℕ) (b : ClosesBelow shows s c i m k) (within : i < length (handles_of s.tables c)) where
+module _ (shows : Rule) (s : State) (m new : Mount) (k l : Watches) (c i : ℕ) (b : ClosesBelow shows s c i m k) (within : i < length (handles_of s.tables c)) where
   -- the client's descriptors as they were
   abbrev slots : List (Option Handle)
   slots = handles_of s.tables c
@@ -318,7 +361,7 @@ module _ (shows : Rule) (s : State) (m new : Mount) (k l : Notified) (c i : ℕ)
       by (Some h) some on = is-closed h r on.0 some on.1 on.2
 
 -- all are closed
-pub closes-each : (shows : Rule) (s : State) (new : Mount) (l : Notified) (c i : ℕ) → length (handles_of s.tables c) ≤ i →
+pub closes-each : (shows : Rule) (s : State) (new : Mount) (l : Watches) (c i : ℕ) → length (handles_of s.tables c) ≤ i →
     ClosesBelow shows s c i new l → ClosesEach shows s c new l
 closes-each shows s new l c i all b = record {
   last = b.last;
@@ -332,15 +375,15 @@ closes-each shows s new l c i all b = record {
     free d (inr above) = b.rest d above ∙ ap held_in (slice_get_past (handles_of s.tables c) d (omega arith))
 
 -- a client has 64 descriptors
-pub slots-of : (m : Mount) (k : Notified) (s : State) (c : ℕ) → is_attached m.clients c ≡ true → Follows m k s → length (handles_of s.tables c) ≡ 64
+pub slots-of : (m : Mount) (k : Watches) (s : State) (c : ℕ) → is_attached m.clients c ≡ true → Follows m k s → length (handles_of s.tables c) ≡ 64
 slots-of m k s c there f = f.stands.tables.room c ∙ ap (λ b. cond b 64 0) there
 
 -- some state follows where descriptors were closed
-pub below-followed : (shows : Rule) (old new : Mount) (k l : Notified) (c i : ℕ) → ∥ IsFollowed old k ∥₁ →
+pub below-followed : (shows : Rule) (old new : Mount) (k l : Watches) (c i : ℕ) → ∥ IsFollowed old k ∥₁ →
     ((s : State) → Follows old k s → ClosesBelow shows s c i new l) → ∥ IsFollowed new l ∥₁
 below-followed shows old new k l c i has closes = ∥∥₁_map has (λ x. let b = closes x.0 x.1 in (b.last, b.follows))
 
-module _ (shows : Rule) (old new : Mount) (k l : Notified) (c : ℕ) (has : ∥ IsFollowed old k ∥₁) (closes : (s : State) → Follows old k s → ClosesEach shows s c new l) where
+module _ (shows : Rule) (old new : Mount) (k l : Watches) (c : ℕ) (has : ∥ IsFollowed old k ∥₁) (closes : (s : State) → Follows old k s → ClosesEach shows s c new l) where
   -- and the client has nothing open
   pub none-open : (d : ℕ) → opened_by new.clients c d ≡ None
   none-open d = by (opened_by new.clients c d) refl
@@ -350,27 +393,31 @@ module _ (shows : Rule) (old new : Mount) (k l : Notified) (c : ℕ) (has : ∥ 
       by (Some h) is = absurd (∥∥₁_elim has ⊥_prop (λ x. let no : Some h ≡ None = sym is ∙ (closes x.0 x.1).none d in cc))
 
   -- nor for its watches
-  pub none-tracked : (d : ℕ) → tracked_by l.handles c d ≡ None
-  none-tracked d = by (tracked_by l.handles c d) refl
-    where
-      one : (x : IsFollowed old k) → tracked_by l.handles c d ≡ None
-      one x =
-          let each = closes x.0 x.1 in
-          let f = each.follows in
-          free-tracked l.objects f.tracks.bearers (tracked_by l.handles c d) (handle_of each.last.tables c d) (f.tracks.slots c d)
-          (slot-closed _ (opened_by new.clients c d) (handle_of each.last.tables c d) (f.stands.tables.slots c d) (each.none d))
+  none-tracked : (d : ℕ) → tracked_by (tables_of new.clients) c d ≡ None
+  none-tracked d = tracked-read new.clients.attached c d ∙ ap tracked_in (none-open d)
 
-      by : (o : Option TrackedHandle) → tracked_by l.handles c d ≡ o → tracked_by l.handles c d ≡ None
-      by None is = is
-      by (Some h) is = absurd (∥∥₁_elim has ⊥_prop (λ x. let no : Some h ≡ None = sym is ∙ one x in cc))
+  -- so it departs, as the laws of notices ask
+  pub departs : (after_it : Clients) → Leaves new.clients after_it c →
+      Departs (notified new.clients l) (notified after_it l) c
+  departs after_it leaves = record {
+    bare = none-tracked;
+    objects = λ n spot is. subst (λ (o : Objects). spot_of o n ≡ Some spot) leaves.objects is;
+    clients = leaves.tables;
+    slots = leaves.slots;
+    instances = refl;
+    renames = refl;
+  }
 
 -- A CLIENT GOES: its watches first, then its handles, and at last its descriptors
-pub goes-detached : (shows : Rule) (old mid new : Mount) (from muted shut to : Notified) (c : ℕ) → is_attached old.clients c ≡ true →
-    Mutes from muted c → AreKnown muted → ((s : State) → Follows old muted s → ClosesEach shows s c mid shut) →
-    ((s : State) → IsStateOf mid s → IsStateOf new (without_table s c)) → new.layers ≡ mid.layers →
-    Departs shut to c → AreKnown to → Goes shows old from c Detached new to
-goes-detached shows old mid new from muted shut to c there mutes known closes gone same departs known_to s a =
-    let each = closes (without_instance s c) (muted-follows old from muted s c a mutes known) in
+pub goes-detached : (shows : Rule) (old first mid new : Mount) (from muted shut : Watches) (c : ℕ) →
+    is_attached old.clients c ≡ true →
+    ((s : State) → Agrees old from s → Follows first muted (without_instance s c)) →
+    ((s : State) → Follows first muted s → ClosesEach shows s c mid shut) →
+    ((s : State) → IsStateOf mid s → IsStateOf new (without_table s c)) →
+    new.layers ≡ mid.layers → Departs (notified mid.clients shut) (notified new.clients shut) c →
+    AreKnown (notified new.clients shut) → Goes shows old from c Detached new shut
+goes-detached shows old first mid new from muted shut c there mutes closes gone same departs knows s a =
+    let each = closes (without_instance s c) (mutes s a) in
     let t : State = without_table each.last c in
     let does : Does shows s c Detached t = (a.stands.tables.attached c ∙ there, (each.last, each.closes, refl)) in (
       t,
@@ -379,7 +426,9 @@ goes-detached shows old mid new from muted shut to c there mutes known closes go
         stands = gone each.last each.follows.stands;
         settled = does-settles shows s c Detached t does a.stands.layers.kept a.settled;
         one = each.follows.one;
-        tracks = tracks-same mid new t to same (law_of_departed (mount_upper mid) each.last c shut to each.follows.tracks known_to departs);
+        tracks = tracks-same mid new t (notified new.clients shut) same
+            (law_of_departed (mount_upper mid) each.last c (notified mid.clients shut)
+            (notified new.clients shut) each.follows.tracks knows departs);
       },
     )
 
@@ -393,6 +442,14 @@ others-on old between new n h g = record {
   attached = λ is. g.attached (h.attached is);
   others = λ m other. g.others m other ∙ h.others m other;
   next = g.next ∙ h.next;
+}
+
+-- and where they only hold otherwise
+pub others-kept : (old new : Clients) (n : ℕ) → KeepsClients old new → KeepsOthers old new n
+others-kept old new n kept = record {
+  attached = λ is. ap (λ a. is_some (get nat_cmp a n)) kept.attached ∙ is;
+  others = λ m other. ap (λ a. get nat_cmp a m) kept.attached;
+  next = kept.next;
 }
 
 -- paths hold what they held where nothing changes

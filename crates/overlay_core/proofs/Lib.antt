@@ -1,5 +1,7 @@
 pub mod Shown
 pub mod Watching
+pub mod Counted
+pub mod Between
 pub mod Performing
 pub mod Instances
 pub mod Arriving
@@ -7,6 +9,7 @@ pub mod Leaving
 pub mod Bare
 pub mod Lifted
 pub mod Lifts
+pub mod Shut
 pub mod Altering
 pub mod Uses
 pub mod NeverRefused
@@ -18,6 +21,7 @@ pub mod Arming
 pub mod Opens
 pub mod OpenedNodes
 pub mod OpenedKeys
+pub mod OpensHeld
 pub mod OpensTold
 pub mod Renamed
 pub mod MovesFree

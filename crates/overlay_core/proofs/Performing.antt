@@ -12,20 +12,23 @@ use Rattle.plain_model.specs.Machine.{State}
 use Rattle.plain_model.specs.Refusals.{refusal}
 use Rattle.plain_model.specs.Replies.{reply_of}
 use Rattle.plain_model.specs.Runs.{Called}
+use Rattle.merged_lookup.specs.declared.layers.Layers.{Layers}
 use Rattle.merged_lookup.specs.Merged.{lowers_of}
-use Rattle.open_handles.specs.TrackedHandles.{TrackedHandle}
-use Rattle.open_handles.specs.declared.way.Way.{Way}
-use Rattle.object_table.specs.Objects.{SameSpots, Objects, spot_of}
-use Rattle.notice_laws.specs.Notified.{AreKnown, Notified, Passes, Resumes}
-use Rattle.notice_laws.proofs.FewerObjects.{law_of_fewer_numbers}
+use Rattle.copy_up.specs.Showing.{StaysThin}
+use Rattle.notice_laws.specs.Notified.{AreKnown, Passes, Resumes}
+use Rattle.notifier.specs.Notifying.{notified}
+use Rattle.notifier.specs.Watches.{Watches}
 use Rattle.mount_calls.specs.declared.mount.Mount.{Mount}
-use Rattle.open_handles.specs.Attaching.{is_attached}
+use Rattle.open_handles.specs.declared.clients.Clients.{Clients}
+use Rattle.open_handles.specs.Attaching.{HoldsNoMore, KeepsAttached, is_attached}
+use Rattle.mount_calls.specs.Keeping.{KeepsLayers}
 use Rattle.mount_calls.specs.Living.{KeepsNamed}
 use Rattle.mount_calls.specs.Making.{MakesCall}
-use Rattle.mount_calls.specs.States.{HasStateOf, IsStateOf, Serves}
+use Rattle.mount_calls.specs.States.{HasStateOf, IsStateOf, Serves, StaysState}
 use Rattle.mount_calls.proofs.Frames.{same-layers}
 use Rattle.overlay_core.specs.Watching.{Agrees, Goes, HasState, Keeps, Stays}
-use Rattle.overlay_core.proofs.Watching.{goes, passes, mount_upper}
+use Rattle.overlay_core.proofs.Counted.{same-fewer, tracks-fewer}
+use Rattle.overlay_core.proofs.Watching.{goes, passes, mount_upper, tracks-same}
 
 -- what a call says that a mount made, and answered so
 pub record Performed (c : ℕ) (k : Call) (r : Reply) (old new : Mount) : Type 0 where
@@ -36,29 +39,34 @@ pub record Performed (c : ℕ) (k : Call) (r : Reply) (old new : Mount) : Type 0
   pub refused : (e : Errno) → r ≡ Refused e → new.layers ≡ old.layers
 
 -- a mount with watches whose state is one has one that the mount stands for
-pub state-of : (m : Mount) (k : Notified) → ∥ HasState m k ∥₁ → ∥ HasStateOf m ∥₁
+pub state-of : (m : Mount) (k : Watches) → ∥ HasState m k ∥₁ → ∥ HasStateOf m ∥₁
 state-of m k state = ∥∥₁_map state (λ x. (x.0, x.1.stands))
 
--- a call leaves alone a mount that stays as it was
-pub keeps-same : (k : Call) (m : Mount) → Keeps k m m
-keeps-same k m = record {
-  clients = record { attached = λ n. refl; next = refl };
-  layers = same-layers k m.layers;
-  lowers = refl;
-  thin = λ h. h;
+-- a call leaves alone a mount whose layers stay as they were, and who is attached
+pub keeps-layers : (k : Call) (old new : Mount) → KeepsAttached old.clients new.clients →
+    new.layers ≡ old.layers → Keeps k old new
+keeps-layers k old new kept same = record {
+  clients = kept;
+  layers = subst (KeepsLayers k old.layers) (sym same) (same-layers k old.layers);
+  lowers = ap (λ (l : Layers). l.lowers) same;
+  thin = subst (StaysThin old.layers) (sym same) (λ h. h);
 }
+
+-- so it leaves alone one that stays as it was
+pub keeps-same : (k : Call) (m : Mount) → Keeps k m m
+keeps-same k m = keeps-layers k m m (record { attached = λ n. refl; next = refl }) refl
 
 -- a call that the machine answers so, and that it does not refuse, is answered so
 pub answered : (s : State) (c : ℕ) (k : Call) (r : Reply) (new : Mount) → refusal s c k ≡ None → Serves (refusal s c k) s c k r new → r ≡ reply_of s c k
 answered s c k r new fine served = (subst (λ o. Serves o s c k r new) fine served).0
 
-module _ (shows : Rule) (c : ℕ) (k : Call) (r : Reply) (old new : Mount) (from : Notified) (done : Performed c k r old new) where
+module _ (shows : Rule) (c : ℕ) (k : Call) (r : Reply) (old new : Mount) (from : Watches) (done : Performed c k r old new) where
   -- what such a call passes
   pub passing : (s : State) → Agrees old from s → refusal s c k ≡ None → Passes (mount_upper old) (mount_upper new) (lowers_of old.layers) s c k
   passing s a fine = passes s c k r old new from done.lowers a fine (done.serves s a.stands) (done.named s a.stands fine)
 
   -- done, it goes by what is told
-  pub goes-done : (to : Notified) → r ≡ Done → ((s : State) → (a : Agrees old from s) → Passes (mount_upper old) (mount_upper new) (lowers_of old.layers) s c k → Resumes shows (mount_upper new) s c k to) → Goes shows old from c (Called k r) new to
+  pub goes-done : (to : Watches) → r ≡ Done → ((s : State) → (a : Agrees old from s) → Passes (mount_upper old) (mount_upper new) (lowers_of old.layers) s c k → Resumes shows (mount_upper new) s c k (notified new.clients to)) → Goes shows old from c (Called k r) new to
   goes-done to is resumes = goes shows c k r old new from to done.there done.serves (λ s a e not. absurd (let no : Done ≡ Refused e = sym is ∙ not in cc)) (λ s a fine. resumes s a (passing s a fine))
 
 -- what such a call keeps
@@ -75,25 +83,15 @@ pub on-err : {A E : Type 0} (r : Result A E) (P : Type 0) → P → OnErr r P
 on-err (Ok a) P p = tt
 on-err (Err e) P p = p
 
-module _ (old : Notified) (objects : Objects) (same : SameSpots old.objects objects) (known : AreKnown old) where
-  known-spot : (n : ℕ) → IsSome (spot_of old.objects n) → IsSome (spot_of objects n)
-  known-spot n h = ap is_some (same.spots n) ∙ h
-
-  -- what is kept with room for more is known still
-  pub known-room : AreKnown (record old { objects = objects })
-  known-room = record {
-    watched = λ n h. known-spot n (known.watched n h);
-    opened = λ c fd (h : TrackedHandle) is. known-spot h.object (known.opened c fd h is);
-    ways = λ c fd (h : TrackedHandle) (w : Way) is way. known-spot w.directory (known.ways c fd h w is way);
-  }
-
--- and agrees with what it agreed with
-pub stays-room : (m : Mount) (from mid : Notified) → SameSpots from.objects mid.objects → AreKnown from →
-    mid ≡ record from { objects = mid.objects } → Stays m from m mid
-stays-room m from mid same known rest s a = subst (λ k. Agrees m k s) (sym rest) (record {
-  stands = a.stands;
+-- WHERE ROOM WAS MADE and nothing else, each state that agreed agrees still
+pub stays-room : (m new : Mount) (from : Watches) → new ≡ record m { clients = new.clients } →
+    StaysState m new → HoldsNoMore m.clients new.clients →
+    AreKnown (notified new.clients from) → Stays m from new from
+stays-room m new from only states same knows s a = record {
+  stands = states s a.stands;
   settled = a.settled;
   one = a.one;
-  tracks = law_of_fewer_numbers (mount_upper m) s from a.tracks mid.objects (λ n spot is. sym (same.spots n) ∙ is)
-      (known-room from mid.objects same known);
-})
+  tracks = tracks-same m new s (notified new.clients from) (ap (λ (x : Mount). x.layers) only)
+      (tracks-fewer (mount_upper m) s m.clients new.clients from same.clients
+      (same-fewer m.clients.objects new.clients.objects same.same) knows a.tracks);
+}

@@ -19,8 +19,10 @@ use Rattle.merged_lookup.specs.declared.layers.Layers.{Layers}
 use Rattle.merged_lookup.specs.Merged.{upper_of, lowers_of}
 use Rattle.mount_laws.specs.Looks.{IsMountOf}
 use Rattle.mount_laws.proofs.OneName.{law_of_one_name_kept}
-use Rattle.notice_laws.specs.Notified.{Notified, Tracks, Passes, Resumes}
+use Rattle.notice_laws.specs.Notified.{Notified, Passes, Resumes, Tracks}
 use Rattle.notice_laws.proofs.Staying.{law_of_staying}
+use Rattle.notifier.specs.Notifying.{notified}
+use Rattle.notifier.specs.Watches.{Watches}
 use Rattle.mount_calls.specs.declared.mount.Mount.{Mount}
 use Rattle.open_handles.specs.Attaching.{is_attached}
 use Rattle.mount_calls.specs.Living.{KeepsNamed, StaysLive}
@@ -36,7 +38,7 @@ pub lowers-same : (U : Layer) (s : State) (old new : Layers) → new.lowers ≡ 
 lowers-same U s old new same h = rw (sym same) h
 
 -- A CALL THAT IS NOT REFUSED PASSES, as the laws of watches ask
-pub passes : (s : State) (c : ℕ) (k : Call) (r : Reply) (old new : Mount) (from : Notified) → new.layers.lowers ≡ old.layers.lowers → Agrees old from s → refusal s c k ≡ None → Serves (refusal s c k) s c k r new → KeepsNamed s c old.layers new.layers k → Passes (mount_upper old) (mount_upper new) (lowers_of old.layers) s c k
+pub passes : (s : State) (c : ℕ) (k : Call) (r : Reply) (old new : Mount) (from : Watches) → new.layers.lowers ≡ old.layers.lowers → Agrees old from s → refusal s c k ≡ None → Serves (refusal s c k) s c k r new → KeepsNamed s c old.layers new.layers k → Passes (mount_upper old) (mount_upper new) (lowers_of old.layers) s c k
 passes s c k r old new from same a fine served named =
     let answer : Serves None s c k r new = subst (λ o. Serves o s c k r new) fine served in
     record {
@@ -62,7 +64,7 @@ with-instances m s es st = record {
 }
 
 -- A CALL THAT IS SERVED GOES: refused it leaves what is tracked right, else what is told and tracked is as by the laws of watches
-pub goes-agreed : (shows : Rule) (c : ℕ) (k : Call) (r : Reply) (old new : Mount) (from to : Notified) → is_attached old.clients c ≡ true → ((s : State) → Agrees old from s → Serves (refusal s c k) s c k r new) → ((s : State) → Agrees old from s → (e : Errno) → r ≡ Refused e → Tracks (mount_upper new) s to) → ((s : State) → Agrees old from s → refusal s c k ≡ None → Resumes shows (mount_upper new) s c k to) → Goes shows old from c (Called k r) new to
+pub goes-agreed : (shows : Rule) (c : ℕ) (k : Call) (r : Reply) (old new : Mount) (from to : Watches) → is_attached old.clients c ≡ true → ((s : State) → Agrees old from s → Serves (refusal s c k) s c k r new) → ((s : State) → Agrees old from s → (e : Errno) → r ≡ Refused e → Tracks (mount_upper new) s (notified new.clients to)) → ((s : State) → Agrees old from s → refusal s c k ≡ None → Resumes shows (mount_upper new) s c k (notified new.clients to)) → Goes shows old from c (Called k r) new to
 goes-agreed shows c k r old new from to there serves stays resumes s a = by (refusal s c k) refl (serves s a)
   where
     by : (o : Option Errno) → refusal s c k ≡ o → Serves o s c k r new → (t : State) × Does shows s c (Called k r) t × Agrees new to t
@@ -84,7 +86,7 @@ goes-agreed shows c k r old new from to there serves stays resumes s a = by (ref
         )
 
 -- so it does where the mount alone serves it
-pub goes : (shows : Rule) (c : ℕ) (k : Call) (r : Reply) (old new : Mount) (from to : Notified) → is_attached old.clients c ≡ true → ((s : State) → IsStateOf old s → Serves (refusal s c k) s c k r new) → ((s : State) → Agrees old from s → (e : Errno) → r ≡ Refused e → Tracks (mount_upper new) s to) → ((s : State) → Agrees old from s → refusal s c k ≡ None → Resumes shows (mount_upper new) s c k to) → Goes shows old from c (Called k r) new to
+pub goes : (shows : Rule) (c : ℕ) (k : Call) (r : Reply) (old new : Mount) (from to : Watches) → is_attached old.clients c ≡ true → ((s : State) → IsStateOf old s → Serves (refusal s c k) s c k r new) → ((s : State) → Agrees old from s → (e : Errno) → r ≡ Refused e → Tracks (mount_upper new) s (notified new.clients to)) → ((s : State) → Agrees old from s → refusal s c k ≡ None → Resumes shows (mount_upper new) s c k (notified new.clients to)) → Goes shows old from c (Called k r) new to
 goes shows c k r old new from to there serves stays resumes = goes-agreed shows c k r old new from to there (λ s a. serves s a.stands) stays resumes
 
 -- what is tracked stays right where the layers are the same
@@ -92,12 +94,12 @@ pub tracks-same : (old new : Mount) (s : State) (k : Notified) → new.layers �
 tracks-same old new s k same t = subst (λ (l : Layers). Tracks (upper_of l) s k) (sym same) t
 
 -- WHERE MEMORY RAN OUT each state that agreed agrees still, if what is kept for watches is right still
-pub stays : (old new : Mount) (from to : Notified) → StaysState old new → StaysLive old.layers new.layers → ((s : State) → Tracks (mount_upper old) s from → Tracks (mount_upper old) s to) → Stays old from new to
+pub stays : (old new : Mount) (from to : Watches) → StaysState old new → StaysLive old.layers new.layers → ((s : State) → Tracks (mount_upper old) s (notified old.clients from) → Tracks (mount_upper old) s (notified new.clients to)) → Stays old from new to
 stays old new from to h live tracks s a = record {
   stands = h s a.stands;
   settled = a.settled;
   one = a.one;
-  tracks = law_of_staying (mount_upper old) (mount_upper new) s to (λ d key q is at. live s.tree d key is) (tracks s a.tracks);
+  tracks = law_of_staying (mount_upper old) (mount_upper new) s (notified new.clients to) (λ d key q is at. live s.tree d key is) (tracks s a.tracks);
 }
 
 -- whether a reply is a refusal

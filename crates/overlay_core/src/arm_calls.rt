@@ -10,7 +10,7 @@ ghost use Rattle.layer_tree.specs.Tree.{inode_of};
 ghost use Rattle.merged_lookup.specs.Merged.{fill_at, layers_of, lowers_of, upper_of, IsTopmost};
 ghost use Rattle.mount_laws.specs.Looks.{walk_fault};
 ghost use Rattle.notice_laws.specs.Objects.{IsObject};
-ghost use Rattle.open_handles.specs.Attaching.{is_attached};
+ghost use Rattle.open_handles.specs.Attaching.{is_attached, KeepsAttached};
 ghost use Rattle.overlay_core.specs.PathFaults.{arm_fault};
 ghost use Rattle.overlay_core.specs.Watching.{Agrees, Goes, HasState, Stays};
 
@@ -93,7 +93,8 @@ impl<F: Callback, R: Rule> Watched<F, R> {
         ensures err { OnErr result (Stays self.old.mount self.old.notifier self.new.mount self.new.notifier) }
         ensures allowed { OnErr result ((s : State) → Agrees self.old.mount self.old.notifier s →
             refusal s client (Call.Arm slot path.now mask) ≡ None) }
-        ensures mount { self.new.mount ≡ self.old.mount }
+        ensures layers { self.new.mount.layers ≡ self.old.mount.layers }
+        ensures clients { KeepsAttached self.old.mount.clients self.new.mount.clients }
     {
         let slot = slot as u32;
         if let Err(errno) = self.notifier.may_arm(client, slot, mask) {

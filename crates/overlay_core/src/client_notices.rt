@@ -96,7 +96,10 @@ impl<F: Callback, R: Rule> Watched<F, R> {
             }
         };
         match self.notifier.attach(alloc, client, hooks) {
-            Ok(()) => Ok(client),
+            Ok(()) => {
+                self.mount.clients.lawful();
+                Ok(client)
+            }
             Err(fault) => {
                 self.mount.take_back(client);
                 Err(fault)
@@ -170,6 +173,7 @@ impl<F: Callback, R: Rule> Watched<F, R> {
         self.mount.clients.lawful();
         self.shut_each(client);
         self.mount.depart(client);
+        self.mount.clients.lawful();
         hooks
     }
 }

@@ -4,7 +4,7 @@ ghost use Rattle.ov_base.specs.declared.call.CallOf.TheVariants as Call;
 ghost use Rattle.plain_model.specs.Machine.{State};
 ghost use Rattle.plain_model.specs.Refusals.{refusal};
 ghost use Rattle.plain_model.specs.Runs.{Called};
-ghost use Rattle.open_handles.specs.Attaching.{is_attached};
+ghost use Rattle.open_handles.specs.Attaching.{is_attached, KeepsAttached};
 ghost use Rattle.overlay_core.specs.Watching.{Agrees, Goes, HasState};
 
 use crate::watched::Watched;
@@ -22,7 +22,8 @@ impl<F: Callback, R: Rule> Watched<F, R> {
         requires there { is_attached self.old.mount.clients client ≡ true }
         requires state { ∥ HasState self.old.mount self.old.notifier ∥₁ }
         ensures goes { Goes R.shows self.old.mount self.old.notifier client (Called (Call.Disarm watch) result) self.new.mount self.new.notifier }
-        ensures mount { self.new.mount ≡ self.old.mount }
+        ensures layers { self.new.mount.layers ≡ self.old.mount.layers }
+        ensures clients { KeepsAttached self.old.mount.clients self.new.mount.clients }
     {
         if !self.notifier.has_watch(client, watch) {
             return Reply::Refused(Errno::EINVAL);
@@ -47,7 +48,8 @@ impl<F: Callback, R: Rule> Watched<F, R> {
         ensures err { OnErr result (self.new ≡ self.old) }
         ensures allowed { OnErr result ((s : State) → Agrees self.old.mount self.old.notifier s →
             refusal s client (Call.TakeNotices count) ≡ None) }
-        ensures mount { self.new.mount ≡ self.old.mount }
+        ensures layers { self.new.mount.layers ≡ self.old.mount.layers }
+        ensures clients { KeepsAttached self.old.mount.clients self.new.mount.clients }
     {
         if count > NOTICES_MAX {
             return Ok(Reply::Refused(Errno::EINVAL));

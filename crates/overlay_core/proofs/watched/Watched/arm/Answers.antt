@@ -1,4 +1,4 @@
-use Rattle.std.proofs.Common.{None, subst, sym, w32}
+use Rattle.std.proofs.Common.{None, refl, subst, sym, w32}
 use Rattle.std.proofs.lemmas.Int.{to_z_pos}
 use Rattle.ov_base.specs.declared.call.CallOf.TheVariants.{Arm}
 use Rattle.ov_base.specs.declared.reply.Reply.TheVariants.{Watch}
@@ -6,9 +6,14 @@ use Rattle.plain_model.specs.Runs.{Called}
 use Rattle.merged_lookup.specs.Merged.{upper_of, lowers_of}
 use Rattle.notifier.specs.Arming.{IsArmJudged}
 use Rattle.overlay_core.specs.Watching.{Goes, Stays}
-use Rattle.overlay_core.proofs.Arming.{arm-goes, arm-judged, is-tracked, left-stays, object-refused, path-refused, slot-refused}
+use Rattle.overlay_core.proofs.Arming.{arm-goes, arm-judged, is-tracked, object-refused, path-refused, slot-refused}
+use Rattle.notice_laws.specs.Notified.{AreKnown}
+use Rattle.notifier.specs.Notifying.{notified}
+use Rattle.notifier.specs.Watches.{Watches}
+use Rattle.mount_calls.proofs.HeldSpots.{held-stay}
+use Rattle.overlay_core.proofs.Counted.{keeps-attached, known}
 use Rattle.overlay_core.proofs.Instances.{has-instance}
-use Rattle.overlay_core.proofs.Performing.{on-err}
+use Rattle.overlay_core.proofs.Performing.{on-err, stays-room}
 use Rattle.overlay_core.proofs.watched.Watched.arm.Goals as goal
 
 pub may_arm-requires : goal.may_arm-requires
@@ -26,8 +31,8 @@ armed-armed-requires-clause-stands g c =
 
 pub armed-armed-requires-clause-judged : goal.armed-armed-requires-clause-judged
 armed-armed-requires-clause-judged g c =
-    subst (IsArmJudged c.args.self.now.notifier c.args.client c.args.slot c.args.path.now c.in-Ok.object) c.in_default-arm_refusal.is
-    c.arm_refusal.ensures
+    subst (IsArmJudged c.args.self.now.mount.clients c.args.self.now.notifier c.args.client c.args.slot c.args.path.now c.in-Ok.object) c.in_default-arm_refusal.is
+    (record { number = c.number_of-number.result; found = c.number_of-number.ensures; judged = c.arm_refusal.ensures })
 
 pub returns-in-Err-clause-goes : goal.returns-in-Err-clause-goes
 returns-in-Err-clause-goes g c =
@@ -47,14 +52,21 @@ returns-in-Some-clause-goes g c =
     let said = c.in-Ok.ensures in
     object-refused g.R.Rule.shows c.args.self.now.mount old c.args.client c.args.slot c.args.path.now c.args.mask c.in-Ok.object
     c.requires.there c.in_default.ensures said.allowed said.object c.in-Some.errno
-    (subst (IsArmJudged old c.args.client c.args.slot c.args.path.now c.in-Ok.object) c.in-Some.is c.arm_refusal.ensures)
+    (subst (IsArmJudged c.args.self.now.mount.clients old c.args.client c.args.slot c.args.path.now c.in-Ok.object) c.in-Some.is (record { number = c.number_of-number.result; found = c.number_of-number.ensures; judged = c.arm_refusal.ensures }))
 
 pub returns-in_err-number-clause-err : goal.returns-in_err-number-clause-err
 returns-in_err-number-clause-err g c =
     let m = c.args.self.now.mount in
     let old = c.args.self.now.notifier in
     let new = c.armed-armed.new.self in
-    on-err c.from_residual.result (Stays m old m new) (left-stays m old new c.in_err-number.ensures.err c.lawful.ensures.known)
+    let clients = c.armed-armed.new.clients in
+    let said = c.in_err-number.ensures in
+    let lawful = c.lawful.ensures in
+    let knows = known clients new lawful.known lawful.counted c.armed-armed.ensures.counted in
+    on-err c.from_residual.result (Stays m old (record m { clients = clients }) new)
+    (subst (λ (k : Watches). Stays m old (record m { clients = clients }) k) (sym said.same)
+    (stays-room m (record m { clients = clients }) old refl (held-stay m clients said.err) said.err
+    (subst (λ (k : Watches). AreKnown (notified clients k)) said.same knows)))
 
 pub returns-in_err-number-clause-allowed : goal.returns-in_err-number-clause-allowed
 returns-in_err-number-clause-allowed g c =
@@ -63,7 +75,7 @@ returns-in_err-number-clause-allowed g c =
     on-err c.from_residual.result _
     (arm-judged c.args.self.now.mount old c.args.client c.args.slot c.args.path.now c.args.mask c.in-Ok.object c.in_default.ensures said.allowed
     said.object None
-    (subst (IsArmJudged old c.args.client c.args.slot c.args.path.now c.in-Ok.object) c.in_default-arm_refusal.is c.arm_refusal.ensures))
+    (subst (IsArmJudged c.args.self.now.mount.clients old c.args.client c.args.slot c.args.path.now c.in-Ok.object) c.in_default-arm_refusal.is (record { number = c.number_of-number.result; found = c.number_of-number.ensures; judged = c.arm_refusal.ensures })))
 
 pub returns-clause-goes : goal.returns-clause-goes
 returns-clause-goes g c =
@@ -77,7 +89,23 @@ returns-clause-goes g c =
     let mask = c.args.mask in
     let number = c.in_ok-number.number in
     let said = c.in-Ok.ensures in
-    let judged = subst (IsArmJudged old client slot p c.in-Ok.object) c.in_default-arm_refusal.is c.arm_refusal.ensures in
-    subst (λ z. Goes shows m old client (Called (Arm slot p mask) (Watch z)) m new) (sym (to_z_pos w32 number c.in_ok-number.ensures.fits))
-    (arm-goes shows m old new client slot p mask c.in-Ok.object c.requires.there c.in_default.ensures said.allowed said.object judged
-    c.lawful.ensures.known number c.in_ok-number.ensures.armed)
+    let judged = subst (IsArmJudged m.clients old client slot p c.in-Ok.object) c.in_default-arm_refusal.is (record { number = c.number_of-number.result; found = c.number_of-number.ensures; judged = c.arm_refusal.ensures }) in
+    let clients = c.armed-armed.new.clients in
+    let lawful = c.lawful.ensures in
+    let says = c.armed-armed.ensures in
+    subst (λ z. Goes shows m old client (Called (Arm slot p mask) (Watch z)) (record m { clients = clients }) new)
+    (sym (to_z_pos w32 number c.in_ok-number.ensures.fits))
+    (arm-goes shows m clients old new client slot p mask c.in-Ok.object c.requires.there
+    c.in_default.ensures said.allowed said.object judged says.clients says.places
+    (known clients new lawful.known lawful.counted says.counted) number
+    c.in_ok-number.ensures.armed)
+
+pub returns-clause-clients : goal.returns-clause-clients
+returns-clause-clients g c =
+    keeps-attached c.args.self.now.mount.clients c.armed-armed.new.clients
+    c.armed-armed.ensures.clients
+
+pub returns-in_err-number-clause-clients : goal.returns-in_err-number-clause-clients
+returns-in_err-number-clause-clients g c =
+    keeps-attached c.args.self.now.mount.clients c.armed-armed.new.clients
+    c.armed-armed.ensures.clients

@@ -33,11 +33,11 @@ pub returns-in-Seek-clause-performs : goal.returns-in-Seek-clause-performs
 returns-in-Seek-clause-performs g c =
     let fits : SFits w64 c.in-Seek.offset = search rules in
     performs-as c.in-Seek.is
-    (performs-silent c.requires.there refl (λ s. record { tells = refl; tree = refl }) (Ok c.seek.result) (simp (to_z-of_z, fits) at c.seek.ensures) tt)
+    (performs-silent c.seek.ensures.holds refl c.requires.there refl (λ s. record { tells = refl; tree = refl }) (Ok c.seek.result) (simp (to_z-of_z, fits) at c.seek.ensures.makes) tt)
 
 pub returns-in-ListNames-clause-performs : goal.returns-in-ListNames-clause-performs
 returns-in-ListNames-clause-performs g c = performs-as c.in-ListNames.is
-    (performs-silent c.requires.there refl (λ s. record { tells = refl; tree = refl }) c.list.result c.list.ensures.makes tt)
+    (performs-silent c.list.ensures.holds refl c.requires.there refl (λ s. record { tells = refl; tree = refl }) c.list.result c.list.ensures.makes tt)
 
 pub returns-in-Read-clause-performs : goal.returns-in-Read-clause-performs
 returns-in-Read-clause-performs g c = performs-as c.in-Read.is c.read.ensures.performs
@@ -53,18 +53,18 @@ returns-in-Close-clause-performs g c = performs-as c.in-Close.is c.close.ensures
 
 pub returns-in-Arm-clause-performs : goal.returns-in-Arm-clause-performs
 returns-in-Arm-clause-performs g c = performs-as c.in-Arm.is
-    (performs-watch c.arm.result c.arm.ensures.goes c.arm.ensures.err c.arm.ensures.mount tt)
+    (performs-watch c.arm.result c.arm.ensures.goes c.arm.ensures.err c.arm.ensures.clients c.arm.ensures.layers tt)
 
 pub returns-in-Disarm-clause-performs : goal.returns-in-Disarm-clause-performs
 returns-in-Disarm-clause-performs g c =
     let fits : SFits w32 c.in-Disarm.watch = search rules in
     performs-as c.in-Disarm.is
-    (performs-watch (Ok c.disarm.result) (simp (to_z-of_z, fits) at c.disarm.ensures.goes) tt c.disarm.ensures.mount tt)
+    (performs-watch (Ok c.disarm.result) (simp (to_z-of_z, fits) at c.disarm.ensures.goes) tt c.disarm.ensures.clients c.disarm.ensures.layers tt)
 
 pub returns-in-TakeNotices-clause-performs : goal.returns-in-TakeNotices-clause-performs
 returns-in-TakeNotices-clause-performs g c = performs-as c.in-TakeNotices.is
     (performs-watch c.notices.result c.notices.ensures.goes
-    (on_err_weaker c.notices.result (λ same. rw same (λ s a. a)) c.notices.ensures.err) c.notices.ensures.mount tt)
+    (on_err_weaker c.notices.result (λ same. rw same (λ s a. a)) c.notices.ensures.err) c.notices.ensures.clients c.notices.ensures.layers tt)
 
 pub returns-in-Readlink-clause-allowed : goal.returns-in-Readlink-clause-allowed
 returns-in-Readlink-clause-allowed g c =

@@ -3,20 +3,44 @@ use Rattle.merged_lookup.specs.Merged.{lowers_of}
 use Rattle.ov_base.specs.declared.call.CallOf.TheVariants.{Symlink}
 use Rattle.ov_base.specs.declared.reply.Reply.TheVariants.{Done}
 use Rattle.notice_laws.proofs.Making.{law_of_made}
+use Rattle.notifier.specs.Notifying.{notified}
+use Rattle.overlay_core.proofs.Between.{makes-on}
+use Rattle.overlay_core.proofs.Counted.{counts-on, ends-stay, holds-same, keeps-attached, known}
+use Rattle.overlay_core.proofs.Counted.{made-told, tracks-clients}
 use Rattle.overlay_core.proofs.Making.{performs-done, performs-out}
 use Rattle.overlay_core.proofs.Watching.{mount_upper}
 use Rattle.overlay_core.proofs.watched.Watched.symlink.Goals as goal
 
 pub returns-in_err-symlink : goal.returns-in_err-symlink
 returns-in_err-symlink g c =
-    performs-out (c.in_err-symlink.ensures.makes c.args.client) c.from_residual.result c.from_residual.ensures.0
+    performs-out (holds-same c.args.self.now.mount.clients c.symlink.new.self.clients
+    c.symlink.ensures.clients) refl (c.in_err-symlink.ensures.makes c.args.client) c.from_residual.result
+    c.from_residual.ensures.0
+
+pub made-requires-clause-counted : goal.made-requires-clause-counted
+made-requires-clause-counted g c =
+    counts-on c.args.self.now.mount.clients c.symlink.new.self.clients c.args.self.now.notifier
+    (holds-same c.args.self.now.mount.clients c.symlink.new.self.clients c.symlink.ensures.clients).beside
+    c.args.self.now.counted
 
 pub returns : goal.returns
 returns g c =
     let old = c.args.self.now.mount in
-    let p = c.args.path.now in
+    let from = c.args.self.now.notifier in
+    let mid = c.symlink.new.self in
+    let clients = c.made.new.clients in
     let to = c.made.new.self in
-    performs-done Done c.requires.there (c.in_ok-symlink.ensures.makes c.args.client) refl
-    (λ s a passes. law_of_made g.R.Rule.shows (mount_upper old) (mount_upper c.symlink.new.self) (lowers_of old.layers) s c.args.client p (Symlink c.args.target.now p) _ refl refl passes
-    c.args.self.now.notifier to a.tracks c.lawful.ensures.known c.made.ensures)
+    let told = c.made.ensures.told in
+    let lawful = c.lawful.ensures in
+    let p = c.args.path.now in
+    performs-done Done c.requires.there
+    (makes-on mid clients (keeps-attached mid.clients clients told.ends.clients)
+    (ends-stay mid clients told.ends) (c.in_ok-symlink.ensures.makes c.args.client)) refl
+    (λ s a passes. law_of_made g.R.Rule.shows (mount_upper old) (mount_upper mid)
+    (lowers_of old.layers) s c.args.client p (Symlink c.args.target.now p) _ refl refl passes
+    (notified mid.clients from) (notified clients to)
+    (tracks-clients (mount_upper old) s old.clients mid.clients from c.symlink.ensures.clients a.tracks)
+    (known clients to lawful.known lawful.counted told.counted)
+    (made-told g.R.Rule.shows mid.clients clients from to p _ c.way_to-way.result
+    c.way_to-way.ensures told c.made.ensures.renames))
     tt
