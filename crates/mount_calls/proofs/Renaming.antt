@@ -6,7 +6,7 @@ use Rattle.std.proofs.Common.{arith}
 use mathlib.Core.Logic.{∥∥₁_elim}
 use mathlib.Core.Bool.{Bool-set}
 use Rattle.merged_lookup.specs.Merged.{upper_of}
-use Rattle.mount_calls.proofs.Words.{after, AreLayers, Attributes, base, Dentries, Errno}
+use Rattle.mount_calls.proofs.Words.{after, AreLayers, Attributes, Dentries, Errno}
 use Rattle.mount_calls.proofs.Words.{false≢true, Handle, handle_of, is_directory, Layer, layer_of}
 use Rattle.mount_calls.proofs.Words.{Layers, lowers_of, node_of, node_at, OpenDirectory, or_else}
 use Rattle.mount_calls.proofs.Words.{Path, refusal, Shown, shows, State, Table, Tree, when}
@@ -14,14 +14,14 @@ use Rattle.ov_base.specs.declared.call.CallOf.TheVariants as call
 use Rattle.ov_base.specs.declared.errno.Errno.TheVariants.{EBUSY, EISDIR}
 use Rattle.ov_base.specs.declared.reply.Reply.TheVariants as reply
 use Rattle.plain_model.specs.Refusals.{unless_same}
-use Rattle.plain_model.specs.Machine.{has_names, is_below, is_root}
+use Rattle.plain_model.specs.Machine.{has_names, is_root}
 use Rattle.copy_up.specs.Showing.{StaysThin}
 use Rattle.copy_up.proofs.Keeping.{lowers-same}
 use Rattle.mount_laws.specs.Looks.{parents_fault, shows_link, walk_fault}
 use Rattle.notice_laws.specs.declared.object.Object.{Object}
 use Rattle.notice_laws.specs.declared.object.Object.TheVariants as object
 use Rattle.notice_laws.specs.Objects.{IsNumberOf, IsObject}
-use Rattle.mount_laws.specs.Renaming.{is_one, move_fault, rename_fault, Renames, RenamesSame}
+use Rattle.mount_laws.specs.Renaming.{is_one, rename_fault, Renames, RenamesSame}
 use Rattle.mount_laws.proofs.Renaming.{law_of_rename, law_of_same_rename, told}
 use Rattle.object_table.specs.Objects as spots
 use Rattle.object_table.specs.Objects.{left_of, spot_of, IsVacant, NoneBelow}
@@ -46,15 +46,6 @@ use Rattle.mount_calls.proofs.Stating.{the_layers, the_lowers, the_upper, Alike}
 
 -- what a rename that is not refused tells of its paths
 module _ (U : Layer) (lowers : List Layer) (redirects : Bool) (p q : Path) where
-  abbrev move : Bool → Option Errno
-  move names = move_fault (is_below p q) (shows 0 (U ∷ lowers) p) (shows 0 (U ∷ lowers) q) (base U lowers p && not redirects) names
-
-  abbrev after_walks : Option Errno → Option Errno
-  after_walks moves = or_else (walk_fault (U ∷ lowers) p) (or_else (parents_fault (U ∷ lowers) q) moves)
-
-  abbrev fault : Option Errno → Option Errno
-  fault moves = or_else (when (is_root p || is_root q) EBUSY) (after_walks moves)
-
   -- the names in the new place are of no account where both paths are one object
   pub one-fault : is_one U p q ≡ true → (a b : Bool) → rename_fault U lowers redirects p q a ≡ rename_fault U lowers redirects p q b
   one-fault one a b = grind arith
