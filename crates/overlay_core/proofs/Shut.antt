@@ -16,7 +16,6 @@ use Rattle.merged_lookup.specs.Merged.{layers_of, lowers_of}
 use Rattle.mount_laws.specs.Looks.{IsMountOf}
 use Rattle.mount_laws.specs.OpenFiles.{IsLive}
 use Rattle.mount_laws.specs.Removals.{ShowsNoName, rmdir_fault}
-use Rattle.mount_laws.proofs.Links.{first-none}
 use Rattle.mount_laws.proofs.Looks.{at-some}
 use Rattle.mount_laws.proofs.OpenFiles.{law_of_live_shown, one-number}
 use Rattle.object_table.specs.Objects.{At, IsBare, Nowhere, Objects, Spot, Upper, spot_of}
@@ -168,7 +167,7 @@ empty-bare m from p has allowed empty =
     ))
   where
     root : (q : Path) → rmdir_fault (layers_of m.layers) q false ≡ None → q ≢ []
-    root [] fine is = let no : Some EBUSY ≡ None = first-none (Some EBUSY) _ fine in absurd (cc)
+    root [] fine is = let no : Some EBUSY ≡ None = fine in absurd (cc)
     root (n ∷ q) fine is = absurd (cc)
 
     nothing : (y : Option NodeId) → is_some y ≡ false → y ≡ None
