@@ -12,6 +12,7 @@ use Rattle.plain_model.specs.Runs.{Called}
 use Rattle.merged_lookup.specs.Merged.{lowers_of}
 use Rattle.notice_laws.specs.Notified.{Passes, Resumes, Tracks}
 use mathlib.Core.HLevel.{is_prop→PathP}
+use Rattle.std.proofs.Props.{props}
 use Rattle.open_handles.specs.declared.clients.Clients.{Clients}
 use Rattle.notifier.specs.Notifying.{AreCounted, notified}
 use Rattle.notifier.specs.Watches.{Watches}
@@ -34,7 +35,7 @@ use Rattle.watch_table.specs.declared.hook.Rule.{Ghosts as Ruled}
 
 -- what is counted has one proof at most
 counted-prop : (clients : Clients) (k : Watches) → IsProp (AreCounted clients k)
-counted-prop clients k = Prim.hlevel
+counted-prop clients k = Prim.hlevel props
 
 -- a mount with watches is told by its parts
 pub same-watched : {F G : Type 0} {asks : Callback F} {rule : Ruled G}

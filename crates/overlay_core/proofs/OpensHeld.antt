@@ -1,6 +1,6 @@
 -- What an open holds beforehand, and what is let go of it where memory runs out: what is kept for
 -- watches agrees with each state still.
-use Rattle.std.proofs.Common.{arith, ◌≡◌, ◌≢◌, ◌∙◌, ℕ, ◌+◌, ◌≤◌, true, cond, nat_eq, eq-eqb, [], ◌∷◌}
+use Rattle.std.proofs.Common.{arith, ◌≡◌, ◌≢◌, ◌∙◌, ℕ, ◌+◌, ◌≤◌, true, List, cond, nat_eq, eq-eqb, [], ◌∷◌}
 use Rattle.std.proofs.Common.{Option, None, Some, is_some, refl, sym, ap, subst, inl, inr, ◌⊎◌}
 use Rattle.std.proofs.lemmas.Bool.{cases_eq, false≢true}
 use Rattle.ov_base.specs.Calls.{Call}
@@ -22,7 +22,7 @@ use Rattle.open_handles.specs.declared.handle.Hold.{Hold}
 use Rattle.open_handles.specs.Attaching as held
 use Rattle.open_handles.specs.Attaching.{beside, is_attached, tables_of, KeepsAttached, KeepsClients, LetsGo}
 use Rattle.open_handles.specs.Holding.{HoldsNew, HoldsWay, IsHeldWay, tables_in, uses_in}
-use Rattle.open_handles.specs.TrackedHandles.{SameTracked, SetsTracked, TrackedTables, handle_uses}
+use Rattle.open_handles.specs.TrackedHandles.{SameTracked, SetsTracked, TrackedTables, handle_uses, way_uses}
 use Rattle.open_handles.proofs.Counting.{IsCounted}
 use Rattle.notice_laws.specs.declared.object.Object.{Object}
 use Rattle.notice_laws.specs.declared.object.Object.TheVariants as object
@@ -37,10 +37,18 @@ use Rattle.mount_calls.specs.declared.open_calls.Judged.{Judged}
 use Rattle.mount_calls.specs.declared.mount.Mount.{Mount}
 use Rattle.mount_calls.specs.Looking.{IsJudged}
 use Rattle.mount_calls.specs.Numbers.{HasRoom, HasRoomFor, HoldsFor, IsHeldAt, KeepsOpen}
+use Rattle.std.specs.Option.{unwrap_or}
+use Rattle.copy_up.specs.Showing.{StaysThin}
+use Rattle.open_handles.specs.Listings.{file_in}
+use Rattle.open_handles.proofs.Entries.{opened_at}
+use Rattle.mount_calls.specs.Files.{key_in_upper}
+use Rattle.mount_calls.specs.Keeping.{KeepsLayers}
 use Rattle.mount_calls.specs.Living.{KeepsNamed}
 use Rattle.mount_calls.specs.Making.{AnswersCall, RunsOut}
 use Rattle.mount_calls.specs.States.{IsStateOf, StaysState}
-use Rattle.overlay_core.specs.Watching.{Agrees}
+use Rattle.overlay_core.specs.Opening.{key_of_opened}
+use Rattle.overlay_core.specs.Watching.{Agrees, Keeps}
+use Rattle.overlay_core.proofs.Between.{attached-on}
 use Rattle.overlay_core.proofs.Counted.{known-room, same-fewer}
 use Rattle.overlay_core.proofs.Opens.{held-spot, lowest-given, open-no-link, open-shown}
 use Rattle.overlay_core.proofs.Opens.{ready-tracks, way-tracks}
@@ -90,7 +98,7 @@ module _ (m : Mount) (from : Watches) (c : ℕ) (p : Path) (f : OpenFlags) (judg
   abbrev U : Layer
   U = mount_upper m
 
-  abbrev L : _
+  abbrev L : List Layer
   L = lowers_of m.layers
 
   fine : refusal s c (Open p f judged.mode) ≡ None
@@ -130,6 +138,9 @@ given-back old first back p hold holds was now counted lets less n spot is = by 
         let left = now.beside hold.object in
         let gone = less hold.object in
         let held_once = holds.object.held in
+        let by_it : handle_uses hold.object hold ≡
+        cond (nat_eq hold.object hold.object) 1 0 + way_uses hold.object hold.way = refl in
+        let counted_once = one in
         let uses : uses_in back.attached hold.object ≡ uses_in first.attached hold.object =
         ap (λ x. uses_in x hold.object) lets.clients.attached in
         omega arith
@@ -288,3 +299,25 @@ back-agrees old first mid last from s a same prepared out only cancelled t =
           (law_of_staying (mount_upper first) (mount_upper mid) s k
           (λ d key q is at. out.live s.tree d key is) (tracks-same old first s k same t));
     }
+
+-- the key of what a descriptor is on stays where the clients only hold otherwise
+pub key-kept : (mid new : Clients) (c d : ℕ) → new.attached ≡ mid.attached →
+    key_of_opened new c d ≡ key_of_opened mid c d
+key-kept mid new c d same =
+    ap (λ a. unwrap_or (key_in_upper (file_in (opened_at a c d))) 0) same
+
+-- what an open leaves alone it leaves alone also with what is held before and let go afterwards
+pub keeps-opened : (old first mid last : Mount) (k : Call) → first.layers ≡ old.layers →
+    KeepsAttached old.clients first.clients → KeepsAttached first.clients mid.clients →
+    KeepsLayers k first.layers mid.layers → mid.layers.lowers ≡ first.layers.lowers →
+    StaysThin first.layers mid.layers → last.layers ≡ mid.layers →
+    KeepsAttached mid.clients last.clients → Keeps k old last
+keeps-opened old first mid last k same one two kept lowers thin after_it three = record {
+  clients = attached-on old.clients first.clients last.clients one
+      (attached-on first.clients mid.clients last.clients two three);
+  layers = subst (λ (l : Layers). KeepsLayers k l last.layers) same
+      (subst (λ (l : Layers). KeepsLayers k first.layers l) (sym after_it) kept);
+  lowers = ap (λ (l : Layers). l.lowers) after_it ∙ lowers ∙ ap (λ (l : Layers). l.lowers) same;
+  thin = subst (λ (l : Layers). StaysThin l last.layers) same
+      (subst (λ (l : Layers). StaysThin first.layers l) (sym after_it) thin);
+}

@@ -11,14 +11,11 @@ use Rattle.ov_base.specs.declared.node_id.NodeId.{NodeId}
 use Rattle.plain_model.specs.Layers.{Layer, Name, Named, Path, base, held, is_directory, shows}
 use Rattle.plain_model.specs.Tree.{Tree, entry, is_folder, is_untouched, node_at, node_of}
 use Rattle.plain_model.specs.Machine.{Handle, State, handle_of}
-use Rattle.plain_model.specs.Refusals.{is_root}
-use Rattle.plain_model.proofs.Looking.{when-not}
 use Rattle.layer_tree.specs.Tree.{layer_of}
 use Rattle.merged_lookup.specs.Merged.{layers_of, lowers_of}
 use Rattle.mount_laws.specs.Looks.{IsMountOf}
 use Rattle.mount_laws.specs.OpenFiles.{IsLive}
 use Rattle.mount_laws.specs.Removals.{ShowsNoName, rmdir_fault}
-use Rattle.mount_laws.proofs.Links.{first-none}
 use Rattle.mount_laws.proofs.Looks.{at-some}
 use Rattle.mount_laws.proofs.OpenFiles.{law_of_live_shown, one-number}
 use Rattle.object_table.specs.Objects.{At, IsBare, Nowhere, Objects, Spot, Upper, spot_of}
@@ -164,13 +161,14 @@ pub empty-bare : (m : Mount) (from : Watches) (p : Path) → ∥ HasState m from
     IsBareAt m.clients.objects p
 empty-bare m from p has allowed empty =
     bare-squashed m.clients.objects p has (λ (x : HasState m from). (
-      λ is. root (ap is_root is),
+      root p allowed,
       none-tracked (mount_upper m) x.0 (notified m.clients from) x.1.tracks p
           (none-below x.0.tree p (gone x.0 x.1)),
     ))
   where
-    root : is_root p ≡ true → ⊥
-    root is = false≢true (sym (when-not (is_root p) EBUSY (first-none _ _ allowed)) ∙ is)
+    root : (q : Path) → rmdir_fault (layers_of m.layers) q false ≡ None → q ≢ []
+    root [] fine is = let no : Some EBUSY ≡ None = fine in absurd (cc)
+    root (n ∷ q) fine is = absurd (cc)
 
     nothing : (y : Option NodeId) → is_some y ≡ false → y ≡ None
     nothing None is = refl

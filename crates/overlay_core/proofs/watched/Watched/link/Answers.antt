@@ -102,11 +102,11 @@ linked-requires g c =
     let first = c.prepare_lift.new.self in
     let mid = c.give_name.new.self in
     let lifted = c.lift.new.self in
-    counts-on mid.clients lifted.clients from c.lift.ensures.beside
+    record { counted = counts-on mid.clients lifted.clients from c.lift.ensures.beside
     (counts-on first.clients mid.clients from
     (holds-same first.clients mid.clients c.give_name.ensures.clients).beside
     (counts-on old.clients first.clients from c.prepare_lift.ensures.same.beside
-    c.args.self.now.counted))
+    c.args.self.now.counted)) }
 
 pub returns : goal.returns
 returns g c =

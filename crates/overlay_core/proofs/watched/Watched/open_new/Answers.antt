@@ -9,8 +9,9 @@ use Rattle.mount_calls.specs.declared.mount.Mount.{Mount}
 use Rattle.notice_laws.specs.declared.object.Object.TheVariants as object
 use Rattle.notifier.specs.Notifying.{notified}
 use Rattle.overlay_core.specs.Watching.{Stays}
-use Rattle.overlay_core.proofs.Counted.{known}
-use Rattle.overlay_core.proofs.OpensHeld.{held-at, judged-since, tracks-spots}
+use Rattle.overlay_core.proofs.Between.{attached-on}
+use Rattle.overlay_core.proofs.Counted.{keeps-attached, known}
+use Rattle.overlay_core.proofs.OpensHeld.{held-at, judged-since, keeps-opened, tracks-spots}
 use Rattle.overlay_core.proofs.Performing.{keeps-layers, on-err}
 use Rattle.overlay_core.proofs.Watching.{mount_upper, tracks-same}
 use Rattle.overlay_core.proofs.watched.Watched.open_new.Goals as goal
@@ -71,3 +72,35 @@ open_judged-requires-clause-there g c =
     held-at c.args.self.now.mount c.prepare_open-prepared.new.self.clients c.args.path.now
     c.args.judged.top object.Other c.in_ok-hold.hold c.requires.judged.top c.requires.nothing
     c.in_ok-hold.ensures.holds
+
+pub open_judged-requires-clause-slot : goal.open_judged-requires-clause-slot
+open_judged-requires-clause-slot g c = c.in_ok-hold.ensures.slot
+
+pub returns-in-Ok-clause-kept : goal.returns-in-Ok-clause-kept
+returns-in-Ok-clause-kept g c =
+    let first = c.prepare_open-prepared.new.self in
+    let all = c.prepare_open-prepared.ensures in
+    let mid = c.open_judged.new.self in
+    let lifted = c.lift_new.new.self in
+    let clients = c.opened_new.new.clients in
+    let said = c.open_judged.ensures in
+    keeps-opened c.args.self.now.mount first mid (record lifted { clients = clients })
+    (Open c.args.path.now c.args.flags c.args.judged.mode) (ap (λ (m : Mount). m.layers) all.only)
+    all.attached said.clients said.layers said.lowers said.thin
+    (ap (λ (m : Mount). m.layers) c.lift_new.ensures.only)
+    (attached-on mid.clients lifted.clients clients
+    (keeps-attached mid.clients lifted.clients c.lift_new.ensures.clients)
+    (keeps-attached lifted.clients clients c.opened_new.ensures.told.ends.clients))
+
+pub returns-in-Err-clause-kept : goal.returns-in-Err-clause-kept
+returns-in-Err-clause-kept g c =
+    let first = c.prepare_open-prepared.new.self in
+    let all = c.prepare_open-prepared.ensures in
+    let mid = c.open_judged.new.self in
+    let last = c.cancel_open.new.self in
+    let said = c.open_judged.ensures in
+    keeps-opened c.args.self.now.mount first mid last
+    (Open c.args.path.now c.args.flags c.args.judged.mode) (ap (λ (m : Mount). m.layers) all.only)
+    all.attached said.clients said.layers said.lowers said.thin
+    (ap (λ (m : Mount). m.layers) c.cancel_open.ensures.only)
+    (keeps-attached mid.clients last.clients c.cancel_open.ensures.lets.clients)

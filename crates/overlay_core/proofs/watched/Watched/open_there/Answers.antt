@@ -6,7 +6,7 @@ use Rattle.ov_base.specs.declared.reply.Reply.TheVariants.{Descriptor, Refused}
 use Rattle.merged_lookup.specs.declared.layers.Layers.{Layers}
 use Rattle.mount_calls.specs.Looking.{IsLook}
 use Rattle.mount_calls.specs.declared.mount.Mount.{Mount}
-use Rattle.notifier.specs.Notifying.{notified}
+use Rattle.notifier.specs.Notifying.{AreCounted, notified}
 use Rattle.overlay_core.specs.Watching.{Stays}
 use Rattle.ov_base.specs.declared.errno.Errno.{Errno}
 use Rattle.ov_base.specs.declared.reply.Reply.{Reply}
@@ -17,16 +17,16 @@ use Rattle.overlay_core.specs.Opening.{key_of_opened}
 use Rattle.overlay_core.proofs.Counted.{counts-on, known}
 use Rattle.notice_laws.specs.Opens.{opens_to}
 use Rattle.mount_calls.specs.Numbers.{Becomes}
-use Rattle.overlay_core.proofs.Between.{performed-on}
+use Rattle.overlay_core.proofs.Between.{attached-on, performed-on}
 use Rattle.open_handles.specs.declared.clients.Clients.{Clients}
 use Rattle.open_handles.specs.Attaching.{LetsGo, beside}
 use Rattle.open_handles.specs.TrackedHandles.{handle_uses}
-use Rattle.overlay_core.proofs.Counted.{ends-stay, tracks-fewer}
+use Rattle.overlay_core.proofs.Counted.{ends-stay, keeps-attached, tracks-fewer}
 use Rattle.overlay_core.proofs.Lifts.{at-lower}
 use Rattle.overlay_core.proofs.OpensHeld.{held-way, sets-on, sets-since}
 use Rattle.overlay_core.proofs.OpensHeld.{beside-opened, held-number, opened-by, room-for}
 use Rattle.overlay_core.proofs.OpensTold.{goes-opened, opened-free, opened-shown}
-use Rattle.overlay_core.proofs.OpensHeld.{back-agrees, held-at, judged-since, tracks-spots, tracks-there}
+use Rattle.overlay_core.proofs.OpensHeld.{back-agrees, held-at, keeps-opened, key-kept, judged-since, tracks-spots, tracks-there}
 use Rattle.overlay_core.proofs.Performing.{keeps-layers, on-err}
 use Rattle.overlay_core.proofs.Watching.{mount_upper, tracks-same}
 use Rattle.overlay_core.proofs.watched.Watched.open_there.Goals as goal
@@ -138,9 +138,9 @@ opened-requires g c =
     let first = c.prepare_open-prepared.new.self.clients in
     let mid = c.open_judged.new.self.clients in
     let lifted = c.lift_opened.new.mount.clients in
-    counts-on mid lifted c.args.self.now.notifier c.lift_opened.ensures.beside
+    record { counted = counts-on mid lifted c.args.self.now.notifier c.lift_opened.ensures.beside
     (λ n. beside-opened old first mid c.in_ok-hold.hold n (c.in_ok-hold.ensures.beside n)
-    (c.in-Ok.ensures.opens.beside n) ∙ c.args.self.now.counted n)
+    (c.in-Ok.ensures.opens.beside n) ∙ c.args.self.now.counted n) }
 
 pub returns-in-Ok-clause-goes : goal.returns-in-Ok-clause-goes
 returns-in-Ok-clause-goes g c =
@@ -176,8 +176,8 @@ returns-in-Ok-clause-goes g c =
     c.open_judged.ensures.lowers)) in
     let key = key_of_opened mid.clients client fd in
     let found : key ≡ key_of_opened clients client fd =
-    ap (λ a. key_of_opened (record clients { attached = a }) client fd)
-    (sym (told.ends.clients.attached ∙ lift.clients.attached)) in
+    sym (key-kept mid.clients clients client fd
+    (told.ends.clients.attached ∙ lift.clients.attached)) in
     let numbered = held-number old.clients.objects first.clients.objects path object hold
     c.requires.something holds in
     let became = subst (λ (o : Objects). Becomes (opens_to flags.writes path object key) o
@@ -221,7 +221,7 @@ returns-in-Err-clause-err g c =
     c.cancel_open.ensures.lets in
     let knows = known old.clients from c.lawful.ensures.known c.lawful.ensures.counted
     c.args.self.now.counted in
-    let counts = λ n. beside-opened old.clients first.clients last.clients hold n
+    let counts : AreCounted last.clients from = λ n. beside-opened old.clients first.clients last.clients hold n
     (c.in_ok-hold.ensures.beside n)
     (subst (λ (x : Clients). beside last.clients n + handle_uses n hold ≡ beside x n)
     c.in-Err.ensures.err (c.cancel_open.ensures.beside n)) ∙ c.args.self.now.counted n in
@@ -232,3 +232,32 @@ returns-in-Err-clause-err g c =
     (tracks-there old from client path c.args.flags c.args.judged c.requires.there
     c.requires.judged knows first.clients hold all.tracked s a object c.requires.stands
     c.requires.something c.in_ok-hold.ensures.holds))
+
+pub returns-in-Ok-clause-kept : goal.returns-in-Ok-clause-kept
+returns-in-Ok-clause-kept g c =
+    let first = c.prepare_open-prepared.new.self in
+    let all = c.prepare_open-prepared.ensures in
+    let mid = c.open_judged.new.self in
+    let lifted = c.lift_opened.new.mount in
+    let clients = c.opened.new.clients in
+    let said = c.open_judged.ensures in
+    keeps-opened c.args.self.now.mount first mid (record lifted { clients = clients })
+    (Open c.args.path.now c.args.flags c.args.judged.mode) (ap (λ (m : Mount). m.layers) all.only)
+    all.attached said.clients said.layers said.lowers said.thin
+    (ap (λ (m : Mount). m.layers) c.lift_opened.ensures.only)
+    (attached-on mid.clients lifted.clients clients
+    (keeps-attached mid.clients lifted.clients c.lift_opened.ensures.clients)
+    (keeps-attached lifted.clients clients c.opened.ensures.told.ends.clients))
+
+pub returns-in-Err-clause-kept : goal.returns-in-Err-clause-kept
+returns-in-Err-clause-kept g c =
+    let first = c.prepare_open-prepared.new.self in
+    let all = c.prepare_open-prepared.ensures in
+    let mid = c.open_judged.new.self in
+    let last = c.cancel_open.new.self in
+    let said = c.open_judged.ensures in
+    keeps-opened c.args.self.now.mount first mid last
+    (Open c.args.path.now c.args.flags c.args.judged.mode) (ap (λ (m : Mount). m.layers) all.only)
+    all.attached said.clients said.layers said.lowers said.thin
+    (ap (λ (m : Mount). m.layers) c.cancel_open.ensures.only)
+    (keeps-attached mid.clients last.clients c.cancel_open.ensures.lets.clients)

@@ -30,8 +30,8 @@ returns-in_err-rmdir g c =
 
 pub removed-requires : goal.removed-requires
 removed-requires g c =
-    counts-on c.args.self.now.mount.clients c.rmdir.new.self.clients c.args.self.now.notifier
-    c.rmdir.ensures.beside c.args.self.now.counted
+    record { counted = counts-on c.args.self.now.mount.clients c.rmdir.new.self.clients c.args.self.now.notifier
+    c.rmdir.ensures.beside c.args.self.now.counted }
 
 pub returns : goal.returns
 returns g c =

@@ -80,10 +80,10 @@ pub unlinked-requires : goal.unlinked-requires
 unlinked-requires g c =
     let old = c.args.self.now.mount in
     let mid = c.unlink.new.self in
-    counts-on mid.clients c.lose_name.new.self.clients c.args.self.now.notifier
+    record { counted = counts-on mid.clients c.lose_name.new.self.clients c.args.self.now.notifier
     c.lose_name.ensures.beside
     (counts-on old.clients mid.clients c.args.self.now.notifier
-    (holds-same old.clients mid.clients c.unlink.ensures.clients).beside c.args.self.now.counted)
+    (holds-same old.clients mid.clients c.unlink.ensures.clients).beside c.args.self.now.counted) }
 
 pub returns : goal.returns
 returns g c =
