@@ -44,6 +44,8 @@ use Rattle.overlay_core.proofs.Performing.{keeps-same}
 use Rattle.overlay_core.proofs.ReadOnly.{goes-as, state-goes, state-stays, stays-as}
 use Rattle.overlay_core.proofs.ReadSteps.{plain-held, plain-writes, same-held, unchanged-same}
 use Rattle.overlay_core.proofs.Watching.{stays}
+use Rattle.watch_table.specs.declared.hook.Callback.{Ghosts as Callback}
+use Rattle.watch_table.specs.declared.hook.Rule.{Ghosts as RuleGhosts}
 
 -- the same clients are attached
 attached-same : (a b : Clients) → b ≡ a → KeepsAttached a b
@@ -57,9 +59,9 @@ last-not-copy (Place second count) last is = cc
 last-not-copy (Begin d) last is = cc
 last-not-copy Copy last is = absurd last
 
-module _ {F G : Type 0} (shows : Rule) where
+module _ {F G : Type 0} {asks : Callback F} {rule : RuleGhosts G} (shows : Rule) where
   -- a step that changes the open jobs alone
-  pub made-aside : (m : Watched F G) (e w : List (Option OpenJob)) (j k : Job) (turn : Turn)
+  pub made-aside : (m : Watched F G asks rule) (e w : List (Option OpenJob)) (j k : Job) (turn : Turn)
       (next : Next) (t : Option Beginning) → AreTemps (lowers_of m.mount.layers) w →
       TurnsWatched m m e w j k false shows turn → StepsBy m m e w j k turn next t →
       ((r : Reply) → turn ≡ Done r → ⊥) → Makes m m e w j k false shows turn next t
@@ -76,7 +78,7 @@ module _ {F G : Type 0} (shows : Rule) where
     reads = λ only. absurd (false≢true only);
   }
 
-  module _ (old new : Watched F G) (e w : List (Option OpenJob)) (j k : Job) (second : Bool) (count : ℕ) (t : Option Beginning) where
+  module _ (old new : Watched F G asks rule) (e w : List (Option OpenJob)) (j k : Job) (second : Bool) (count : ℕ) (t : Option Beginning) where
     -- a step that places a parent, or runs out of memory for it
     pub made-place : (IsPlaced : Type 0) → PlacesFor old.mount new.mount j.call second count IsPlaced →
         new.notifier ≡ old.notifier → AreTemps (lowers_of new.mount.layers) w → (turn : Turn) →
@@ -121,7 +123,7 @@ module _ {F G : Type 0} (shows : Rule) where
         made-place IsPlaced p told temps NoMemory (placed-stays IsPlaced p told, over)
         ((λ is. cc), same, number) (λ r is. cc)
 
-  module _ (b : Bool) (old new : Watched F G) (work : List (Option OpenJob)) (j k : Job)
+  module _ (b : Bool) (old new : Watched F G asks rule) (work : List (Option OpenJob)) (j k : Job)
       (next : Next) (t : Option Beginning) (last : IsLast next)
       (temps : AreTemps (lowers_of old.mount.layers) work) where
     -- a step that ends the call
@@ -198,7 +200,7 @@ module _ {F G : Type 0} (shows : Rule) where
           )) r turn ends performed
 
   -- a step that refuses the call
-  pub made-refused : (b : Bool) (old : Watched F G) (work : List (Option OpenJob)) (j k : Job)
+  pub made-refused : (b : Bool) (old : Watched F G asks rule) (work : List (Option OpenJob)) (j k : Job)
       (next : Next) (t : Option Beginning) → IsLast next →
       AreTemps (lowers_of old.mount.layers) work → (e : Errno) (turn : Turn) →
       EndsBy k (Ok (Refused e)) turn → is_attached old.mount.clients j.client ≡ true →
@@ -216,7 +218,7 @@ module _ {F G : Type 0} (shows : Rule) where
       (λ is. let no : Done (Refused e) ≡ Done replies.Done = is in absurd (cc)) (λ only p. refl))
 
   -- THE NEXT STEP WAS MADE, and what it is told by comes to what the job's is
-  pub made-next : (b d : Bool) (old new : Watched F G) (work e w : List (Option OpenJob))
+  pub made-next : (b d : Bool) (old new : Watched F G asks rule) (work e w : List (Option OpenJob))
       (j k : Job) (turn : Turn) (next : Next) (t : Option Beginning) → d ≡ b →
       e ≡ without work j → t ≡ held_by work j →
       ((s : State) → AgreesAs b old.mount old.notifier s →
@@ -254,7 +256,7 @@ next-plain m j t r plain =
     (λ fine. plain-lacks (upper_of m.layers) (lowers_of m.layers) m.metacopy j.call false
     (sym plain) refl)
 
-module _ {F G : Type 0} (b : Bool) (shows : Rule) (old new : Watched F G)
+module _ {F G : Type 0} {asks : Callback F} {rule : RuleGhosts G} (b : Bool) (shows : Rule) (old new : Watched F G asks rule)
     (e w : List (Option OpenJob)) (j k : Job) where
   -- some state agrees after a step too
   pub after-made : (turn : Turn) (next : Next) (t : Option Beginning) →
