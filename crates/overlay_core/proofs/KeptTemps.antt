@@ -78,7 +78,8 @@ held-entry work j t n number e =
     entry-of j.client j.chunks t (job_at work n)
     (subst (λ m. held work m j.client j.chunks ≡ Some t) number (held-under work j t e))
 
-module _ {F G : Type 0} {asks : Callback F} {rule : RuleGhosts G} (shows : Rule) (m : Watched F G asks rule) (work w : List (Option OpenJob)) (j k : Job) (n : ℕ)
+module _ {F G : Type 0} {asks : Callback F} {rule : RuleGhosts G} (shows : Rule)
+    (m : Watched F G asks rule) (work w : List (Option OpenJob)) (j k : Job) (n : ℕ)
     (number : j.number ≡ Some n) (t : Beginning) (holds : held_by work j ≡ Some t)
     (temps : AreTemps (lowers_of m.mount.layers) work) where
   -- the lower layers

@@ -1,5 +1,5 @@
 -- Closes of a client, also while it goes, on both sides.
-use Rattle.std.proofs.Common.{◌≡◌, ◌≢◌, ℕ, zero, suc, ◌+◌, ◌<◌, ◌≤◌, true, cond, List, [], ◌∷◌, ◌++◌, Option, None, Some, IsSome, slice_get, slice_set, get_or, take, refl, sym, ap, ◌∙◌, subst, is_none, nat_eq, length, option_map, arith, ◌⊎◌, inl, inr}
+use Rattle.std.proofs.Common.{◌≡◌, ◌≢◌, ℕ, zero, suc, ◌+◌, ◌<◌, ◌≤◌, ◌↔◌, Bool, true, false, cond, filter, not, List, [], ◌∷◌, ◌++◌, Option, None, Some, IsSome, slice_get, slice_set, get_or, take, refl, sym, ap, ◌∙◌, subst, is_none, nat_eq, length, option_map, arith, ◌⊎◌, inl, inr}
 use mathlib.Core.Logic.{∥∥₁_elim, ∥∥₁_map}
 use mathlib.Core.HLevel.{⊥_prop}
 use Rattle.std.specs.List.{IsDistinct, list_any}
@@ -33,27 +33,30 @@ use Rattle.open_handles.specs.declared.handle.On.{On}
 use Rattle.open_handles.specs.declared.handle.On.TheVariants.{Directory, File}
 use Rattle.open_handles.specs.TrackedHandles.{TrackedHandle}
 use Rattle.object_table.specs.Dentries.{Dentries}
-use Rattle.object_table.specs.Objects.{Objects, spot_of}
-use Rattle.open_handles.specs.TrackedHandles.{tracked_by}
+use Rattle.object_table.specs.Objects.{Nowhere, Objects, spot_of}
+use Rattle.open_handles.specs.TrackedHandles.{SetsTracked, TrackedTables, tracked_by}
 use Rattle.notice_laws.specs.Notified.{AreKnown, Bearers, IsSlotOn, Notified, Passes, Resumes}
-use Rattle.notice_laws.specs.Steps.{Closed, closing_bits}
+use Rattle.notice_laws.specs.Steps.{Closed, IsClosedEnd, closing_bits}
+use Rattle.notice_laws.specs.Telling.{IsEnd, of_both, of_end}
 use Rattle.notice_laws.specs.Clients.{Departs, Mutes}
 use Rattle.notice_laws.proofs.Clients.{law_of_departed, law_of_muted}
 use Rattle.notice_laws.proofs.Closing.{law_of_closed}
 use Rattle.mount_calls.specs.declared.mount.Mount.{Mount}
 use Rattle.open_handles.specs.declared.clients.Clients.{Clients}
 use Rattle.open_handles.specs.Attaching.{KeepsOthers, Leaves, is_attached, opened_by, tables_of}
-use Rattle.open_handles.specs.Handles.{tracked_in}
+use Rattle.open_handles.specs.Handles.{tracked_in, tracked_of}
+use Rattle.open_handles.specs.Holding.{tables_in}
 use Rattle.open_handles.proofs.Entries.{tracked-read}
-use Rattle.notifier.specs.Notifying.{LetsEnd, notified}
+use Rattle.notifier.specs.Notifying.{IsTold, LetsEnd, notified}
 use Rattle.notifier.specs.Watches.{Watches}
 use Rattle.mount_calls.specs.Living.{KeepsNamed, KeepsPaths}
+use Rattle.mount_calls.specs.Numbers as numbers
 use Rattle.mount_calls.proofs.FileSight.{file-not-folder}
 use Rattle.mount_calls.proofs.Serving.{get-others, slot-closed, slot-open}
 use Rattle.mount_calls.specs.States.{IsOpenAs, IsOpenOnAs, IsSlot, IsStateOf, Serves}
 use Rattle.overlay_core.specs.Leaving.{ClosesEach, Follows, IsFollowed, Shuts, closing, closing_on}
 use Rattle.overlay_core.specs.Watching.{Agrees, Goes, HasState}
-use Rattle.overlay_core.proofs.Counted.{ends-stay}
+use Rattle.overlay_core.proofs.Counted.{becomes-fewer, becomes-same, ends-stay, tells-by}
 use Rattle.overlay_core.proofs.Watching.{lowers-same, tracks-same, mount_upper, with-instances}
 
 -- what agrees, agrees but for its instances
@@ -119,6 +122,38 @@ shuts-free shows m k c d none s a =
     subst (λ x. Answered x shows s c (Close d) (Refused EBADF) s) (sym bad) (refl, refl) in
     (s, step, a)
 
+-- what ends by a close, by whether its object was nowhere before
+closed-end : (old : Notified) (tables : TrackedTables) (n : ℕ) (lost : Bool) (ended : Option ℕ) →
+    ((lost ≡ true) ↔ (spot_of old.objects n ≡ Some Nowhere)) → IsEnd tables lost (Some n) ended →
+    IsClosedEnd old tables n ended
+closed-end old tables n true ended is end = inl (is.0 refl, end)
+closed-end old tables n false ended is end = inr ((λ at. false≢true (is.1 at)), end)
+
+-- A CLOSE WAS TOLD of a handle, after what it held was let go
+pub closed-told : (shows : Rule) (old mid new : Clients) (from to : Watches) (c d bits : ℕ)
+    (h : handles.Handle) (hold : TrackedHandle) (lost : Bool) (ended : Option ℕ) →
+    opened_by old c d ≡ Some h → hold ≡ tracked_of h →
+    ((lost ≡ true) ↔ (spot_of old.objects hold.object ≡ Some Nowhere)) → numbers.Shuts old mid c d →
+    IsEnd (tables_of mid) lost (Some hold.object) ended →
+    IsTold shows mid new from to (of_both hold.way (Some hold.object) bits ++ of_end ended) →
+    to.renames ≡ from.renames → Closed shows (notified old from) (notified new to) c d bits
+closed-told shows old mid new from to c d bits h hold lost ended is held gone shuts end told renames =
+    record {
+      handle = hold;
+      is_open = tracked-read old.attached c d ∙ ap tracked_in is ∙ ap Some (sym held);
+      ended = ended;
+      ends = subst (λ ts. IsClosedEnd (notified old from) ts hold.object ended) (sym same)
+          (closed-end (notified old from) (tables_of mid) hold.object lost ended gone end);
+      tells = tells-by shows old mid new from to _
+          (becomes-fewer old.objects mid.objects mid.objects shuts.fewer (becomes-same mid.objects))
+          told;
+      sets = subst (λ ts. SetsTracked (tables_of old) ts c d None) (sym same) shuts.sets;
+      renames = renames;
+    }
+  where
+    same : tables_of new ≡ tables_of mid
+    same = ap tables_in told.ends.clients.attached
+
 module _ (shows : Rule) (old new : Mount) (from to : Watches) (c d : ℕ) (r : Reply) (o : handles.Handle) (is_open : opened_by old.clients c d ≡ Some o) (serves : (s : State) → IsStateOf old s → Serves (refusal s c (Close d)) s c (Close d) r new) (lowers : new.layers.lowers ≡ old.layers.lowers) (named : (s : State) → IsStateOf old s → refusal s c (Close d) ≡ None → KeepsNamed s c old.layers new.layers (Close d)) (known : AreKnown (notified new.clients to)) (closed : Closed shows (notified old.clients from) (notified new.clients to) c d (closing o)) where
   -- an open descriptor is closed, and that is told
   pub shuts-open : Shuts shows old from c d r new to
@@ -172,6 +207,17 @@ goes-shut shows old new from to c d r there shut s a =
         tracks = on.2.tracks;
       },
     )
+
+-- a client's watches end unheard, as the laws of notices ask
+pub mutes-as : (before after_it : Clients) (old new : Watches) (c : ℕ) → LetsEnd before after_it →
+    new.instances ≡ filter (λ e. not (nat_eq e.client c)) old.instances →
+    new.renames ≡ old.renames → Mutes (notified before old) (notified after_it new) c
+mutes-as before after_it old new c ends mutes renames = record {
+  objects = ends.fewer;
+  handles = ap tables_in ends.clients.attached;
+  instances = mutes;
+  renames = renames;
+}
 
 module _ (m : Mount) (clients : Clients) (k l : Watches) (c : ℕ) (ends : LetsEnd m.clients clients)
     (mutes : Mutes (notified m.clients k) (notified clients l) c)

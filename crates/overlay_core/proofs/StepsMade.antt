@@ -78,7 +78,8 @@ module _ {F G : Type 0} {asks : Callback F} {rule : RuleGhosts G} (shows : Rule)
     reads = λ only. absurd (false≢true only);
   }
 
-  module _ (old new : Watched F G asks rule) (e w : List (Option OpenJob)) (j k : Job) (second : Bool) (count : ℕ) (t : Option Beginning) where
+  module _ (old new : Watched F G asks rule) (e w : List (Option OpenJob)) (j k : Job)
+      (second : Bool) (count : ℕ) (t : Option Beginning) where
     -- a step that places a parent, or runs out of memory for it
     pub made-place : (IsPlaced : Type 0) → PlacesFor old.mount new.mount j.call second count IsPlaced →
         new.notifier ≡ old.notifier → AreTemps (lowers_of new.mount.layers) w → (turn : Turn) →
@@ -256,7 +257,8 @@ next-plain m j t r plain =
     (λ fine. plain-lacks (upper_of m.layers) (lowers_of m.layers) m.metacopy j.call false
     (sym plain) refl)
 
-module _ {F G : Type 0} {asks : Callback F} {rule : RuleGhosts G} (b : Bool) (shows : Rule) (old new : Watched F G asks rule)
+module _ {F G : Type 0} {asks : Callback F} {rule : RuleGhosts G} (b : Bool) (shows : Rule)
+    (old new : Watched F G asks rule)
     (e w : List (Option OpenJob)) (j k : Job) where
   -- some state agrees after a step too
   pub after-made : (turn : Turn) (next : Next) (t : Option Beginning) →

@@ -85,7 +85,8 @@ IsLast (Place second count) = ⊥
 IsLast (Begin d) = ⊥
 IsLast Copy = ⊥
 
-module _ {F G : Type 0} {asks : Callback F} {rule : RuleGhosts G} (old new : Watched F G asks rule) (e w : List (Option OpenJob)) (j k : Job) where
+module _ {F G : Type 0} {asks : Callback F} {rule : RuleGhosts G}
+    (old new : Watched F G asks rule) (e w : List (Option OpenJob)) (j k : Job) where
   -- WHAT A STEP DOES THAT LEAVES MORE TO DO. A placing adds the lacking directory to the upper, as it
   -- is shown, and keeps the temp. A begin and a copied chunk change the temp alone.
   abbrev pub MoreBy : Next → Option Beginning → Type 0
