@@ -21,7 +21,9 @@ use Rattle.object_table.specs.Objects.{At, NoneBelow, Objects}
 use Rattle.notice_laws.specs.Notified.{Notified, Passes, Tracks}
 use Rattle.notice_laws.specs.Objects.{IsLower}
 use Rattle.notice_laws.proofs.Resuming.{paths-after}
-use Rattle.notifier.specs.Notifying.{IsBareAt}
+use Rattle.notifier.specs.Notifying.{notified}
+use Rattle.notifier.specs.Watches.{Watches}
+use Rattle.mount_calls.specs.Numbers.{IsBareAt}
 use Rattle.mount_calls.specs.declared.mount.Mount.{Mount}
 use Rattle.overlay_core.specs.Watching.{HasState}
 use Rattle.overlay_core.proofs.Performing.{Performed}
@@ -78,12 +80,13 @@ module _ (U : Layer) (s : State) (k : Notified) (t : Tracks U s k) where
   removed-bare V lowers c p passes = gone-bare (tree_after s c (Rmdir p)) p (paths-after U V lowers s c (Rmdir p) passes)
 
 -- WHAT A CALL THAT IS DONE REMOVES is bare, also where the state isn't told
-pub done-bare : (c : ℕ) (k : Call) (r : Reply) (old new : Mount) (from : Notified) (p : Path) → Performed c k r old new → r ≡ Done →
+pub done-bare : (c : ℕ) (k : Call) (r : Reply) (old new : Mount) (from : Watches) (p : Path) → Performed c k r old new → r ≡ Done →
     ∥ HasState old from ∥₁ →
-    ((s : State) → Tracks (mount_upper old) s from → Passes (mount_upper old) (mount_upper new) (lowers_of old.layers) s c k → IsBareAt from.objects p) →
-    IsBareAt from.objects p
+    ((s : State) → Tracks (mount_upper old) s (notified old.clients from) →
+    Passes (mount_upper old) (mount_upper new) (lowers_of old.layers) s c k →
+    IsBareAt old.clients.objects p) → IsBareAt old.clients.objects p
 done-bare c k r old new from p done is has bare =
-    bare-squashed from.objects p has (λ (x : HasState old from).
+    bare-squashed old.clients.objects p has (λ (x : HasState old from).
     let s = x.0 in
     let served = done.serves s x.1.stands in
     let fine = allowed-by s c k r new served (λ e refused. let no : Done ≡ Refused e = sym is ∙ refused in cc) in

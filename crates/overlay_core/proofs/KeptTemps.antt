@@ -23,7 +23,7 @@ use Rattle.overlay_core.specs.Temps.{AreTemps, IsTemp}
 use Rattle.overlay_core.proofs.StepsMade.{made-aside}
 use Rattle.overlay_core.proofs.TempFits.{changes-fit, held-fits, longer-fits, temp-few, temp-part}
 use Rattle.watch_table.specs.declared.hook.Callback.{Ghosts as Callback}
-use Rattle.watch_table.specs.declared.hook.Rule.{Ghosts as RuleGhosts}
+use Rattle.watch_table.specs.declared.hook.Rule.{Ghosts as Ruled}
 
 -- what there is, of which something holds
 pub some-and : (o : Option Beginning) (P : Beginning → Type 0) → IsSomeAnd o P → (t : Beginning) × (o ≡ Some t) × P t
@@ -78,8 +78,7 @@ held-entry work j t n number e =
     entry-of j.client j.chunks t (job_at work n)
     (subst (λ m. held work m j.client j.chunks ≡ Some t) number (held-under work j t e))
 
-module _ {F G : Type 0} {asks : Callback F} {rule : RuleGhosts G} (shows : Rule)
-    (m : Watched F G asks rule) (work w : List (Option OpenJob)) (j k : Job) (n : ℕ)
+module _ {F G : Type 0} {asks : Callback F} {rule : Ruled G} (shows : Rule) (m : Watched F G asks rule) (work w : List (Option OpenJob)) (j k : Job) (n : ℕ)
     (number : j.number ≡ Some n) (t : Beginning) (holds : held_by work j ≡ Some t)
     (temps : AreTemps (lowers_of m.mount.layers) work) where
   -- the lower layers

@@ -1,8 +1,11 @@
 -- Closes of a client, also while it goes, on both sides.
-use Rattle.std.proofs.Common.{◌≡◌, ◌≢◌, ℕ, zero, suc, ◌+◌, ◌<◌, ◌≤◌, ◌↔◌, Bool, true, false, cond, filter, not, List, [], ◌∷◌, ◌++◌, Option, None, Some, IsSome, slice_get, slice_set, get_or, take, refl, sym, ap, ◌∙◌, subst, is_none, nat_eq, length, option_map, arith, ◌⊎◌, inl, inr}
+use Rattle.std.proofs.Common.{◌≡◌, ◌≢◌, ℕ, zero, suc, ◌+◌, ◌<◌, ◌≤◌, Bool, true, false, cond, filter, not, is_some, List, [], ◌∷◌, ◌++◌, Option, None, Some, IsSome, slice_get, slice_set, get_or, take, refl, sym, ap, ◌∙◌, subst, is_none, nat_eq, length, option_map, arith, ◌⊎◌, inl, inr}
 use mathlib.Core.Logic.{∥∥₁_elim, ∥∥₁_map}
 use mathlib.Core.HLevel.{⊥_prop}
+use Rattle.std.specs.Prelude.{◌↔◌}
+use Rattle.std.specs.BTreeMap.{get}
 use Rattle.std.specs.List.{IsDistinct, list_any}
+use Rattle.std.specs.Ordering.{nat_cmp}
 use Rattle.std.proofs.lemmas.Bool.{false≢true, cases_lt}
 use Rattle.std.proofs.lemmas.List.{length-map, length-take-le, take_all, take_more}
 use Rattle.std.proofs.lemmas.Option.{slice_get-get_or, slice_get_past}
@@ -13,7 +16,7 @@ use Rattle.ov_base.specs.declared.errno.Errno.TheVariants.{EBADF}
 use Rattle.ov_base.specs.declared.reply.Reply.{Reply}
 use Rattle.ov_base.specs.declared.reply.Reply.TheVariants.{Refused}
 use Rattle.plain_model.specs.Layers.{Layer}
-use Rattle.plain_model.specs.Watching.{ISDIR, Instance, Rule}
+use Rattle.plain_model.specs.Watching.{CLOSE_NOWRITE, CLOSE_WRITE, ISDIR, Instance, Rule}
 use Rattle.plain_model.specs.Machine.{Handle, State, Table, handle_of, handles_of, held_in}
 use Rattle.plain_model.specs.Refusals.{refusal, when}
 use Rattle.plain_model.specs.Changes.{after, with_handle}
@@ -34,29 +37,31 @@ use Rattle.open_handles.specs.declared.handle.On.TheVariants.{Directory, File}
 use Rattle.open_handles.specs.TrackedHandles.{TrackedHandle}
 use Rattle.object_table.specs.Dentries.{Dentries}
 use Rattle.object_table.specs.Objects.{Nowhere, Objects, spot_of}
-use Rattle.open_handles.specs.TrackedHandles.{SetsTracked, TrackedTables, tracked_by}
+use Rattle.open_handles.specs.TrackedHandles.{tracked_by}
 use Rattle.notice_laws.specs.Notified.{AreKnown, Bearers, IsSlotOn, Notified, Passes, Resumes}
-use Rattle.notice_laws.specs.Steps.{Closed, IsClosedEnd, closing_bits}
-use Rattle.notice_laws.specs.Telling.{IsEnd, of_both, of_end}
+use Rattle.notice_laws.specs.Steps.{Closed, closing_bits}
 use Rattle.notice_laws.specs.Clients.{Departs, Mutes}
 use Rattle.notice_laws.proofs.Clients.{law_of_departed, law_of_muted}
 use Rattle.notice_laws.proofs.Closing.{law_of_closed}
 use Rattle.mount_calls.specs.declared.mount.Mount.{Mount}
 use Rattle.open_handles.specs.declared.clients.Clients.{Clients}
-use Rattle.open_handles.specs.Attaching.{KeepsOthers, Leaves, is_attached, opened_by, tables_of}
+use Rattle.open_handles.specs.Attaching.{KeepsClients, KeepsOthers, Leaves, is_attached, opened_by, tables_of}
 use Rattle.open_handles.specs.Handles.{tracked_in, tracked_of}
 use Rattle.open_handles.specs.Holding.{tables_in}
+use Rattle.open_handles.specs.TrackedHandles.{SetsTracked, TrackedTables}
+use Rattle.notice_laws.specs.Steps.{IsClosedEnd}
+use Rattle.notice_laws.specs.Telling.{IsEnd, of_both, of_end}
+use Rattle.mount_calls.specs.Numbers as closes
 use Rattle.open_handles.proofs.Entries.{tracked-read}
-use Rattle.notifier.specs.Notifying.{IsTold, LetsEnd, notified}
+use Rattle.notifier.specs.Notifying.{IsOther, IsTold, LetsEnd, notified}
 use Rattle.notifier.specs.Watches.{Watches}
 use Rattle.mount_calls.specs.Living.{KeepsNamed, KeepsPaths}
-use Rattle.mount_calls.specs.Numbers as numbers
 use Rattle.mount_calls.proofs.FileSight.{file-not-folder}
 use Rattle.mount_calls.proofs.Serving.{get-others, slot-closed, slot-open}
 use Rattle.mount_calls.specs.States.{IsOpenAs, IsOpenOnAs, IsSlot, IsStateOf, Serves}
 use Rattle.overlay_core.specs.Leaving.{ClosesEach, Follows, IsFollowed, Shuts, closing, closing_on}
 use Rattle.overlay_core.specs.Watching.{Agrees, Goes, HasState}
-use Rattle.overlay_core.proofs.Counted.{becomes-fewer, becomes-same, ends-stay, tells-by}
+use Rattle.overlay_core.proofs.Counted.{ends-stay, tells-by}
 use Rattle.overlay_core.proofs.Watching.{lowers-same, tracks-same, mount_upper, with-instances}
 
 -- what agrees, agrees but for its instances
@@ -122,37 +127,47 @@ shuts-free shows m k c d none s a =
     subst (λ x. Answered x shows s c (Close d) (Refused EBADF) s) (sym bad) (refl, refl) in
     (s, step, a)
 
--- what ends by a close, by whether its object was nowhere before
-closed-end : (old : Notified) (tables : TrackedTables) (n : ℕ) (lost : Bool) (ended : Option ℕ) →
-    ((lost ≡ true) ↔ (spot_of old.objects n ≡ Some Nowhere)) → IsEnd tables lost (Some n) ended →
-    IsClosedEnd old tables n ended
-closed-end old tables n true ended is end = inl (is.0 refl, end)
-closed-end old tables n false ended is end = inr ((λ at. false≢true (is.1 at)), end)
+-- the bits by which a close is told are no rename's
+pub closing-other : (h : handles.Handle) → IsOther (closing h)
+closing-other h = by h.on
+  where
+    of : (b : Bool) → IsOther (cond b CLOSE_WRITE CLOSE_NOWRITE)
+    of true = (refl, refl)
+    of false = (refl, refl)
 
--- A CLOSE WAS TOLD of a handle, after what it held was let go
-pub closed-told : (shows : Rule) (old mid new : Clients) (from to : Watches) (c d bits : ℕ)
-    (h : handles.Handle) (hold : TrackedHandle) (lost : Bool) (ended : Option ℕ) →
-    opened_by old c d ≡ Some h → hold ≡ tracked_of h →
-    ((lost ≡ true) ↔ (spot_of old.objects hold.object ≡ Some Nowhere)) → numbers.Shuts old mid c d →
-    IsEnd (tables_of mid) lost (Some hold.object) ended →
-    IsTold shows mid new from to (of_both hold.way (Some hold.object) bits ++ of_end ended) →
-    to.renames ≡ from.renames → Closed shows (notified old from) (notified new to) c d bits
-closed-told shows old mid new from to c d bits h hold lost ended is held gone shuts end told renames =
+    by : (x : On) → IsOther (closing_on x)
+    by (Directory listing) = (refl, refl)
+    by (File f) = of f.writes
+
+-- whose end is told, by whether the object is nowhere
+ended-as : (ks : TrackedTables) (objects : Objects) (n : ℕ) (lost : Bool) (ended : Option ℕ) →
+    (lost ≡ true) ↔ (spot_of objects n ≡ Some Nowhere) → IsEnd ks lost (Some n) ended →
+    ((spot_of objects n ≡ Some Nowhere) × IsEnd ks true (Some n) ended)
+    ⊎ ((spot_of objects n ≢ Some Nowhere) × (ended ≡ None))
+ended-as ks objects n true ended is ends = inl (is.0 refl, ends)
+ended-as ks objects n false ended is ends = inr (λ at. false≢true (is.1 at), ends)
+
+-- A CLOSE WAS TOLD
+pub closed-told : (shows : Rule) (old mid after_it : Clients) (from to : Watches) (c d : ℕ)
+    (h : handles.Handle) (lost : Bool) (ended : Option ℕ) → opened_by old c d ≡ Some h →
+    (lost ≡ true) ↔ (spot_of old.objects h.object ≡ Some Nowhere) →
+    IsEnd (tables_of mid) lost (Some h.object) ended → closes.Shuts old mid c d →
+    IsTold shows mid after_it from to
+    (of_both h.way (Some h.object) (closing h) ++ of_end ended) → to.renames ≡ from.renames →
+    Closed shows (notified old from) (notified after_it to) c d (closing h)
+closed-told shows old mid after_it from to c d h lost ended is_open is ends shut told renames =
+    let same : tables_of after_it ≡ tables_of mid = ap tables_in told.ends.clients.attached in
     record {
-      handle = hold;
-      is_open = tracked-read old.attached c d ∙ ap tracked_in is ∙ ap Some (sym held);
+      handle = tracked_of h;
+      is_open = tracked-read old.attached c d ∙ ap tracked_in is_open;
       ended = ended;
-      ends = subst (λ ts. IsClosedEnd (notified old from) ts hold.object ended) (sym same)
-          (closed-end (notified old from) (tables_of mid) hold.object lost ended gone end);
-      tells = tells-by shows old mid new from to _
-          (becomes-fewer old.objects mid.objects mid.objects shuts.fewer (becomes-same mid.objects))
-          told;
-      sets = subst (λ ts. SetsTracked (tables_of old) ts c d None) (sym same) shuts.sets;
+      ends = subst (λ ts. IsClosedEnd (notified old from) ts h.object ended) (sym same)
+          (ended-as (tables_of mid) old.objects h.object lost ended is ends);
+      tells = tells-by shows old mid after_it from to _
+          (λ n spot at. (spot, shut.fewer n spot at, refl)) told;
+      sets = subst (λ ts. SetsTracked (tables_of old) ts c d None) (sym same) shut.sets;
       renames = renames;
     }
-  where
-    same : tables_of new ≡ tables_of mid
-    same = ap tables_in told.ends.clients.attached
 
 module _ (shows : Rule) (old new : Mount) (from to : Watches) (c d : ℕ) (r : Reply) (o : handles.Handle) (is_open : opened_by old.clients c d ≡ Some o) (serves : (s : State) → IsStateOf old s → Serves (refusal s c (Close d)) s c (Close d) r new) (lowers : new.layers.lowers ≡ old.layers.lowers) (named : (s : State) → IsStateOf old s → refusal s c (Close d) ≡ None → KeepsNamed s c old.layers new.layers (Close d)) (known : AreKnown (notified new.clients to)) (closed : Closed shows (notified old.clients from) (notified new.clients to) c d (closing o)) where
   -- an open descriptor is closed, and that is told
@@ -208,14 +223,14 @@ goes-shut shows old new from to c d r there shut s a =
       },
     )
 
--- a client's watches end unheard, as the laws of notices ask
-pub mutes-as : (before after_it : Clients) (old new : Watches) (c : ℕ) → LetsEnd before after_it →
-    new.instances ≡ filter (λ e. not (nat_eq e.client c)) old.instances →
-    new.renames ≡ old.renames → Mutes (notified before old) (notified after_it new) c
-mutes-as before after_it old new c ends mutes renames = record {
+-- watches that ended unheard, as the laws of notices ask
+pub mutes-as : (old new : Clients) (k l : Watches) (c : ℕ) → LetsEnd old new →
+    l.instances ≡ filter (λ e. not (nat_eq e.client c)) k.instances → l.renames ≡ k.renames →
+    Mutes (notified old k) (notified new l) c
+mutes-as old new k l c ends instances renames = record {
   objects = ends.fewer;
   handles = ap tables_in ends.clients.attached;
-  instances = mutes;
+  instances = instances;
   renames = renames;
 }
 
@@ -427,6 +442,14 @@ others-on old between new n h g = record {
   attached = λ is. g.attached (h.attached is);
   others = λ m other. g.others m other ∙ h.others m other;
   next = g.next ∙ h.next;
+}
+
+-- and where they only hold otherwise
+pub others-kept : (old new : Clients) (n : ℕ) → KeepsClients old new → KeepsOthers old new n
+others-kept old new n kept = record {
+  attached = λ is. ap (λ a. is_some (get nat_cmp a n)) kept.attached ∙ is;
+  others = λ m other. ap (λ a. get nat_cmp a m) kept.attached;
+  next = kept.next;
 }
 
 -- paths hold what they held where nothing changes

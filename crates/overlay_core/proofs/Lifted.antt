@@ -25,7 +25,7 @@ use Rattle.notice_laws.specs.Objects.{IsLower, IsObject}
 use Rattle.notice_laws.specs.Steps.{IsLifted, alters}
 use Rattle.notice_laws.proofs.Numbers.{live-apart, looks-as}
 use Rattle.notice_laws.proofs.Resuming.{also-leads, paths-after}
-use Rattle.notifier.specs.Notifying.{IsFree}
+use Rattle.mount_calls.specs.Numbers.{IsFree}
 use Rattle.overlay_core.proofs.Bare.{bare-squashed, lower-bare}
 
 -- whether a node is a file

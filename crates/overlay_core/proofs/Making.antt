@@ -28,18 +28,16 @@ use Rattle.overlay_core.proofs.Performing.{goes-done, keeps-layers, kept-by, per
 use Rattle.overlay_core.proofs.Uses.{goes-silent}
 use Rattle.overlay_core.proofs.Watching.{stays, mount_upper}
 use Rattle.watch_table.specs.declared.hook.Callback.{Ghosts as Callback}
-use Rattle.watch_table.specs.declared.hook.Rule.{Ghosts as RuleGhosts}
+use Rattle.watch_table.specs.declared.hook.Rule.{Ghosts as Ruled}
 
-module _ {F G : Type 0} {asks : Callback F} {rule : RuleGhosts G} {shows : Rule} where
+module _ {F G : Type 0} {asks : Callback F} {rule : Ruled G} {shows : Rule} where
   -- a call is made as what it is
-  pub performs-as : {c : ℕ} {k j : Call} {old new : Watched F G asks rule}
-      {result : Result Reply AllocError} → k ≡ j →
+  pub performs-as : {c : ℕ} {k j : Call} {old new : Watched F G asks rule} {result : Result Reply AllocError} → k ≡ j →
       Performs shows c j old new result → Performs shows c k old new result
   performs-as {c} {k} {j} {old} {new} {result} is h = subst (λ i. Performs shows c i old new result) (sym is) h
 
   -- one that leaves the layers and who is attached goes by what is told
-  pub performs-watch : {c : ℕ} {k : Call} {old new : Watched F G asks rule}
-      (result : Result Reply AllocError) →
+  pub performs-watch : {c : ℕ} {k : Call} {old new : Watched F G asks rule} (result : Result Reply AllocError) →
       IfOk result (λ r. Goes shows old.mount old.notifier c (Called k r) new.mount new.notifier) →
       OnErr result (Stays old.mount old.notifier new.mount new.notifier) →
       KeepsAttached old.mount.clients new.mount.clients → new.mount.layers ≡ old.mount.layers →
@@ -57,15 +55,13 @@ module _ {F G : Type 0} {asks : Callback F} {rule : RuleGhosts G} {shows : Rule}
       left (Err e) = tt
 
   -- one that was answered goes by what is told
-  pub performs-told : {c : ℕ} {k : Call} {r : Reply} {old new : Watched F G asks rule} →
-      MakesCall c k old.mount new.mount (Ok r) →
+  pub performs-told : {c : ℕ} {k : Call} {r : Reply} {old new : Watched F G asks rule} → MakesCall c k old.mount new.mount (Ok r) →
       Goes shows old.mount old.notifier c (Called k r) new.mount new.notifier →
       (r ≡ Done → LeavesMarks k old.mount.layers new.mount.layers) → Performs shows c k old new (Ok r)
   performs-told m goes marks = record { goes = goes; refused = m.answers.refused; marks = marks; no_memory = tt; kept = kept-by m }
 
   -- so does one that was done
-  pub performs-done : {c : ℕ} {k : Call} {old new : Watched F G asks rule} (r : Reply) →
-      is_attached old.mount.clients c ≡ true →
+  pub performs-done : {c : ℕ} {k : Call} {old new : Watched F G asks rule} (r : Reply) → is_attached old.mount.clients c ≡ true →
       MakesCall c k old.mount new.mount (Ok r) → r ≡ Done →
       ((s : State) → (a : Agrees old.mount old.notifier s) →
       Passes (mount_upper old.mount) (mount_upper new.mount) (lowers_of old.mount.layers) s c k → Resumes shows (mount_upper new.mount) s c k (notified new.mount.clients new.notifier)) →
@@ -109,9 +105,8 @@ module _ {F G : Type 0} {asks : Callback F} {rule : RuleGhosts G} {shows : Rule}
     performs-silent there keeps silent (Err e) m marks = performs-out m (Err e) refl
 
   -- and one that only asks
-  pub performs-asked : {c : ℕ} {k : Call} {old : Watched F G asks rule} →
-      is_attached old.mount.clients c ≡ true → keeps_handles k ≡ true →
-      ((s : State) → IsSilent s c k) → (result : Result Reply AllocError) →
+  pub performs-asked : {c : ℕ} {k : Call} {old : Watched F G asks rule} → is_attached old.mount.clients c ≡ true →
+      keeps_handles k ≡ true → ((s : State) → IsSilent s c k) → (result : Result Reply AllocError) →
       IfOk result (TellsCall c k old.mount) → LeavesMarks k old.mount.layers old.mount.layers → Performs shows c k old old result
   performs-asked {c} {k} {old} there keeps silent result tells =
       performs-silent (holds-same old.mount.clients old.mount.clients refl) refl there keeps silent
@@ -122,9 +117,8 @@ module _ {F G : Type 0} {asks : Callback F} {rule : RuleGhosts G} {shows : Rule}
       made (Err e) h = makes-nothing c k old.mount (Err e) refl
 
   -- so it is where each client is told the same
-  pub performs-each : {c : ℕ} {k : Call} {old : Watched F G asks rule} →
-      is_attached old.mount.clients c ≡ true → keeps_handles k ≡ true →
-      ((s : State) → IsSilent s c k) → (result : Result Reply AllocError) →
+  pub performs-each : {c : ℕ} {k : Call} {old : Watched F G asks rule} → is_attached old.mount.clients c ≡ true →
+      keeps_handles k ≡ true → ((s : State) → IsSilent s c k) → (result : Result Reply AllocError) →
       IfOk result (TellsEach k old.mount) → LeavesMarks k old.mount.layers old.mount.layers → Performs shows c k old old result
   performs-each {c} {k} {old} there keeps silent result tells = performs-asked there keeps silent result (told result tells)
     where

@@ -21,8 +21,8 @@ use Rattle.notice_laws.specs.declared.object.Object.TheVariants as object
 use Rattle.notice_laws.specs.Notified.{Notified, Passes, Tracks}
 use Rattle.notice_laws.specs.Objects.{IsObject}
 use Rattle.notice_laws.specs.Steps.{IsSpotOf, is_last_name}
-use Rattle.notifier.specs.Moving.{IsFreeFor, IsPlaceFor}
-use Rattle.notifier.specs.Notifying.{IsBareAt}
+use Rattle.mount_calls.specs.Moving.{IsFreeFor, IsPlaceFor}
+use Rattle.mount_calls.specs.Numbers.{IsBareAt}
 use Rattle.overlay_core.proofs.Bare.{bare-squashed, lower-bare}
 use Rattle.overlay_core.proofs.Shown.{none-some}
 use Rattle.overlay_core.proofs.Renamed.{directory-onto, lifted-there, lifted-vacant, loses-spot, moved-apart, nothing-there}
@@ -108,7 +108,7 @@ link-only (Some (Contents l j i)) h g = false≢true (g refl)
 
 -- THE PLACE of a directory that moves, where some state has it
 pub place-squashed : {A : Type 0} (U : Layer) (lowers : List Layer) (k : Notified) (p q : Path) (e : Object) → IsObject U lowers q e →
-    ∥ A ∥₁ → (A → FitsDirectory U lowers k p q) → IsPlaceFor k p q e
+    ∥ A ∥₁ → (A → FitsDirectory U lowers k p q) → IsPlaceFor k.objects p q e
 place-squashed U lowers k p q e was_there some f = record {
   apart = λ r is. ∥∥₁_elim some ⊥_prop (λ x. (f x).apart r is);
   replaced = by e was_there;

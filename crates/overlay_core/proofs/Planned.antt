@@ -18,15 +18,14 @@ use Rattle.overlay_core.proofs.Performing.{performed-by}
 use Rattle.overlay_core.proofs.RenamesTold.{goes-same}
 use Rattle.overlay_core.proofs.Watching.{mount_upper}
 use Rattle.watch_table.specs.declared.hook.Callback.{Ghosts as Callback}
-use Rattle.watch_table.specs.declared.hook.Rule.{Ghosts as RuleGhosts}
+use Rattle.watch_table.specs.declared.hook.Rule.{Ghosts as Ruled}
 
 -- what was found for a plan is so for what it is
 pub found-as : {m : Mount} {c : ℕ} {p q : Plan} → p ≡ q → IsPlanned m c p → IsFoundFor m c q
 found-as {m} {c} is planned = (subst (IsPlanned m c) is planned).found
 
 -- a rename whose paths are one object is done, and nothing moves
-pub performs-same : {F G : Type 0} {asks : Callback F} {rule : RuleGhosts G}
-    {shows : Rule} {c : ℕ} {p q : Path} {old : Watched F G asks rule} →
+pub performs-same : {F G : Type 0} {asks : Callback F} {rule : Ruled G} {shows : Rule} {c : ℕ} {p q : Path} {old : Watched F G asks rule} →
     is_attached old.mount.clients c ≡ true → is_one (mount_upper old.mount) p q ≡ true →
     MakesEach (Rename p q) old.mount old.mount (Ok Done) →
     Performs shows c (Rename p q) old old (Ok Done)

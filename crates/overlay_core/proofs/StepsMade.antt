@@ -45,7 +45,7 @@ use Rattle.overlay_core.proofs.ReadOnly.{goes-as, state-goes, state-stays, stays
 use Rattle.overlay_core.proofs.ReadSteps.{plain-held, plain-writes, same-held, unchanged-same}
 use Rattle.overlay_core.proofs.Watching.{stays}
 use Rattle.watch_table.specs.declared.hook.Callback.{Ghosts as Callback}
-use Rattle.watch_table.specs.declared.hook.Rule.{Ghosts as RuleGhosts}
+use Rattle.watch_table.specs.declared.hook.Rule.{Ghosts as Ruled}
 
 -- the same clients are attached
 attached-same : (a b : Clients) → b ≡ a → KeepsAttached a b
@@ -59,7 +59,7 @@ last-not-copy (Place second count) last is = cc
 last-not-copy (Begin d) last is = cc
 last-not-copy Copy last is = absurd last
 
-module _ {F G : Type 0} {asks : Callback F} {rule : RuleGhosts G} (shows : Rule) where
+module _ {F G : Type 0} {asks : Callback F} {rule : Ruled G} (shows : Rule) where
   -- a step that changes the open jobs alone
   pub made-aside : (m : Watched F G asks rule) (e w : List (Option OpenJob)) (j k : Job) (turn : Turn)
       (next : Next) (t : Option Beginning) → AreTemps (lowers_of m.mount.layers) w →
@@ -78,8 +78,7 @@ module _ {F G : Type 0} {asks : Callback F} {rule : RuleGhosts G} (shows : Rule)
     reads = λ only. absurd (false≢true only);
   }
 
-  module _ (old new : Watched F G asks rule) (e w : List (Option OpenJob)) (j k : Job)
-      (second : Bool) (count : ℕ) (t : Option Beginning) where
+  module _ (old new : Watched F G asks rule) (e w : List (Option OpenJob)) (j k : Job) (second : Bool) (count : ℕ) (t : Option Beginning) where
     -- a step that places a parent, or runs out of memory for it
     pub made-place : (IsPlaced : Type 0) → PlacesFor old.mount new.mount j.call second count IsPlaced →
         new.notifier ≡ old.notifier → AreTemps (lowers_of new.mount.layers) w → (turn : Turn) →
@@ -257,8 +256,7 @@ next-plain m j t r plain =
     (λ fine. plain-lacks (upper_of m.layers) (lowers_of m.layers) m.metacopy j.call false
     (sym plain) refl)
 
-module _ {F G : Type 0} {asks : Callback F} {rule : RuleGhosts G} (b : Bool) (shows : Rule)
-    (old new : Watched F G asks rule)
+module _ {F G : Type 0} {asks : Callback F} {rule : Ruled G} (b : Bool) (shows : Rule) (old new : Watched F G asks rule)
     (e w : List (Option OpenJob)) (j k : Job) where
   -- some state agrees after a step too
   pub after-made : (turn : Turn) (next : Next) (t : Option Beginning) →

@@ -39,7 +39,7 @@ use Rattle.overlay_core.specs.declared.watched.Watched.{Watched}
 use Rattle.overlay_core.specs.Temps.{AreTemps}
 use Rattle.overlay_core.specs.Watching.{AgreesAs, GoesAs, StaysAs}
 use Rattle.watch_table.specs.declared.hook.Callback.{Ghosts as Callback}
-use Rattle.watch_table.specs.declared.hook.Rule.{Ghosts as RuleGhosts}
+use Rattle.watch_table.specs.declared.hook.Rule.{Ghosts as Ruled}
 
 -- the temp that a job holds: the one under its number, where it began it
 abbrev pub held_by : List (Option OpenJob) → Job → Option Beginning
@@ -85,8 +85,8 @@ IsLast (Place second count) = ⊥
 IsLast (Begin d) = ⊥
 IsLast Copy = ⊥
 
-module _ {F G : Type 0} {asks : Callback F} {rule : RuleGhosts G}
-    (old new : Watched F G asks rule) (e w : List (Option OpenJob)) (j k : Job) where
+module _ {F G : Type 0} {asks : Callback F} {rule : Ruled G} (old new : Watched F G asks rule)
+    (e w : List (Option OpenJob)) (j k : Job) where
   -- WHAT A STEP DOES THAT LEAVES MORE TO DO. A placing adds the lacking directory to the upper, as it
   -- is shown, and keeps the temp. A begin and a copied chunk change the temp alone.
   abbrev pub MoreBy : Next → Option Beginning → Type 0
@@ -145,7 +145,7 @@ module _ {F G : Type 0} {asks : Callback F} {rule : RuleGhosts G}
         × SameObjects (layer_of old.mount.layers.upper) (layer_of new.mount.layers.upper)
 
 -- the next step of a job, by each state that agrees, was made
-abbrev pub MakesNext : {F G : Type 0} {asks : Callback F} {rule : RuleGhosts G} →
+abbrev pub MakesNext : {F G : Type 0} {asks : Callback F} {rule : Ruled G} →
     Watched F G asks rule → Watched F G asks rule → List (Option OpenJob) →
     List (Option OpenJob) → Job → Job → Bool → Rule → Turn → Type 0
 MakesNext old new work w j k read_only shows turn =

@@ -1,20 +1,25 @@
-use Rattle.std.proofs.Common.{◌≡◌, Some, option_map, sym, ap, ◌∙◌, subst}
-use Rattle.notice_laws.specs.Notified.{AreKnown}
-use Rattle.notice_laws.specs.Steps.{Closed}
+use Rattle.std.proofs.Common.{◌≡◌, Some, sym, ap, ◌∙◌, subst, ◌++◌}
+use Rattle.std.specs.Prelude.{option_copied}
+use Rattle.ov_base.specs.declared.call.CallOf.TheVariants.{Close}
 use Rattle.open_handles.specs.Attaching.{opened_by}
+use Rattle.open_handles.specs.Handles.{tracked_of}
+use Rattle.notice_laws.specs.Telling.{IsEnd, of_both, of_end}
+use Rattle.notifier.specs.Notifying.{IsOther, IsTold}
 use Rattle.overlay_core.specs.Leaving.{closing}
-use Rattle.overlay_core.proofs.Leaving.{closing-from, closing-none, shuts-free, shuts-open, tracked-open}
+use Rattle.overlay_core.proofs.Between.{attached-on, serves-on}
+use Rattle.overlay_core.proofs.Counted.{counts-on, ends-stay, keeps-attached, known}
+use Rattle.overlay_core.proofs.Leaving.{closed-told, closing-other, others-kept, others-on}
+use Rattle.overlay_core.proofs.Leaving.{others-same, paths-same, shuts-free, shuts-open}
 use Rattle.overlay_core.proofs.watched.Watched.shut.Goals as goal
-use Rattle.overlay_core.proofs.watched.Watched.shut.Goals.{in-Some, in_default}
 
-pub closed-requires-clause-open : goal.closed-requires-clause-open
-closed-requires-clause-open g c =
-    let m = c.args.self.now.mount in
-    let o = opened_by m.clients c.args.client c.args.descriptor in
-    let told : option_map closing o ≡ Some c.in-Some.bits =
-    ap (option_map closing) (sym c.opened.ensures) ∙ sym c.closing_of-bits.ensures ∙ c.in-Some.is in
-    let h = closing-from o c.in-Some.bits told in
-    tracked-open m c.args.self.now.notifier c.args.client c.args.descriptor h.0 c.requires.state h.1
+pub closed-requires-clause-counted : goal.closed-requires-clause-counted
+closed-requires-clause-counted g c =
+    counts-on c.args.self.now.mount.clients c.close-reply.new.self.clients
+    c.args.self.now.notifier c.close-reply.ensures.shuts.beside c.args.self.now.counted
+
+pub closed-requires-clause-bits : goal.closed-requires-clause-bits
+closed-requires-clause-bits g c =
+    subst IsOther (sym c.closing_of-bits.ensures) (closing-other c.in-Some.handle.now)
 
 pub returns-clause-shuts : goal.returns-clause-shuts
 returns-clause-shuts g c =
@@ -23,44 +28,59 @@ returns-clause-shuts g c =
     let from = c.args.self.now.notifier in
     let client = c.args.client in
     let d = c.args.descriptor in
-    let o = opened_by m.clients client d in
-    let is : option_map closing o ≡ c.closing_of-bits.result = ap (option_map closing) (sym c.opened.ensures) ∙ sym c.closing_of-bits.ensures in
+    let h = c.in-Some.handle.now in
+    let is_open : opened_by m.clients client d ≡ Some h =
+    sym c.opened.ensures ∙ ap option_copied c.in-Some.is in
+    let mid = c.close-reply.new.self in
+    let clients = c.closed.new.clients in
+    let to = c.closed.new.self in
     let made = c.close-reply.ensures.makes in
-    let served = made.answers.serves in
-    elim c.match-bits.branch [
-      | in-Some w ↦
-          let h = closing-from o w.in-Some.bits (is ∙ w.in-Some.is) in
-          let known : AreKnown w.closed.new.self = rw w.self-is at c.lawful.ensures.known in
-          let closed = subst (Closed shows from w.closed.new.self client d) (sym h.2) w.closed.ensures in
-          rw w.self-is
-          (shuts-open shows m c.close-reply.new.self from w.closed.new.self client d c.close-reply.result h.0 h.1 served
-          made.lowers made.answers.named known closed)
-      | in_default w ↦
-          let none = closing-none o (is ∙ w.in_default.is) in
-          rw w.self-is (shuts-free shows m c.close-reply.new.self from client d c.close-reply.result none served made.answers.refused)
-    ]
+    let told = c.closed.ensures.told in
+    let new = record mid { clients = clients } in
+    shuts-open shows m new from to client d c.close-reply.result h is_open
+    (λ s st. serves-on mid new (ends-stay mid clients told.ends) _ s client (Close d)
+    c.close-reply.result (made.answers.serves s st)) made.lowers made.answers.named
+    (known clients to c.lawful.ensures.known c.lawful.ensures.counted told.counted)
+    (closed-told shows m.clients mid.clients clients from to client d h c.is_lost-is_lost.result
+    c.end_of-ended.result is_open c.is_lost-is_lost.ensures c.end_of-ended.ensures
+    c.close-reply.ensures.shuts told c.closed.ensures.renames)
 
 pub returns-clause-clients : goal.returns-clause-clients
 returns-clause-clients g c =
-    let kept = c.close-reply.ensures.makes.attached in
-    elim c.match-bits.branch [ in-Some w ↦ rw w.self-is kept | in_default w ↦ rw w.self-is kept ]
+    let mid = c.close-reply.new.self in
+    let clients = c.closed.new.clients in
+    attached-on c.args.self.now.mount.clients mid.clients clients
+    c.close-reply.ensures.makes.attached
+    (keeps-attached mid.clients clients c.closed.ensures.told.ends.clients)
+
+pub returns-clause-others : goal.returns-clause-others
+returns-clause-others g c =
+    let mid = c.close-reply.new.self in
+    let clients = c.closed.new.clients in
+    others-on c.args.self.now.mount.clients mid.clients clients c.args.client
+    c.close-reply.ensures.others
+    (others-kept mid.clients clients c.args.client c.closed.ensures.told.ends.clients)
 
 pub returns-clause-paths : goal.returns-clause-paths
-returns-clause-paths g c =
-    let kept = c.close-reply.ensures.makes.layers.paths in
-    elim c.match-bits.branch [ in-Some w ↦ rw w.self-is kept | in_default w ↦ rw w.self-is kept ]
+returns-clause-paths g c = c.close-reply.ensures.makes.layers.paths
 
 pub returns-clause-thin : goal.returns-clause-thin
-returns-clause-thin g c =
-    let kept = c.close-reply.ensures.makes.thin in
-    elim c.match-bits.branch [ in-Some w ↦ rw w.self-is kept | in_default w ↦ rw w.self-is kept ]
+returns-clause-thin g c = c.close-reply.ensures.makes.thin
 
 pub returns-clause-refused : goal.returns-clause-refused
-returns-clause-refused g c =
-    let kept = c.close-reply.ensures.makes.answers.refused in
-    elim c.match-bits.branch [ in-Some w ↦ rw w.self-is kept | in_default w ↦ rw w.self-is kept ]
+returns-clause-refused g c = c.close-reply.ensures.makes.answers.refused
 
 pub returns-clause-texts : goal.returns-clause-texts
-returns-clause-texts g c =
-    let kept = c.close-reply.ensures.makes.layers.texts in
-    elim c.match-bits.branch [ in-Some w ↦ rw w.self-is kept | in_default w ↦ rw w.self-is kept ]
+returns-clause-texts g c = c.close-reply.ensures.makes.layers.texts
+
+pub returns-in_default-clause-shuts : goal.returns-in_default-clause-shuts
+returns-in_default-clause-shuts g c =
+    shuts-free g.R.Rule.shows c.args.self.now.mount c.args.self.now.notifier c.args.client
+    c.args.descriptor (sym c.opened.ensures ∙ ap option_copied c.in_default.is)
+
+pub returns-in_default-clause-others : goal.returns-in_default-clause-others
+returns-in_default-clause-others g c =
+    others-same c.args.self.now.mount.clients c.args.client
+
+pub returns-in_default-clause-paths : goal.returns-in_default-clause-paths
+returns-in_default-clause-paths g c = paths-same c.args.self.now.mount.layers
