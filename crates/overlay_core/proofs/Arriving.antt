@@ -1,5 +1,5 @@
 -- A mount begins, and clients come, on both sides.
-use Rattle.std.proofs.Common.{arith, ◌≡◌, ℕ, suc, ◌+◌, ◌++◌, cond, filter, map, not, ◌<◌, ◌≤◌, true, List, [], ◌∷◌, None, All, refl, sym, ap, ◌∙◌, subst, length, nat_eq, get_or, zero, ◌||◌, ◌⊎◌, inl, inr}
+use Rattle.std.proofs.Common.{arith, ◌≡◌, ℕ, suc, ◌+◌, ◌++◌, cond, filter, map, not, ◌<◌, ◌≤◌, true, List, [], ◌∷◌, None, Some, All, refl, sym, ap, ◌∙◌, subst, length, nat_eq, get_or, zero, ◌||◌, ◌⊎◌, inl, inr}
 use mathlib.Core.Logic.{∥∥₁_elim}
 use mathlib.Core.HLevel.{⊥_prop}
 use Rattle.std.specs.BTreeMap.{btree_map_len}
@@ -34,7 +34,7 @@ use Rattle.notice_laws.proofs.Clients.{law_of_begun, law_of_joined}
 use Rattle.watch_table.specs.Listening.{is_on}
 use Rattle.notifier.specs.Notifying.{AreCounted, notified, watchers}
 use Rattle.notifier.specs.Watches.{Watches}
-use Rattle.notifier.proofs.Muting.{one-more}
+use Rattle.notifier.proofs.Hearing.{one-more}
 use Rattle.mount_calls.specs.declared.mount.Mount.{Mount}
 use Rattle.open_handles.specs.Attaching.{Attaches, TakesBack, tables_of}
 use Rattle.mount_calls.specs.States.{IsStateOf}
