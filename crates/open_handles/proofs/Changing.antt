@@ -102,7 +102,7 @@ module _ (old : Clients) (new : Attached) (c : ℕ) (x y : Descriptors)
   pub becomes-few : btree_map_len new ≤ 64
   becomes-few =
       let long = ap length b.written ∙ length-set_value (is_at (nat_cmp c)) old.attached.entries
-          y in
+      y in
       let few = old.few in
       omega arith
 

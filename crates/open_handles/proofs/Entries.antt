@@ -1,16 +1,18 @@
 -- What the tables of attached clients have by client and descriptor, and how often they use a
 -- number after one client changed, came or went.
-use Rattle.std.proofs.Common.{◌≡◌, ◌≢◌, ◌∙◌, ℕ, zero, suc, ◌+◌, ◌<◌, Bool, cond, List, [], ◌∷◌}
+use Rattle.std.proofs.Common.{◌≡◌, ◌≢◌, ◌∙◌, ℕ, zero, suc, ◌+◌, ◌<◌, ◌≤◌, Bool, cond, List, [], ◌∷◌}
 use Rattle.std.proofs.Common.{◌++◌, Option, None, Some, refl, sym, ap, inl, inr, arith, map}
 use Rattle.std.proofs.Common.{sum_by, filter, not, nat_eq, option_map, true, false}
-use Rattle.std.specs.Prelude.{is_some, unwrap_or}
+use Rattle.std.specs.Prelude.{is_some, length, unwrap_or}
 use Rattle.std.specs.Option.{option_and_then}
-use Rattle.std.specs.BTreeMap.{BTreeMap, IsOrdered, get, insert_entry, is_at}
+use Rattle.std.specs.BTreeMap.{BTreeMap, IsOrdered, btree_map_len, get}
+use Rattle.std.specs.BTreeMap.{insert_entry, is_at}
 use Rattle.std.specs.List.{AllByRecursion}
 use Rattle.std.specs.Map.{keys_of, lookup, remove_entry, set_value, values_of}
 use Rattle.std.specs.Cmp.{eq_by_cmp_equiv, nat_cmp_is}
 use Rattle.std.specs.Ordering.{match_ordering, nat_cmp}
-use Rattle.std.specs.declared.cmp.Ordering.TheVariants.{Greater}
+use Rattle.std.specs.declared.cmp.Ordering.TheVariants.{Equal, Greater, Less}
+use Rattle.std.specs.declared.cmp.Ordering.{Ordering}
 use Rattle.std.proofs.lemmas.Bool.{cases_Bool, cases_eq}
 use Rattle.std.proofs.lemmas.Cmp.{nat_cmp_total}
 use Rattle.std.proofs.lemmas.List.Elements.{recursion_from_All}
@@ -116,8 +118,8 @@ pub uses-written : (n c : ℕ) (old new : Attached) (x y : Descriptors) →
 uses-written n c old new x y was written =
     let changed = sum_by-set_value (own_uses n) (is_at (nat_cmp c)) old.entries x y was in
     let after = ap (λ es. uses (map table_of es) n) written in
-    omega (arith, changed, after, uses-sum n old.entries, uses-sum n
-        (set_value (is_at (nat_cmp c)) old.entries y))
+    let all = uses-sum n (set_value (is_at (nat_cmp c)) old.entries y) in
+    omega (arith, changed, after, uses-sum n old.entries, all)
 
 -- where a client comes, its uses come in addition
 pub uses-inserted : (n c : ℕ) (old new : Attached) (y : Descriptors) → IsOrdered nat_cmp old →
@@ -127,8 +129,8 @@ uses-inserted n c old new y ordered fresh inserted =
     let changed = sum_by-insert_entry (own_uses n) nat_cmp_total old.entries c y ordered in
     let none = ap (λ (o : Option Descriptors). unwrap_or (option_map (own_uses n) o) 0) fresh in
     let after = ap (λ es. uses (map table_of es) n) inserted in
-    omega (arith, changed, none, after, uses-sum n old.entries, uses-sum n
-        (insert_entry nat_cmp old.entries c y))
+    let all = uses-sum n (insert_entry nat_cmp old.entries c y) in
+    omega (arith, changed, none, after, uses-sum n old.entries, all)
 
 -- what a client that may be attached uses
 abbrev pub uses_at : ℕ → Option Descriptors → ℕ
@@ -141,8 +143,8 @@ pub uses-removed : (n c : ℕ) (old new : Attached) →
 uses-removed n c old new removed =
     let changed = sum_by-remove_entry (own_uses n) (is_at (nat_cmp c)) old.entries in
     let after = ap (λ es. uses (map table_of es) n) removed in
-    omega (arith, changed, after, uses-sum n old.entries, uses-sum n
-        (remove_entry (is_at (nat_cmp c)) old.entries))
+    let all = uses-sum n (remove_entry (is_at (nat_cmp c)) old.entries) in
+    omega (arith, changed, after, uses-sum n old.entries, all)
 
 -- the slots after the first
 abbrev rest : Slots → Slots
@@ -177,7 +179,7 @@ module _ (n : ℕ) where
       sum_by (slot_uses n) old + slot_uses n value
   uses-sets old new zero value sets =
       let others = uses-alike (rest new) (rest old) (λ d. opened-rest new d ∙ sets.others (suc d)
-          (λ e. absurd (omega arith)) ∙ sym (opened-rest old d)) in
+      (λ e. absurd (omega arith)) ∙ sym (opened-rest old d)) in
       let here : slot_uses n (opened new 0) ≡ slot_uses n value = ap (slot_uses n) sets.here in
       omega (arith, uses-first new, uses-first old, others, here)
   uses-sets old new (suc d) value sets =
@@ -188,9 +190,9 @@ module _ (n : ℕ) where
       } in
       let others = uses-sets (rest old) (rest new) d value later in
       let first : slot_uses n (opened new 0) ≡ slot_uses n (opened old 0) =
-          ap (slot_uses n) (sets.others 0 (λ same. absurd (omega arith))) in
+      ap (slot_uses n) (sets.others 0 (λ same. absurd (omega arith))) in
       let was : slot_uses n (opened (rest old) d) ≡ slot_uses n (opened old (suc d)) =
-          ap (slot_uses n) (opened-rest old d) in
+      ap (slot_uses n) (opened-rest old d) in
       omega (arith, uses-first new, uses-first old, others, first, was)
 
 -- where a handle is set in a slot, what it is on is
@@ -217,16 +219,18 @@ module _ (old new : Attached) (c : ℕ) (x y : Descriptors) (b : Becomes old new
       clients-keys new.entries ∙ ap (λ es. keys_of es) b.written
       ∙ keys-set_value (is_at (nat_cmp c)) old.entries y ∙ sym (clients-keys old.entries)
 
-  -- what the client's descriptors lead to
+  -- what a descriptor of the client leads to
   own-new : (d : ℕ) → opened_at new c d ≡ opened y.slots.items d
   own-new d = ap (option_and_then (λ (e : Descriptors). opened e.slots.items d)) b.is
 
+  -- and led to before
   pub own-old : (d : ℕ) → opened_at old c d ≡ opened x.slots.items d
   own-old d = ap (option_and_then (λ (e : Descriptors). opened e.slots.items d)) b.was
 
   -- where each descriptor of the client is on what it was, the tables say the same
   module _ (same : (d : ℕ) → tracked_in (opened y.slots.items d) ≡
       tracked_in (opened x.slots.items d)) where
+    -- the tables are the same
     pub becomes-same : SameTracked (tables_in old) (tables_in new)
     becomes-same = record {
       slots = λ e d. tracked-read new e d ∙ by e d ∙ sym (tracked-read old e d);
@@ -246,11 +250,12 @@ module _ (old new : Attached) (c : ℕ) (x y : Descriptors) (b : Becomes old new
     pub becomes-uses-same : (n : ℕ) → uses_in new n ≡ uses_in old n
     becomes-uses-same n =
         let alike = uses-alike n (tracked_slots y) (tracked_slots x) (λ d. opened-tracked
-            y.slots.items d ∙ same d ∙ sym (opened-tracked x.slots.items d)) in
+        y.slots.items d ∙ same d ∙ sym (opened-tracked x.slots.items d)) in
         omega (arith, uses-written n c old new x y b.was b.written, alike)
 
   -- where one descriptor of the client leads elsewhere, the tables say so
   module _ (d : ℕ) (v : Option Handle) (sets : SetsSlot x.slots.items y.slots.items d v) where
+    -- only that descriptor is on something else
     pub becomes-sets : SetsTracked (tables_in old) (tables_in new) c d (tracked_in v)
     becomes-sets = record {
       here = tracked-read new c d ∙ ap tracked_in (own-new d ∙ sets.here);
@@ -274,7 +279,7 @@ module _ (old new : Attached) (c : ℕ) (x y : Descriptors) (b : Becomes old new
         uses_in old n + slot_uses n (tracked_in v)
     becomes-uses n =
         let slot = uses-sets n _ _ d (tracked_in v) (tracked-sets x.slots.items y.slots.items d v
-            sets) in
+        sets) in
         let read = ap (slot_uses n) (opened-tracked x.slots.items d) in
         omega (arith, uses-written n c old new x y b.was b.written, slot, read)
 
@@ -285,7 +290,7 @@ keys-pushed : (es : List (ℕ × Descriptors)) (k : ℕ) (v : Descriptors) →
 keys-pushed [] k v below = refl
 keys-pushed (e ∷ es) k v below =
     ap (λ o. keys_of (match_ordering o ((k, v) ∷ e ∷ es) ((e.0, v) ∷ es) (e ∷ insert_entry
-        nat_cmp es k v))) (sym (nat_cmp_is k e.0 Greater below.0))
+    nat_cmp es k v))) (sym (nat_cmp_is k e.0 Greater below.0))
     ∙ ap (λ ks. e.0 ∷ ks) (keys-pushed es k v below.1)
 
 -- numbers none of which is k stay where k is left out
@@ -294,7 +299,7 @@ filter-none : (ks : List ℕ) (k : ℕ) → AllByRecursion (λ j. nat_eq j k ≡
 filter-none [] k none = refl
 filter-none (j ∷ ks) k none =
     ap (λ p. cond (not p) (j ∷ filter (λ i. not (nat_eq i k)) ks) (filter (λ i. not (nat_eq i k))
-        ks)) none.0
+    ks)) none.0
     ∙ ap (λ js. j ∷ js) (filter-none ks k none.1)
 
 -- what is not found is no key
@@ -319,7 +324,7 @@ keys-removed (e ∷ es) k gone = elim (cases_Bool (nat_eq e.0 k)) [
   | inl is ↦
       ap (λ xs. keys_of xs) (left is)
       ∙ sym (kept is ∙ filter-none (keys_of es) k (none-keys es k
-          (sym (ap (lookup (is_at (nat_cmp k))) (left is)) ∙ gone)))
+      (sym (ap (lookup (is_at (nat_cmp k))) (left is)) ∙ gone)))
   | inr other ↦
       ap (λ xs. keys_of xs) (left other)
       ∙ ap (λ js. e.0 ∷ js) (keys-removed es k (sym (later other) ∙ gone))
@@ -342,7 +347,7 @@ keys-removed (e ∷ es) k gone = elim (cases_Bool (nat_eq e.0 k)) [
     later other =
         ap (lookup (is_at (nat_cmp k))) (left other)
         ∙ ap (λ p. cond p (Some e.1) (lookup (is_at (nat_cmp k)) (remove_entry (is_at (nat_cmp k))
-            es))) (at-number k e.0 ∙ other)
+        es))) (at-number k e.0 ∙ other)
 
 -- a client that has nothing open uses nothing
 none-uses : (n : ℕ) (o : Option Descriptors) →
@@ -385,8 +390,8 @@ module _ (old new : Attached) (k : ℕ) (y : Descriptors)
   pub comes-clients : clients_of (tables_in new) ≡ clients_of (tables_in old) ++ k ∷ []
   comes-clients =
       let below : AllByRecursion (λ j. j < k) (keys_of old.entries) =
-          recursion_from_All (λ j. j < k) (keys_of old.entries) (All-keys_from_lookup
-          (eq_by_cmp_equiv nat_cmp_total) (λ j. j < k) old.entries above) in
+      recursion_from_All (λ j. j < k) (keys_of old.entries) (All-keys_from_lookup
+      (eq_by_cmp_equiv nat_cmp_total) (λ j. j < k) old.entries above) in
       clients-keys new.entries ∙ ap (λ es. keys_of es) inserted
       ∙ keys-pushed old.entries k y below ∙ ap (λ ks. ks ++ k ∷ []) (sym (clients-keys old.entries))
 
@@ -395,6 +400,39 @@ module _ (old new : Attached) (k : ℕ) (y : Descriptors)
   comes-uses ordered n =
       let own : own_uses n y ≡ 0 = ap (λ s. sum_by (slot_uses n) (map tracked_in s)) none in
       omega (arith, uses-inserted n k old new y ordered comes-fresh inserted, own)
+
+-- the numbers are below the next one when one comes
+pub comes-rising : (old new : Attached) (k : ℕ) (y : Descriptors) →
+    ((j : ℕ) → is_some (get nat_cmp old j) ≡ true → j < k) →
+    ((m : ℕ) → m ≢ k → get nat_cmp new m ≡ get nat_cmp old m) → (n : ℕ) →
+    is_some (get nat_cmp new n) ≡ true → n < k + 1
+comes-rising old new k y above others n there = elim (cases_eq n k) [
+  | inl e ↦ omega arith
+  | inr off ↦
+      let below = above n (sym (ap (λ (o : Option Descriptors). is_some o) (others n off)) ∙
+      there) in
+      omega arith
+]
+
+-- at most one more is there
+entries-more : (es : List (ℕ × Descriptors)) (k : ℕ) (y : Descriptors) →
+    length (insert_entry nat_cmp es k y) ≤ length es + 1
+entries-more [] k y = omega arith
+entries-more (e ∷ es) k y = by (entries-more es k y) (nat_cmp k e.0)
+  where
+    by : length (insert_entry nat_cmp es k y) ≤ length es + 1 → (o : Ordering) →
+        length (match_ordering o ((k, y) ∷ e ∷ es) ((e.0, y) ∷ es) (e ∷ insert_entry nat_cmp es k
+        y)) ≤ length (e ∷ es) + 1
+    by rest Less = omega arith
+    by rest Equal = omega arith
+    by rest Greater = omega arith
+
+-- so it is where a client comes
+pub comes-few : (old new : Attached) (k : ℕ) (y : Descriptors) →
+    new.entries ≡ insert_entry nat_cmp old.entries k y →
+    btree_map_len new ≤ btree_map_len old + 1
+comes-few old new k y inserted =
+    omega (arith, ap length inserted, entries-more old.entries k y)
 
 -- a client goes that has nothing open
 module _ (old new : Attached) (k : ℕ) (none : (d : ℕ) → opened_at old k d ≡ None)
@@ -410,18 +448,20 @@ module _ (old new : Attached) (k : ℕ) (none : (d : ℕ) → opened_at old k d 
 
   -- as much is used
   pub goes-uses : (n : ℕ) → uses_in new n ≡ uses_in old n
-  goes-uses n = omega (arith, uses-removed n k old new removed, none-uses n (get nat_cmp old k)
-      none)
+  goes-uses n =
+      let none_used = none-uses n (get nat_cmp old k) none in
+      omega (arith, uses-removed n k old new removed, none_used)
 
 -- who is there when a client went was there, and is another
 pub goes-rising : (old new : Attached) (k : ℕ) → get nat_cmp new k ≡ None →
     ((m : ℕ) → m ≢ k → get nat_cmp new m ≡ get nat_cmp old m) → (n : ℕ) →
     is_some (get nat_cmp new n) ≡ true → (n ≢ k) × (is_some (get nat_cmp old n) ≡ true)
-goes-rising old new k gone others n there = (apart, sym (ap (λ (o : Option Descriptors). is_some o)
-    (others n apart)) ∙ there)
+goes-rising old new k gone others n there =
+    let same = ap (λ (o : Option Descriptors). is_some o) (others n apart) in
+    (apart, sym same ∙ there)
   where
     apart : n ≢ k
     apart e =
         let no : false ≡ true = sym (ap (λ (o : Option Descriptors). is_some o)
-            (ap (get nat_cmp new) e ∙ gone)) ∙ there in
+        (ap (get nat_cmp new) e ∙ gone)) ∙ there in
         absurd (cc)

@@ -1,7 +1,7 @@
 -- Which client has a handle that passes a test, and how many handles came by a way.
 use Rattle.std.proofs.Common.{◌≡◌, ◌∙◌, ℕ, zero, suc, Bool, true, false, cond, List, [], ◌∷◌}
-use Rattle.std.proofs.Common.{Option, None, Some, count_by, map, eqb-true, eq-eqb, refl, sym}
-use Rattle.std.proofs.Common.{ap, sum_by}
+use Rattle.std.proofs.Common.{Option, None, Some, count_by, eqb-true, eq-eqb, refl, sym}
+use Rattle.std.proofs.Common.{ap}
 use Rattle.std.specs.Option.{option_and_then}
 use Rattle.std.specs.BTreeMap.{IsOrdered, get}
 use Rattle.std.specs.List.{list_any}
@@ -24,15 +24,14 @@ use Rattle.open_handles.specs.declared.open_file.OpenFile.{OpenFile}
 use Rattle.open_handles.specs.declared.way.Way.{Way}
 use Rattle.open_handles.specs.Attaching.{HasFile}
 use Rattle.open_handles.specs.Descriptors.{opened}
-use Rattle.open_handles.specs.Handles.{handle_came_by, handle_is_on, is_on_file, is_upper}
+use Rattle.open_handles.specs.Handles.{handle_is_on, is_on_file, is_upper}
 use Rattle.open_handles.specs.Handles.{slot_has_file, tracked_in, tracked_of}
-use Rattle.open_handles.specs.Holding.{table_of, tables_in}
+use Rattle.open_handles.specs.Holding.{tables_in}
 use Rattle.open_handles.specs.Listings.{file_in, file_on}
-use Rattle.open_handles.specs.TrackedHandles.{IsOn, TrackedHandle, TrackedTable, handles_by}
+use Rattle.open_handles.specs.TrackedHandles.{IsOn, TrackedHandle}
 use Rattle.open_handles.specs.TrackedHandles.{slot_came_by}
 use Rattle.open_handles.proofs.Entries.{Attached, opened_at, tracked-read, tracked_slots}
 use Rattle.open_handles.proofs.Slots.{opened-read}
-use Rattle.open_handles.proofs.TrackedWays.{sum_by-map}
 
 -- who has a handle under a descriptor is attached, with a slot that has it
 pub client-with : (attached : Attached) (c d : ℕ) (h : Handle) →
@@ -97,31 +96,42 @@ abbrev pub SomePasses : Attached → (Option Handle → Bool) → Type 0
 SomePasses attached p =
     (c : ℕ) × (d : ℕ) × (h : Handle) × (opened_at attached c d ≡ Some h) × (p (Some h) ≡ true)
 
--- so it is exactly where one is found among all slots of all clients
+-- what is found among all slots of all clients is a handle that passes
 pub handle-found : (attached : Attached) → IsOrdered nat_cmp attached →
     (p : Option Handle → Bool) → p None ≡ false →
     list_any (λ (x : Descriptors). list_any p x.slots.items) (values_of attached.entries) ≡ true →
     SomePasses attached p
 handle-found attached ordered p none found =
     let client = value-found attached ordered (λ x. list_any p x.slots.items) found in
-    let slot = slot-found p none client.1.slots.items client.3 in
-    (client.0, slot.0, slot.1, ap (option_and_then (λ (e : Descriptors). opened e.slots.items
-        slot.0)) client.2 ∙ slot.2, slot.3)
+    let slot = slot-found p none client.1.slots.items client.3 in (
+      client.0,
+      slot.0,
+      slot.1,
+      ap (option_and_then (λ (e : Descriptors). opened e.slots.items
+          slot.0)) client.2 ∙ slot.2,
+      slot.3,
+    )
 
+-- where a handle passes, it is found
 pub found-handle : (attached : Attached) (p : Option Handle → Bool) → SomePasses attached p →
     list_any (λ (x : Descriptors). list_any p x.slots.items) (values_of attached.entries) ≡ true
 found-handle attached p some =
     let client = client-with attached some.0 some.1 some.2 some.3 in
     any-value (λ x. list_any p x.slots.items) _ attached.entries client.0 client.1
-        (any-slot p client.0.slots.items some.1 some.2 client.2 some.4)
+    (any-slot p client.0.slots.items some.1 some.2 client.2 some.4)
 
 -- a handle that is on an object is one of the tables
 pub some-on : (attached : Attached) (n : ℕ) → SomePasses attached (handle_is_on n) →
     IsOn (tables_in attached) n
-some-on attached n some =
-    (some.0, some.1, tracked_of some.2, tracked-read attached some.0 some.1 ∙ ap tracked_in some.3,
-        sym (eqb-true n some.2.object some.4))
+some-on attached n some = (
+  some.0,
+  some.1,
+  tracked_of some.2,
+  tracked-read attached some.0 some.1 ∙ ap tracked_in some.3,
+  sym (eqb-true n some.2.object some.4),
+)
 
+-- and the other way round
 pub on-some : (attached : Attached) (n : ℕ) → IsOn (tables_in attached) n →
     SomePasses attached (handle_is_on n)
 on-some attached n on =
@@ -155,6 +165,7 @@ some-file clients key some = by some.2.on refl some.4
       key = upper-is key f.source is;
     }
 
+-- who has it open has a handle on it
 pub file-some : (clients : Clients) (key : ℕ) → HasFile clients key →
     SomePasses clients.attached (slot_has_file key)
 file-some clients key has =
@@ -175,15 +186,3 @@ module _ (n : ℕ) (w : Way) where
   -- how many of a client's handles are on an object by exactly this way
   abbrev pub own_count : Descriptors → ℕ
   own_count x = count_by (slot_came_by n w) (tracked_slots x)
-
-  -- as its slots have it
-  pub own-count : (x : Descriptors) → count_by (handle_came_by n w) x.slots.items ≡ own_count x
-  own-count x = sym (sum_by-map (λ s. cond (slot_came_by n w s) 1 0) tracked_in x.slots.items)
-
-  -- how many of all are, client by client
-  pub handles-sum : (attached : Attached) →
-      handles_by (tables_in attached) n w ≡ sum_by own_count (values_of attached.entries)
-  handles-sum attached =
-      sum_by-map (λ (k : TrackedTable). count_by (slot_came_by n w) k.slots) table_of
-          attached.entries
-      ∙ sym (sum_by-map own_count (λ (e : ℕ × Descriptors). e.1) attached.entries)

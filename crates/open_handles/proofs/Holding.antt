@@ -1,25 +1,26 @@
 -- What holding an object, and letting one go, makes of the clients.
-use Rattle.std.proofs.Common.{◌≡◌, ◌≢◌, ◌∙◌, ℕ, ◌+◌, ◌-◌, ◌≤◌, cond, Option, None, Some, refl}
-use Rattle.std.proofs.Common.{sym, ap, inl, inr, arith, ne_eqb, eq-eqb, Result, Ok, Err, IfOk, OnErr}
+use Rattle.std.proofs.Common.{◌≡◌, ◌≢◌, ◌∙◌, ℕ, ◌-◌, ◌≤◌, cond, Option, None, Some, refl}
+use Rattle.std.proofs.Common.{sym, ap, inl, inr, arith, ne_eqb, eq-eqb}
 use Rattle.std.proofs.lemmas.Bool.{cases_eq}
 use Rattle.plain_model.specs.Layers.{Path}
-use Rattle.object_table.specs.Objects.{At, Holds, Nowhere, Objects, SameSpots, SetsSpot, Spot}
+use Rattle.object_table.specs.Objects.{At, Holds, Nowhere, Objects, SameSpots, Spot}
 use Rattle.object_table.specs.Objects.{Upper, holders_of, spot_left, spot_of}
 use Rattle.object_table.specs.Opened as places
 use Rattle.object_table.proofs.Spots.{location-spot, none-opened}
 use Rattle.open_handles.specs.declared.clients.Clients.{Clients}
-use Rattle.open_handles.specs.Attaching.{HoldsNoMore, HoldsOne, KeepsClients, LetsGo, SameBeside}
+use Rattle.open_handles.specs.Attaching.{HoldsNoMore, HoldsOne, KeepsClients, LetsGo}
 use Rattle.open_handles.specs.Attaching.{beside}
 use Rattle.open_handles.specs.Holding.{Releases, uses_in}
-use Rattle.open_handles.proofs.Counting.{IsCounted, beside-less, beside-more, held-places}
-use Rattle.open_handles.proofs.Counting.{holds-counted, only, release-counted, release-fewer}
+use Rattle.open_handles.proofs.Counting.{IsCounted, beside-more, held-places}
+use Rattle.open_handles.proofs.Counting.{holds-counted, only, release-fewer}
 use Rattle.open_handles.proofs.Counting.{release-stay}
 use Rattle.open_handles.proofs.Places.{places-stay, stay-holds, stay-same}
 
--- a path is somewhere, and so is a key
+-- what is at a path is somewhere
 pub at-there : (p : Path) → At p ≢ Nowhere
 at-there p e = absurd (cc)
 
+-- so is what is under a key
 pub upper-there : (key : ℕ) → Upper key ≢ Nowhere
 upper-there key e = absurd (cc)
 
@@ -59,29 +60,6 @@ module _ (old new : Clients) (clients : KeepsClients old new) where
     places = held-places old new (release-stay old.objects new.objects n count releases);
   }
 
-  pub lets-go-beside : (n count : ℕ) → Releases old.objects new.objects n count →
-      count ≤ beside old n → (m : ℕ) → beside new m + only n count m ≡ beside old m
-  lets-go-beside n count releases enough m =
-      let most : count ≤ holders_of old.objects n = omega arith in
-      beside-less old new m (only n count m) (uses-kept m)
-          (release-counted old.objects new.objects n count releases most m)
-
--- the handles use no more than is held, where more is held
-pub more-held : (old : Clients) (t : Objects) →
-    ((n : ℕ) → holders_of old.objects n ≤ holders_of t n) → (n : ℕ) →
-    uses_in old.attached n ≤ holders_of t n
-more-held old t more n = let enough = old.held n in let now = more n in omega arith
-
--- nor where what is let go was held beside them
-pub less-held : (old : Clients) (t : Objects) (k : ℕ → ℕ) →
-    ((n : ℕ) → holders_of t n + k n ≡ holders_of old.objects n) →
-    ((n : ℕ) → k n ≤ beside old n) → (n : ℕ) → uses_in old.attached n ≤ holders_of t n
-less-held old t k less enough n =
-    let was = old.held n in
-    let now = less n in
-    let most = enough n in
-    omega arith
-
 -- so many of one number are held beside the handles, and none of another need be
 pub only-enough : (old : Clients) (n count : ℕ) → count ≤ beside old n → (m : ℕ) →
     only n count m ≤ beside old m
@@ -109,11 +87,11 @@ module _ (a b c d : Objects) (spot : Spot) (n : ℕ) (there : spot ≢ Nowhere)
       (places.opened d.tree n ≡ places.opened a.tree n)
   undone-there was = (
     releases.sets.here
-    ∙ ap (λ left. spot_left left (spot_of c n)) undone-left
-    ∙ ap (λ x. cond x None (spot_of c n)) (ne_eqb (holders_of a n) 0 (undone-some was))
-    ∙ same.spots n ∙ holds.sets.here ∙ sym was,
+        ∙ ap (λ left. spot_left left (spot_of c n)) undone-left
+        ∙ ap (λ x. cond x None (spot_of c n)) (ne_eqb (holders_of a n) 0 (undone-some was))
+        ∙ same.spots n ∙ holds.sets.here ∙ sym was,
     releases.place (λ none. undone-some was (sym undone-left ∙ none)) ∙ same.places n ∙ by
-        (places.opened a.tree n) refl
+        (places.opened a.tree n) refl,
   )
     where
       by : (o : Option places.Location) → places.opened a.tree n ≡ o →
@@ -130,6 +108,7 @@ module _ (a b c d : Objects) (spot : Spot) (n : ℕ) (there : spot ≢ Nowhere)
       ∙ ap (λ left. spot_left left (spot_of c n)) (undone-left ∙ nobody) in
       (gone ∙ sym was, none-opened d n gone ∙ sym (none-opened a n was))
 
+  -- all is as it was
   pub hold-undone : SameSpots a d
   hold-undone = record {
     spots = λ m. elim (cases_eq m n) [
@@ -153,32 +132,3 @@ module _ (a b c d : Objects) (spot : Spot) (n : ℕ) (there : spot ≢ Nowhere)
         | inl was ↦ undone-there was
         | inr none ↦ undone-none none.1
       ]
-
--- where an object was held once more, or all is as it was, each is held as often at least
-pub hold-more : {E : Type 0} (old new : Objects) (spot : Spot) (r : Result ℕ E) →
-    IfOk r (Holds old new spot) → OnErr r (SameSpots old new) → (n : ℕ) →
-    holders_of old n ≤ holders_of new n
-hold-more old new spot (Ok k) holds err n = omega (arith, holds-counted old new spot k holds n)
-hold-more old new spot (Err e) holds err n = omega (arith, err.holders n)
-
--- where an object goes elsewhere and as many hold it, each is held as often
-pub moved-same : (old new : Objects) (n : ℕ) (spot : Option Spot) →
-    SetsSpot old new n spot (holders_of old n) → (m : ℕ) → holders_of new m ≡ holders_of old m
-moved-same old new n spot sets m = elim (cases_eq m n) [
-  | inl e ↦ ap (holders_of new) e ∙ sets.held ∙ sym (ap (holders_of old) e)
-  | inr off ↦ sets.other_holders m off
-]
-
--- where each object is held as often, handles use no more than is held
-pub same-held : (old : Clients) (t : Objects) →
-    ((n : ℕ) → holders_of t n ≡ holders_of old.objects n) → (n : ℕ) →
-    uses_in old.attached n ≤ holders_of t n
-same-held old t same n = let enough = old.held n in let now = same n in omega arith
-
--- and as much is held beside them
-pub beside-kept : (old new : Clients) → KeepsClients old new →
-    ((n : ℕ) → holders_of new.objects n ≡ holders_of old.objects n) → SameBeside old new
-beside-kept old new clients same n =
-    let used = uses-kept old new clients n in
-    let now = same n in
-    omega arith

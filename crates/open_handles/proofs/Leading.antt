@@ -85,9 +85,13 @@ module _ (object : ℕ) (from to : Way) where
         RetainsPairs T f (e ∷ es) left → (w : Descriptors) × (rest : List (ℕ × Descriptors)) ×
         IsLed e.1 w × RetainsPairs T f es rest × (left ≡ (e.0, w) ∷ rest)
     kept e es left r =
-        let called = step e.0 e.1 r.0 r.1 r.2 r.4 in
-        (r.1, r.3, called.1, subst (λ g. RetainsPairs T g es r.3) called.2 r.5,
-            r.6 ∙ ap (λ b. cond b ((e.0, r.1) ∷ r.3) r.3) called.0)
+        let called = step e.0 e.1 r.0 r.1 r.2 r.4 in (
+          r.1,
+          r.3,
+          called.1,
+          subst (λ g. RetainsPairs T g es r.3) called.2 r.5,
+          r.6 ∙ ap (λ b. cond b ((e.0, r.1) ∷ r.3) r.3) called.0,
+        )
 
     -- the tables have the new way
     pub retains-tables : (es left : List (ℕ × Descriptors)) → RetainsPairs T f es left →
@@ -97,7 +101,7 @@ module _ (object : ℕ) (from to : Way) where
         let k = kept e es left r in
         ap (map table_of) k.4
         ∙ ap (λ xs. table e.0 xs ∷ map table_of k.1) (ap (map tracked_in) k.2 ∙ slots-led
-            e.1.slots.items)
+        e.1.slots.items)
         ∙ ap (λ ks. re_table object from to (table_of e) ∷ ks) (retains-tables es k.1 k.3)
       where
         table : ℕ → List (Option TrackedHandle) → TrackedTable
@@ -111,7 +115,7 @@ module _ (object : ℕ) (from to : Way) where
         let k = kept e es left r in
         let rest = retains-found es k.1 k.3 test in
         subst (λ l. Led (lookup test (e ∷ es)) (lookup test l)) (sym k.4)
-            (by k.0 k.2 k.1 rest (test e.0))
+        (by k.0 k.2 k.1 rest (test e.0))
       where
         by : (w : Descriptors) → IsLed e.1 w → (rest : List (ℕ × Descriptors)) →
             Led (lookup test es) (lookup test rest) → (b : Bool) →
@@ -130,7 +134,7 @@ module _ (old : Clients) (new : Attached) (object : ℕ) (from to : Way) (count 
   lead-uses n =
       ap (λ ks. uses ks n + only from.directory count n) tables
       ∙ ap (λ k. uses (map (re_table object from to) (tables_of old)) n + only from.directory k n)
-          all
+      all
       ∙ uses-re_way object from to n (tables_of old)
       ∙ ap (λ k. uses_in old.attached n + only to.directory k n) (sym all)
 

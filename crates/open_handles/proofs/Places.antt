@@ -1,13 +1,13 @@
 -- Open directories stand where they stood where objects are held or let go.
-use Rattle.std.proofs.Common.{◌≡◌, ◌≢◌, ◌⊎◌, ◌∙◌, ℕ, ◌+◌, ◌<◌, Option, None, Some, refl, sym, ap}
-use Rattle.std.proofs.Common.{inl, inr, arith}
+use Rattle.std.proofs.Common.{◌≡◌, ◌≢◌, ◌⊎◌, ◌∙◌, ℕ, Option, None, Some, refl, sym, ap}
+use Rattle.std.proofs.Common.{inl, inr}
 use Rattle.std.proofs.lemmas.Bool.{cases_eq}
 use Rattle.object_table.specs.Objects.{Objects, Spot, At, Upper, Nowhere, spot_of, Holds, SameSpots}
 use Rattle.object_table.specs.Objects.{SetsSpot}
 use Rattle.object_table.specs.Opened.{Location, opened}
 use Rattle.object_table.proofs.Spots.{opened-path, opened-key, none-opened}
 use Rattle.open_handles.specs.declared.clients.Clients.{Clients}
-use Rattle.open_handles.specs.Attaching.{HoldsOne, KeepsClients, KeepsPlaces}
+use Rattle.open_handles.specs.Attaching.{KeepsPlaces}
 
 -- each object that stood somewhere stands there
 abbrev pub Stay : Objects → Objects → Type 0
@@ -32,12 +32,18 @@ stay-holds old new spot n some holds m l at = elim (cases_eq m n) [
     by x some here (inr none) at e = let no : None ≡
         Some l = sym (none-opened old n none.1) ∙ at in absurd (cc)
 
+-- where more hold one that is held, and it stands where it stood
+pub stay-hold : (old new : Objects) (n count : ℕ) (spot : Option Spot) →
+    SetsSpot old new n spot count → opened new.tree n ≡ opened old.tree n → Stay old new
+stay-hold old new n count spot sets place m l at = elim (cases_eq m n) [
+  | inl e ↦ ap (opened new.tree) e ∙ place ∙ ap (opened old.tree) (sym e) ∙ at
+  | inr off ↦ sets.other_places m off ∙ at
+]
+
 -- so an open directory does
 pub places-stay : (old new : Clients) → Stay old.objects new.objects → KeepsPlaces old new
 places-stay old new stay c d o l there at = stay o.directory l at
 
+-- where all is as it was, each stands where it stood
 pub stay-same : (old new : Objects) → SameSpots old new → Stay old new
 stay-same old new same n l at = same.places n ∙ at
-
-pub stay-then : (a b c : Objects) → Stay a b → Stay b c → Stay a c
-stay-then a b c first second n l at = second n l (first n l at)

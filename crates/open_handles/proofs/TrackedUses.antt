@@ -36,7 +36,7 @@ client-le n c [] = omega arith
 client-le n c (k ∷ ks) =
     let rest = client-le n c ks in
     let all : uses (k ∷ ks) n ≡ sum_by (slot_uses n) k.slots + uses ks n =
-        sum_by-cons (λ (x : TrackedTable). sum_by (slot_uses n) x.slots) k ks in
+    sum_by-cons (λ (x : TrackedTable). sum_by (slot_uses n) x.slots) k ks in
     elim (cases_Bool (nat_eq k.client c)) [
       | inl is ↦
           let own = ap (λ p. sum_by (slot_uses n) (cond p k.slots (slots_of ks c))) is in

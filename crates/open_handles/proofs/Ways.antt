@@ -2,40 +2,40 @@
 use Rattle.std.proofs.Common.{◌≡◌, ◌∙◌, ℕ, ◌+◌, ◌≤◌, Option, None, Some, [], ◌∷◌, refl, sym, ap}
 use Rattle.std.proofs.Common.{subst, inl, inr, arith}
 use Rattle.std.proofs.lemmas.Bool.{cases_eq}
-use Rattle.plain_model.specs.Layers.{Path}
-use Rattle.object_table.specs.Objects.{AreFewer, At, Nowhere, Objects, SameSpots, SetsSpot}
-use Rattle.object_table.specs.Objects.{holders_of, spot_of}
+use Rattle.plain_model.specs.Layers.{Name, Path}
+use Rattle.object_table.specs.Objects.{AreFewer, At, Holds, Nowhere, Objects, SameSpots}
+use Rattle.object_table.specs.Objects.{SetsSpot, holders_of, spot_of}
 use Rattle.object_table.specs.Opened as places
 use Rattle.object_table.proofs.Spots.{none-opened}
 use Rattle.open_handles.specs.declared.clients.Clients.{Clients}
 use Rattle.open_handles.specs.declared.handle.Hold.{Hold}
 use Rattle.open_handles.specs.declared.way.Way.{Way}
-use Rattle.open_handles.specs.Attaching.{HoldsNoMore, KeepsClients, KeepsPlaces, LetsGo, SameBeside}
-use Rattle.open_handles.specs.Attaching.{beside}
+use Rattle.open_handles.specs.Attaching.{KeepsClients, KeepsPlaces, LetsGo}
 use Rattle.open_handles.specs.Holding.{HoldsWay, IsHeldWay, Releases, ReleasesWay}
 use Rattle.open_handles.specs.Listings.{directory_in}
 use Rattle.open_handles.specs.TrackedHandles.{handle_uses, way_uses}
-use Rattle.open_handles.proofs.Counting.{HeldStay, IsCounted, beside-less, fewer-then}
-use Rattle.open_handles.proofs.Counting.{held-stay-then, holds-counted, only, only-same}
+use Rattle.open_handles.proofs.Counting.{HeldStay, IsCounted, fewer-then}
+use Rattle.open_handles.proofs.Counting.{held-stay-then, only, only-same}
 use Rattle.open_handles.proofs.Counting.{release-counted, release-fewer, release-stay}
 use Rattle.open_handles.proofs.Entries.{opened_at}
-use Rattle.open_handles.proofs.Holding.{at-there, hold-undone, holds-no-more, lets-go}
-use Rattle.open_handles.proofs.Holding.{uses-kept}
-use Rattle.open_handles.proofs.Places.{Stay, stay-holds, stay-same}
+use Rattle.open_handles.proofs.Holding.{at-there, hold-undone}
+use Rattle.open_handles.proofs.Places.{Stay}
 
 -- what stays over two steps of what is held stays over both
 pub places-then : (a b c : Clients) → KeepsClients b c → KeepsPlaces a b → KeepsPlaces b c →
     KeepsPlaces a c
 places-then a b c clients first second e d o l there at =
     second e d o l there (first e d o l (sym (ap (λ x. directory_in (opened_at x e d))
-        clients.attached) ∙ there) at)
+    clients.attached) ∙ there) at)
 
+-- the clients that stay over two steps stay over both
 pub clients-then : (a b c : Clients) → KeepsClients a b → KeepsClients b c → KeepsClients a c
 clients-then a b c first second = record {
   attached = second.attached ∙ first.attached;
   next = second.next ∙ first.next;
 }
 
+-- so does where the objects are
 pub spots-then : (a b c : Objects) → SameSpots a b → SameSpots b c → SameSpots a c
 spots-then a b c first second = record {
   spots = λ n. second.spots n ∙ first.spots n;
@@ -56,30 +56,15 @@ pub spots-equal : (a b : Objects) → b ≡ a → SameSpots a b
 spots-equal a b same = subst (λ t. SameSpots a t) (sym same)
     (record { spots = λ n. refl; holders = λ n. refl; places = λ n. refl })
 
--- the directory of a way is held once more
-pub way-counted : (old new : Objects) (p : Path) (r : Option Way) → HoldsWay old new p r →
-    (n : ℕ) → holders_of new n ≡ holders_of old n + way_uses n r
-way-counted old new [] r holds n =
-    let none : way_uses n r ≡ 0 = ap (way_uses n) holds.0 in
-    omega (arith, none, holds.1.holders n)
-way-counted old new (x ∷ p) None holds n = absurd holds
-way-counted old new (x ∷ p) (Some w) holds n =
-    holds-counted old new (At p) w.directory holds.0 n
-
--- all else stands where it stood
-pub way-stay : (old new : Objects) (p : Path) (r : Option Way) → HoldsWay old new p r →
-    Stay old new
-way-stay old new [] r holds = stay-same old new holds.1
-way-stay old new (x ∷ p) None holds = absurd holds
-way-stay old new (x ∷ p) (Some w) holds =
-    stay-holds old new (At p) w.directory (at-there p) holds.0
-
--- the way is held then
-pub way-held : (old new : Objects) (p : Path) (r : Option Way) → HoldsWay old new p r →
-    IsHeldWay new p r
-way-held old new [] r holds = holds.0
-way-held old new (x ∷ p) None holds = absurd holds
-way-held old new (x ∷ p) (Some w) holds = (holds.0.sets.here, holds.1)
+-- a step from the directory of the way leads to the path
+pub step-holds : (old new : Objects) (p : Path) (r : Option Way) (x : Name) (q : Path) (w : Way)
+    (n : ℕ) → IsHeldWay old p r → r ≡ Some w → p ≡ x ∷ q → ((path : Path) →
+    spot_of old w.directory ≡ Some (At path) → Holds old new (At (x ∷ path)) n) →
+    Holds old new (At p) n
+step-holds old new p r x q w n held some split holds =
+    let way : IsHeldWay old (x ∷ q) (Some w) =
+    subst (λ y. IsHeldWay old y (Some w)) split (subst (IsHeldWay old p) some held) in
+    subst (λ y. Holds old new (At y) n) (sym split) (holds q way.0)
 
 -- a way that is held and let go again leaves all as it was
 pub way-undone : (a b c d : Objects) (p : Path) (r : Option Way) → IsCounted a →
@@ -102,29 +87,6 @@ way-released old new (Some w) releases enough n =
     let some = enough w.directory in
     release-counted old new w.directory 1 releases (omega (arith, one, some)) n
 
--- only what was held for the way is let go
-pub way-lets-go : (old new : Clients) (r : Option Way) → KeepsClients old new →
-    ReleasesWay old.objects new.objects r → LetsGo old new
-way-lets-go old new None clients releases = record {
-  clients = clients;
-  fewer = λ n spot is. sym (ap (λ t. spot_of t n) releases) ∙ is;
-  places = λ c d o l there at. stay-same old.objects new.objects
-      (spots-equal old.objects new.objects releases) o.directory l at;
-}
-way-lets-go old new (Some w) clients releases =
-    lets-go old new clients w.directory 1 releases
-
--- what is let go was held beside the handles
-pub way-beside : (old new : Clients) (r : Option Way) → KeepsClients old new →
-    ReleasesWay old.objects new.objects r → ((n : ℕ) → way_uses n r ≤ beside old n) → (n : ℕ) →
-    beside new n + way_uses n r ≡ beside old n
-way-beside old new r clients releases enough n =
-    beside-less old new n (way_uses n r) (uses-kept old new clients n)
-        (way-released old.objects new.objects r releases (λ m. most m) n)
-  where
-    most : (m : ℕ) → way_uses m r ≤ holders_of old.objects m
-    most m = let some = enough m in omega arith
-
 -- where a number that was nobody's is nowhere, all else stands where it stood
 pub stay-new : (old new : Objects) (n : ℕ) → spot_of old n ≡ None →
     SetsSpot old new n (Some Nowhere) 1 → Stay old new
@@ -146,28 +108,38 @@ pub way-held-stay : (old new : Objects) (r : Option Way) → ReleasesWay old new
 way-held-stay old new None releases = λ n held. ap (λ t. places.opened t.tree n) releases
 way-held-stay old new (Some w) releases = release-stay old new w.directory 1 releases
 
--- what a handle holds is let go: its object, and then the directory of its way
-module _ (a b c : Objects) (h : Hold) (enough : (n : ℕ) → handle_uses n h ≤ holders_of a n)
-    (first : Releases a b h.object 1) where
-  -- the object is held at least once
-  pub hold-object : 1 ≤ holders_of a h.object
-  hold-object =
-      let one : only h.object 1 h.object ≡ 1 = only-same h.object 1 h.object refl in
-      let some = enough h.object in
-      omega (arith, one, some)
+-- the object that a handle holds is held at least once
+pub hold-object : (t : Objects) (h : Hold) → ((n : ℕ) → handle_uses n h ≤ holders_of t n) →
+    1 ≤ holders_of t h.object
+hold-object t h enough =
+    let one : only h.object 1 h.object ≡ 1 = only-same h.object 1 h.object refl in
+    let some = enough h.object in
+    omega (arith, one, some)
 
-  -- when it is let go, the directory of the way is still held for it
+-- the directory of a way that is held is held at least once
+pub way-object : (t : Objects) (r : Option Way) (w : Way) → r ≡ Some w →
+    ((n : ℕ) → way_uses n r ≤ holders_of t n) → 1 ≤ holders_of t w.directory
+way-object t r w is enough =
+    let one : way_uses w.directory r ≡ 1 = ap (way_uses w.directory) is ∙ only-same w.directory 1
+    w.directory refl in
+    let some = enough w.directory in
+    omega (arith, one, some)
+
+-- it is let go: the object, and then the directory of the way
+module _ (a b : Objects) (h : Hold) (enough : (n : ℕ) → handle_uses n h ≤ holders_of a n)
+    (first : Releases a b h.object 1) where
+  -- when the object is let go, the directory of the way is still held for it
   pub hold-way : (n : ℕ) → way_uses n h.way ≤ holders_of b n
   hold-way n =
       let some = enough n in
-      let less = release-counted a b h.object 1 first hold-object n in
+      let less = release-counted a b h.object 1 first (hold-object a h enough) n in
       omega arith
 
-  module _ (second : ReleasesWay b c h.way) where
+  module _ (c : Objects) (second : ReleasesWay b c h.way) where
     -- each is counted less by what the handle used
     pub hold-released : (n : ℕ) → holders_of c n + handle_uses n h ≡ holders_of a n
     hold-released n =
-        let less = release-counted a b h.object 1 first hold-object n in
+        let less = release-counted a b h.object 1 first (hold-object a h enough) n in
         let left = way-released b c h.way second hold-way n in
         omega arith
 
@@ -180,22 +152,3 @@ module _ (a b c : Objects) (h : Hold) (enough : (n : ℕ) → handle_uses n h �
     hold-stay = held-stay-then a b c (release-stay a b h.object 1 first)
         (way-held-stay b c h.way second) (λ n. let left = way-released b c h.way second hold-way n
         in omega arith)
-
--- where a way is held, handles use no more than is held
-pub way-more : (old new : Objects) (p : Path) (r : Option Way) → HoldsWay old new p r →
-    (n : ℕ) → holders_of old n ≤ holders_of new n
-way-more old new p r holds n = omega (arith, way-counted old new p r holds n)
-
--- a way that was held is let go again: nothing more is held
-pub way-given_up : (a b c d : Clients) (p : Path) (r : Option Way) → IsCounted a.objects →
-    KeepsClients a d → HoldsWay a.objects b.objects p r → SameSpots b.objects c.objects →
-    ReleasesWay c.objects d.objects r → HoldsNoMore a d
-way-given_up a b c d p r counted clients holds same releases =
-    holds-no-more a d clients
-    (way-undone a.objects b.objects c.objects d.objects p r counted holds same releases)
-
--- it is held beside the handles until then
-pub way-enough : (a b c : Clients) (r : Option Way) →
-    ((n : ℕ) → beside b n ≡ beside a n + way_uses n r) → SameBeside b c → (n : ℕ) →
-    way_uses n r ≤ beside c n
-way-enough a b c r more same n = let up = more n in let kept = same n in omega arith

@@ -1,13 +1,13 @@
 -- How clients come and go, what they have open, and what is held beside their handles.
 use Rattle.std.specs.Prelude.{◌≡◌, ◌≢◌, ◌≤◌, ℕ, ◌+◌, ◌-◌, not, Bool, List, [], ◌∷◌, ◌++◌, Option}
-use Rattle.std.specs.Prelude.{Some, None, Result, IfOk, is_some, nat_eq, nat_lt, filter, cond, true}
+use Rattle.std.specs.Prelude.{Some, None, Result, is_some, nat_eq, nat_lt, filter, cond, true}
 use Rattle.std.specs.Option.{option_and_then}
 use Rattle.std.specs.BTreeMap.{get, btree_map_len}
 use Rattle.std.specs.Ordering.{nat_cmp}
 use Rattle.ov_base.specs.declared.errno.Errno.{Errno}
 use Rattle.ov_base.specs.declared.errno.Errno.TheVariants.{EINVAL, ENFILE}
 use Rattle.plain_model.specs.Layers.{Path}
-use Rattle.object_table.specs.Objects.{Spot, spot_of, holders_of, AreFewer, Holds, SameSpots}
+use Rattle.object_table.specs.Objects.{Spot, holders_of, AreFewer, Holds, SameSpots}
 use Rattle.object_table.specs.Opened.{Location, opened, path_in}
 use Rattle.open_handles.specs.declared.clients.Clients.{Clients}
 use Rattle.open_handles.specs.declared.descriptors.Descriptors.{Descriptors}

@@ -1,5 +1,5 @@
 -- What the handles of all clients are on, and the ways by which they were opened, by the numbers of objects.
-use Rattle.std.specs.Prelude.{◌≡◌, ◌≢◌, ℕ, ◌+◌, Bool, false, cond, ◌&&◌, List, [], ◌∷◌, Option, Some, None, map, sum_by, count_by, nat_eq}
+use Rattle.std.specs.Prelude.{◌≡◌, ℕ, ◌+◌, Bool, false, cond, ◌&&◌, List, [], ◌∷◌, Option, Some, None, map, sum_by, count_by, nat_eq}
 use Rattle.plain_model.specs.Layers.{same_name}
 use Rattle.open_handles.specs.Descriptors.{opened}
 use Rattle.open_handles.specs.declared.handle.Hold.{Hold}

@@ -26,7 +26,7 @@ invariant_of-self c =
       few = goes-few old new c.args.client c.remove.ensures.entries;
       held = λ n.
           let used = goes-uses old.attached new c.args.client c.requires (gone at_call)
-              c.remove.ensures.entries n in
+          c.remove.ensures.entries n in
           let enough = old.held n in
           omega arith;
     }
@@ -37,4 +37,4 @@ returns-clause-leaves c =
     let old = c.args.self.now in
     let new = c.remove.new.self in
     leaves-when old _ c.args.client c.requires (gone at_call) (others at_call)
-        c.remove.ensures.entries refl
+    c.remove.ensures.entries refl

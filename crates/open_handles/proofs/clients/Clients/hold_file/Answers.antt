@@ -1,24 +1,22 @@
-use Rattle.std.proofs.Common.{arith, refl}
-use Rattle.open_handles.specs.Attaching.{HoldsOne, KeepsClients}
-use Rattle.object_table.specs.Objects.{Upper}
-use Rattle.open_handles.proofs.Counting.{holds-counted}
-use Rattle.open_handles.proofs.Holding.{holds-one, more-held, same-held, upper-there}
-use Rattle.open_handles.proofs.Ways.{clients-then, places-then, way-enough, way-given_up}
-use Rattle.open_handles.proofs.clients.Clients.hold_file.Goals.{After-release_way}
+use Rattle.std.proofs.Common.{◌∙◌}
+use Rattle.open_handles.proofs.Holding.{holds-no-more, upper-there}
+use Rattle.open_handles.proofs.Places.{stay-holds}
+use Rattle.open_handles.proofs.Ways.{way-undone}
 use Rattle.open_handles.proofs.clients.Clients.hold_file.Goals as goal
 
 pub returns-in-Ok-clause-places : goal.returns-in-Ok-clause-places
-returns-in-Ok-clause-places c = places-then _ _ _ (record { attached = refl; next = refl })
-    c.in_ok-way.ensures.places (holds-one c.hold_way.new.self _ (record { attached = refl; next =
-    refl }) (Upper c.args.key) c.in-Ok.object (upper-there c.args.key) c.in-Ok.ensures.holds).places
-
--- the same clients are attached
-clients : (c : After-release_way) → KeepsClients c.args.self.now c.release_way.new.self
-clients c = clients-then _ _ _ c.in_ok-way.ensures.clients c.release_way.ensures.lets.clients
+returns-in-Ok-clause-places c e d o l there at =
+    stay-holds c.hold_way.new.self.objects c.hold_key.new.self _ c.in-Ok.object
+    (upper-there c.args.key) c.in-Ok.ensures.holds o.directory l
+    (c.in_ok-way.ensures.places e d o l there at)
 
 pub returns-in-Err-clause-err : goal.returns-in-Err-clause-err
 returns-in-Err-clause-err c =
-    let at = (goal.at.returns-in-Err-clause-err c).After-release_way in
-    way-given_up c.args.self.now c.hold_way.new.self _ c.release_way.new.self c.args.path.now
-        c.in_ok-way.way c.lawful.ensures.counted (clients at) c.in_ok-way.ensures.holds
-        c.in-Err.ensures.err c.release_way.ensures.releases
+    holds-no-more c.args.self.now c.release_way.new.self
+    (record {
+      attached = c.release_way.ensures.lets.clients.attached ∙ c.in_ok-way.ensures.clients.attached;
+      next = c.release_way.ensures.lets.clients.next ∙ c.in_ok-way.ensures.clients.next;
+    })
+    (way-undone c.args.self.now.objects c.hold_way.new.self.objects c.hold_key.new.self
+    c.release_way.new.self.objects c.args.path.now c.in_ok-way.way c.lawful.ensures.counted
+    c.in_ok-way.ensures.holds c.in-Err.ensures.err c.release_way.ensures.releases)

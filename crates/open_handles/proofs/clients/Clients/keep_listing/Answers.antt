@@ -10,7 +10,8 @@ use Rattle.open_handles.proofs.clients.Clients.keep_listing.Goals as goal
 
 -- the client has other descriptors
 becomes : (c : After-keep_listing) → Becomes c.args.self.now.attached
-    (c.get_mut.follows.lender c.keep_listing.new.self) c.args.client c.unwrap.result.now c.keep_listing.new.self
+    (c.get_mut.follows.lender c.keep_listing.new.self) c.args.client c.unwrap.result.now
+    c.keep_listing.new.self
 becomes c = record {
   was = search rules;
   is = search rules;
@@ -19,9 +20,11 @@ becomes c = record {
 }
 
 -- each slot is on what it was
-same : (c : After-keep_listing) → (d : ℕ) → tracked_in (opened c.keep_listing.new.self.slots.items d) ≡
+same : (c : After-keep_listing) → (d : ℕ) → tracked_in
+    (opened c.keep_listing.new.self.slots.items d) ≡
     tracked_in (opened c.unwrap.result.now.slots.items d)
-same c = slot-tracked (with_listing c.args.listing) (λ h. refl) _ _ c.args.descriptor c.keep_listing.ensures
+same c = slot-tracked (with_listing c.args.listing)
+    (λ h. refl) _ _ c.args.descriptor c.keep_listing.ensures
 
 pub returns-clause-changes : goal.returns-clause-changes
 returns-clause-changes c =
@@ -37,7 +40,7 @@ pub invariant_of-self : goal.invariant_of-self
 invariant_of-self c =
     let at_call = (goal.at.invariant_of-self c).After-keep_listing in
     record {
-      rising = becomes-rising _ _ _ _ _ (becomes at_call);
-      few = becomes-few _ _ _ _ _ (becomes at_call);
-      held = becomes-held _ _ _ _ _ (becomes at_call) (same at_call);
+      rising = becomes-rising c.args.self.now _ _ _ _ (becomes at_call);
+      few = becomes-few c.args.self.now _ _ _ _ (becomes at_call);
+      held = becomes-held c.args.self.now _ _ _ _ (becomes at_call) (same at_call);
     }

@@ -1,10 +1,10 @@
-use Rattle.std.proofs.Common.{◌≡◌, ◌≤◌, ◌∙◌, ℕ, map, ap, arith, refl, rules}
+use Rattle.std.proofs.Common.{◌≡◌, ◌∙◌, ℕ, map, ap, arith, rules}
 use Rattle.std.specs.BTreeMap.{get, is_at}
 use Rattle.std.specs.Ordering.{nat_cmp}
 use Rattle.open_handles.specs.Attaching.{tables_of}
 use Rattle.open_handles.specs.Holding.{Releases, tables_in}
 use Rattle.open_handles.specs.TrackedHandles.{clients_of, tracked_by}
-use Rattle.open_handles.proofs.Counting.{held-places, release-fewer, release-stay}
+use Rattle.open_handles.proofs.Counting.{release-fewer, release-stay, used-places}
 use Rattle.open_handles.proofs.Leading.{Led, lead-beside, lead-held, lead-most, led-attached}
 use Rattle.open_handles.proofs.Leading.{led-opened, retains-found, retains-tables}
 use Rattle.open_handles.proofs.TrackedWays.{clients-re_way, re_table, tracked-re_way}
@@ -68,13 +68,19 @@ returns-clause-attached c b = led-attached c.args.object c.args.from.now c.args.
     (found (goal.at.returns-clause-attached c).After-retain b)
 
 pub returns-clause-places : goal.returns-clause-places
-returns-clause-places c = held-places c.args.self.now _ (release-stay c.args.self.now.objects
-    c.release.new.self c.args.from.now.directory c.args.count
-    (let_go (goal.at.returns-clause-places c).After-release))
+returns-clause-places c =
+    let at = goal.at.returns-clause-places c in
+    let old = c.args.self.now in
+    used-places c.retain.new.self old.objects c.release.new.self
+    (lead-held old c.retain.new.self c.args.object c.args.from.now c.args.to.now c.args.count
+    (tables at.After-retain) c.requires.led c.requires.held c.release.new.self
+    (let_go at.After-release))
+    (release-stay old.objects c.release.new.self c.args.from.now.directory c.args.count
+    (let_go at.After-release))
 
 pub returns-clause-beside : goal.returns-clause-beside
 returns-clause-beside c =
     let at = goal.at.returns-clause-beside c in
     lead-beside c.args.self.now c.retain.new.self c.args.object c.args.from.now c.args.to.now
-        c.args.count (tables at.After-retain) c.requires.led c.requires.held c.release.new.self
-        (let_go at.After-release)
+    c.args.count (tables at.After-retain) c.requires.led c.requires.held c.release.new.self
+    (let_go at.After-release)

@@ -9,7 +9,8 @@ use Rattle.open_handles.proofs.clients.Clients.next_names.Goals as goal
 
 -- the client has other descriptors
 becomes : (c : After-next_names) → Becomes c.args.self.now.attached
-    (c.get_mut.follows.lender c.next_names.new.self) c.args.client c.unwrap.result.now c.next_names.new.self
+    (c.get_mut.follows.lender c.next_names.new.self) c.args.client c.unwrap.result.now
+    c.next_names.new.self
 becomes c = record {
   was = search rules;
   is = search rules;
@@ -36,7 +37,7 @@ pub invariant_of-self : goal.invariant_of-self
 invariant_of-self c =
     let at_call = (goal.at.invariant_of-self c).After-next_names in
     record {
-      rising = becomes-rising _ _ _ _ _ (becomes at_call);
-      few = becomes-few _ _ _ _ _ (becomes at_call);
-      held = becomes-held _ _ _ _ _ (becomes at_call) (same at_call);
+      rising = becomes-rising c.args.self.now _ _ _ _ (becomes at_call);
+      few = becomes-few c.args.self.now _ _ _ _ (becomes at_call);
+      held = becomes-held c.args.self.now _ _ _ _ (becomes at_call) (same at_call);
     }

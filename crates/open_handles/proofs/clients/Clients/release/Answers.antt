@@ -1,8 +1,6 @@
-use Rattle.std.proofs.Common.{◌≤◌, arith, refl}
-use Rattle.object_table.specs.Objects.{holders_of}
+use Rattle.std.proofs.Common.{refl}
 use Rattle.open_handles.specs.Holding.{Releases}
-use Rattle.open_handles.proofs.Counting.{only, release-counted}
-use Rattle.open_handles.proofs.Holding.{less-held, lets-go, lets-go-beside, only-enough}
+use Rattle.open_handles.proofs.Holding.{lets-go}
 use Rattle.open_handles.proofs.clients.Clients.release.Goals.{After-release}
 use Rattle.open_handles.proofs.clients.Clients.release.Goals as goal
 

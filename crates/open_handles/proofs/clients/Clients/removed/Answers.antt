@@ -1,7 +1,6 @@
-use Rattle.std.proofs.Common.{◌≡◌, ◌∙◌, Some, ap, sym}
+use Rattle.std.proofs.Common.{◌≡◌, Some, sym}
 use Rattle.open_handles.specs.Attaching.{opened_by}
 use Rattle.open_handles.proofs.Counting.{held-there, opened-held}
-use Rattle.open_handles.proofs.Slots.{directory-read, directory-some}
 use Rattle.open_handles.proofs.clients.Clients.removed.Goals.{After-unwrap-handle}
 use Rattle.open_handles.proofs.clients.Clients.removed.Goals as goal
 
@@ -14,4 +13,5 @@ pub removed-requires : goal.removed-requires
 removed-requires c =
     let is = handle (goal.at.removed-requires c).After-unwrap-handle in
     held-there c.args.self.now.objects c.unwrap-handle.result.now.object c.lawful.ensures.counted
-        (opened-held c.args.self.now c.args.client c.args.descriptor c.unwrap-handle.result.now is)
+    (opened-held c.args.self.now.attached c.args.self.now.objects c.args.self.now.held
+    c.args.client c.args.descriptor c.unwrap-handle.result.now is)

@@ -37,7 +37,7 @@ pub invariant_of-self : goal.invariant_of-self
 invariant_of-self c =
     let at_call = (goal.at.invariant_of-self c).After-rewind in
     record {
-      rising = becomes-rising _ _ _ _ _ (becomes at_call);
-      few = becomes-few _ _ _ _ _ (becomes at_call);
-      held = becomes-held _ _ _ _ _ (becomes at_call) (same at_call);
+      rising = becomes-rising c.args.self.now _ _ _ _ (becomes at_call);
+      few = becomes-few c.args.self.now _ _ _ _ (becomes at_call);
+      held = becomes-held c.args.self.now _ _ _ _ (becomes at_call) (same at_call);
     }

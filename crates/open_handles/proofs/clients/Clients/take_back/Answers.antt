@@ -24,7 +24,7 @@ invariant_of-self c =
     record {
       rising = λ n there.
           let was = goes-rising old.attached new c.args.number (gone at_call) (others at_call) n
-              there in
+          there in
           let below = old.rising n was.1 in
           let last = c.requires.last in
           elim (cases_lt n c.args.number) [
@@ -34,7 +34,7 @@ invariant_of-self c =
       few = goes-few old new c.args.number c.remove.ensures.entries;
       held = λ n.
           let used = goes-uses old.attached new c.args.number c.requires.none (gone at_call)
-              c.remove.ensures.entries n in
+          c.remove.ensures.entries n in
           let enough = old.held n in
           omega arith;
     }
