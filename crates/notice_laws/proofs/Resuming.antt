@@ -54,7 +54,7 @@ module _ (shows : Rule) (U V : Layer) (lowers : List Layer) (s : State) (c : ℕ
   pub resumes-kept :
       (old new : Notified) → (k : Tracks U s old) → AreKnown new → (ss : List Subject) (becomes : Spot → Spot → Type 0) →
       Tells shows old new ss becomes → SameTracked old.handles new.handles →
-          new.renames ≡ old.renames →
+      new.renames ≡ old.renames →
       AreToldAlike (stands_for old.objects k.bearers) old.instances s.instances ss (subjects s c call) →
       ((n : ℕ) (was spot : Spot) → spot_of old.objects n ≡ Some was → becomes was spot → IsAt V (after s c call).tree spot (k.bearers n)) →
       Resumes shows V s c call new

@@ -1,5 +1,7 @@
 -- How many watch an object that one client armed, and what was held for it.
-use Rattle.std.proofs.Common.{◌≡◌, ◌≢◌, ℕ, ◌+◌, ◌-◌, ◌≤◌, Bool, true, false, cond, ◌||◌, ◌⊎◌, inl, inr, List, [], ◌∷◌, Option, None, Some, IsSome, Result, Ok, Err, refl, sym, ap, subst, ◌∙◌, arith, nat_eq, eqb-true, eq-eqb}
+use Rattle.std.proofs.Common.{◌≡◌, ◌≢◌, ℕ, ◌+◌, ◌-◌, ◌≤◌, Bool, true, false, cond, ◌||◌, ◌⊎◌}
+use Rattle.std.proofs.Common.{inl, inr, List, [], ◌∷◌, Option, None, Some, IsSome, Result, Ok, Err}
+use Rattle.std.proofs.Common.{refl, sym, ap, subst, ◌∙◌, arith, nat_eq, eqb-true, eq-eqb}
 use Rattle.std.specs.Prelude.{IfOk, OnOk, OnErr, is_some}
 use Rattle.std.proofs.lemmas.Bool.{false≢true, cases_Bool}
 use Rattle.ov_base.specs.declared.node_id.NodeId.TheVariants.{New}
@@ -91,21 +93,21 @@ module _ (c slot o mask : ℕ) where
         (omega arith, omega arith)
   ]
 
-  pub more-armed : (es fs : List Instance) → AreRising (clients_of es) → (fs ≡ at_client c arms es) ⊎ (fs ≡ es) → WatchesMore es fs o
-  more-armed es fs rising (inl is) =
+  -- so it is whether an arm was done, or left all
+  pub more-armed : {A F : Type 0} (r : Result A F) (es fs : List Instance) →
+      AreRising (clients_of es) → OnOk r (fs ≡ at_client c arms es) → OnErr r (fs ≡ es) →
+      WatchesMore es fs o
+  more-armed (Ok a) es fs rising is left =
       let both = one-armed es rising in
       subst (λ xs. WatchesMore es xs o) (sym is)
       (record { least = both.0; most = both.1; others = λ n ne. others-armed n ne es })
-  more-armed es fs rising (inr is) = subst (λ xs. WatchesMore es xs o) (sym is) (none-more es o)
-
--- an arm was done, or left all
-pub outcome-of : {A F D L : Type 0} (r : Result A F) → OnOk r D → OnErr r L → D ⊎ L
-outcome-of (Ok a) done left = inl done
-outcome-of (Err f) done left = inr left
+  more-armed (Err f) es fs rising is left =
+      subst (λ xs. WatchesMore es xs o) (sym left) (none-more es o)
 
 -- what stands at a path is held by its spot
-pub held-there : (before after : Clients) (p : Path) (o : Object) (spot : Spot) (r : Result ℕ AllocError) → IsSpotOf p o spot →
-    IfOk r (HoldsOne before after spot) → IfOk r (λ n. (s : Spot) × IsSpotOf p o s × HoldsOne before after s n)
+pub held-there : (before after : Clients) (p : Path) (o : Object) (spot : Spot)
+    (r : Result ℕ AllocError) → IsSpotOf p o spot → IfOk r (HoldsOne before after spot) →
+    IfOk r (λ n. (s : Spot) × IsSpotOf p o s × HoldsOne before after s n)
 held-there before after p o spot (Ok n) is holds = (spot, is, holds)
 held-there before after p o spot (Err e) is holds = tt
 
@@ -115,47 +117,56 @@ pub counted-armed : (before held after : ℕ → ℕ) (o less : ℕ) (es fs : Li
     ((n : ℕ) → held n ≡ before n + cond (nat_eq o n) 1 0) →
     ((n : ℕ) → after n + cond (nat_eq o n) less 0 ≡ held n) →
     less ≡ 1 - (watchers fs o - watchers es o) → (n : ℕ) → after n ≡ watchers fs n
-counted-armed before held after o less es fs counts more holds lets few n = elim (cases_Bool (nat_eq o n)) [
-  | inl q ↦ subst (λ x. after x ≡ watchers fs x) (eqb-true o n q)
-      (let on = eq-eqb o o refl in
-      let left : after o + less ≡ held o = subst (λ b. after o + cond b less 0 ≡ held o) on (lets o) in
-      let was : held o ≡ before o + 1 = subst (λ b. held o ≡ before o + cond b 1 0) on (holds o) in
-      let all = counts o in
-      let least = more.least in
-      let most = more.most in
-      omega arith)
-  | inr f ↦
-      let left : after n + 0 ≡ held n = subst (λ b. after n + cond b less 0 ≡ held n) f (lets n) in
-      let was : held n ≡ before n + 0 = subst (λ b. held n ≡ before n + cond b 1 0) f (holds n) in
-      let all = counts n in
-      let same = more.others n (λ is. ne o n f (sym is)) in
-      omega arith
-]
+counted-armed before held after o less es fs counts more holds lets few n =
+    elim (cases_Bool (nat_eq o n)) [
+      | inl q ↦ subst (λ x. after x ≡ watchers fs x) (eqb-true o n q)
+          (let on = eq-eqb o o refl in
+          let left : after o + less ≡ held o =
+          subst (λ b. after o + cond b less 0 ≡ held o) on (lets o) in
+          let was : held o ≡ before o + 1 =
+          subst (λ b. held o ≡ before o + cond b 1 0) on (holds o) in
+          let all = counts o in
+          let least = more.least in
+          let most = more.most in
+          omega arith)
+      | inr f ↦
+          let left : after n + 0 ≡ held n =
+          subst (λ b. after n + cond b less 0 ≡ held n) f (lets n) in
+          let was : held n ≡ before n + 0 =
+          subst (λ b. held n ≡ before n + cond b 1 0) f (holds n) in
+          let all = counts n in
+          let same = more.others n (λ is. ne o n f (sym is)) in
+          omega arith
+    ]
 
 -- where just the one holder lets go that came, as many are left as before
-pub let_go-one : (before held after : ℕ → ℕ) (o less : ℕ) → ((n : ℕ) → held n ≡ before n + cond (nat_eq o n) 1 0) →
-    ((n : ℕ) → after n + cond (nat_eq o n) less 0 ≡ held n) → less ≡ 1 → (n : ℕ) → after n ≡ before n
+pub let_go-one : (before held after : ℕ → ℕ) (o less : ℕ) →
+    ((n : ℕ) → held n ≡ before n + cond (nat_eq o n) 1 0) →
+    ((n : ℕ) → after n + cond (nat_eq o n) less 0 ≡ held n) → less ≡ 1 →
+    (n : ℕ) → after n ≡ before n
 let_go-one before held after o less holds lets one n =
-    let left : after n + cond (nat_eq o n) 1 0 ≡ held n = subst (λ m. after n + cond (nat_eq o n) m 0 ≡ held n) one (lets n) in
+    let left : after n + cond (nat_eq o n) 1 0 ≡ held n =
+    subst (λ m. after n + cond (nat_eq o n) m 0 ≡ held n) one (lets n) in
     let was = holds n in
     omega arith
 
 -- a slot is armed on what is held
-pub arms-at : (before after : Clients) (old new : Watches) (held : Objects) (c slot mask number : ℕ) (p : Path) (o : Object) →
-    HoldsObject before.objects held p o number → AreFewer held after.objects → new.renames ≡ old.renames →
+pub arms-at : (before after : Clients) (old new : Watches) (held : Objects)
+    (c slot mask number : ℕ) (p : Path) (o : Object) → HoldsObject before.objects held p o number →
+    AreFewer held after.objects → new.renames ≡ old.renames →
     (r : Result ℕ AllocError) → IfOk r (λ n. n ≡ watch_of old c number) →
     OnOk r (new.instances ≡ at_client c (armed_on slot (Some (New number)) mask) old.instances) →
     IfOk r (ArmsAt before after old new c slot mask p o)
-arms-at before after old new held c slot mask number p o at fewer renames (Ok n) given armed = record {
+arms-at before after old new held c slot mask number p o at fewer same (Ok n) given armed = record {
   held = held;
   number = number;
   holds = at;
   fewer = fewer;
   instances = armed;
-  renames = renames;
+  renames = same;
   given = given;
 }
-arms-at before after old new held c slot mask number p o at fewer renames (Err f) given armed = tt
+arms-at before after old new held c slot mask number p o at fewer same (Err f) given armed = tt
 
 -- what stands at a path has a spot that isn't nowhere
 pub spot-there : (p : Path) (o : Object) (spot : Spot) → IsSpotOf p o spot → spot ≢ Nowhere
@@ -165,15 +176,16 @@ spot-there p (object.Upper key last) spot is = λ no. let z = sym is ∙ no in c
 spot-there p object.Other spot is = absurd is
 
 -- what is held, or not, is so by its spot
-number-by : (objects : Objects) (p : Path) (o : Object) (spot : Spot) (r : Option ℕ) → IsSpotOf p o spot → IsNumberOf objects p o r →
-    IsNumberAt objects spot r
-number-by objects p object.Directory spot r is at = subst (λ x. IsNumberAt objects x r) (sym is) at
-number-by objects p object.Lower spot r is at = subst (λ x. IsNumberAt objects x r) (sym is) at
-number-by objects p (object.Upper key last) spot r is at = subst (λ x. IsNumberAt objects x r) (sym is) at
-number-by objects p object.Other spot r is at = absurd is
+number-by : (t : Objects) (p : Path) (o : Object) (spot : Spot) (r : Option ℕ) → IsSpotOf p o spot →
+    IsNumberOf t p o r → IsNumberAt t spot r
+number-by t p object.Directory spot r is at = subst (λ x. IsNumberAt t x r) (sym is) at
+number-by t p object.Lower spot r is at = subst (λ x. IsNumberAt t x r) (sym is) at
+number-by t p (object.Upper key last) spot r is at = subst (λ x. IsNumberAt t x r) (sym is) at
+number-by t p object.Other spot r is at = absurd is
 
 -- a number that is nobody's nobody watches
-unheld-unwatched : (t : Objects) (es : List Instance) → ((n : ℕ) → is_watched es (On (New n)) ≡ true → IsSome (spot_of t n)) →
+unheld-unwatched : (t : Objects) (es : List Instance) →
+    ((n : ℕ) → is_watched es (On (New n)) ≡ true → IsSome (spot_of t n)) →
     (n : ℕ) → spot_of t n ≡ None → is_watched es (On (New n)) ≡ false
 unheld-unwatched t es known n none = elim (cases_Bool (is_watched es (On (New n)))) [
   | inl on ↦ absurd (false≢true (sym (ap is_some none) ∙ known n on))
@@ -186,7 +198,8 @@ pub judged-by : (clients : Clients) (k : Watches) →
     ((spot : Spot) (m n : ℕ) → spot ≢ Nowhere → spot_of clients.objects m ≡ Some spot →
     spot_of clients.objects n ≡ Some spot → m ≡ n) →
     (c slot n : ℕ) (p : Path) (o : Object) (spot : Spot) (r : Option Errno) → IsSpotOf p o spot →
-    (spot_of clients.objects n ≡ Some spot) ⊎ (IsVacant clients.objects spot × (spot_of clients.objects n ≡ None)) →
+    (spot_of clients.objects n ≡ Some spot) ⊎
+    (IsVacant clients.objects spot × (spot_of clients.objects n ≡ None)) →
     IsArmJudged clients k c slot p o r → refusal_of k c slot (Some n) ≡ r
 judged-by clients k known one c slot n p o spot r stands was is =
     by is.number (number-by clients.objects p o spot is.number stands is.found) is.judged was

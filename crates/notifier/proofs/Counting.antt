@@ -1,5 +1,7 @@
 -- What is held beside the handles, as those are counted who watch.
-use Rattle.std.proofs.Common.{◌≡◌, ◌≢◌, ℕ, ◌+◌, ◌<◌, Bool, true, false, cond, ◌||◌, List, [], ◌∷◌, Option, Some, None, IsSome, refl, sym, subst, ◌∙◌, inl, inr, arith, nat_eq, eqb-true, eq-eqb}
+use Rattle.std.proofs.Common.{◌≡◌, ◌≢◌, ℕ, ◌+◌, ◌<◌, Bool, true, false, cond, ◌||◌, List, [], ◌∷◌}
+use Rattle.std.proofs.Common.{Option, Some, None, IsSome, refl, sym, subst, ◌∙◌, inl, inr, arith}
+use Rattle.std.proofs.Common.{nat_eq, eqb-true, eq-eqb}
 use Rattle.std.specs.Prelude.{◌↔◌}
 use Rattle.std.proofs.lemmas.Bool.{false≢true, cases_Bool}
 use Rattle.std.proofs.lemmas.List.Sums.{sum_by-cons}
@@ -48,19 +50,22 @@ pub ne : (m n : ℕ) → nat_eq m n ≡ false → m ≢ n
 ne m n f same = false≢true (sym f ∙ eq-eqb m n same)
 
 -- what is held beside the handles is counted still, where those let go whose watches ended
-module _ (shows : Rule) (s : Subject) (o ended : ℕ) (before after : ℕ → ℕ) (es fs : List Instance) (hears : AllHear shows (s ∷ []) es fs) where
+module _ (shows : Rule) (s : Subject) (o ended : ℕ) (before after : ℕ → ℕ) (es fs : List Instance)
+    (hears : AllHear shows (s ∷ []) es fs) where
   pub counted-told : ((n : ℕ) → n ≢ o → AreSpared s n es) → ((n : ℕ) → before n ≡ watchers es n) →
       ((n : ℕ) → after n + cond (nat_eq o n) ended 0 ≡ before n) →
       watchers fs o + ended ≡ watchers es o → (n : ℕ) → after n ≡ watchers fs n
   counted-told spared counts lets less n = elim (cases_Bool (nat_eq o n)) [
     | inl q ↦
-        let left : after n + ended ≡ before n = subst (λ b. after n + cond b ended 0 ≡ before n) q (lets n) in
+        let left : after n + ended ≡ before n =
+        subst (λ b. after n + cond b ended 0 ≡ before n) q (lets n) in
         let here : watchers fs n + ended ≡ watchers es n =
         subst (λ x. watchers fs x + ended ≡ watchers es x) (eqb-true o n q) less in
         let all = counts n in
         omega arith
     | inr f ↦
-        let left : after n + 0 ≡ before n = subst (λ b. after n + cond b ended 0 ≡ before n) f (lets n) in
+        let left : after n + 0 ≡ before n =
+        subst (λ b. after n + cond b ended 0 ≡ before n) f (lets n) in
         let same : watchers fs n ≡ watchers es n =
         others-watch shows s o n es fs (spared n (λ is. ne o n f (sym is))) hears in
         let all = counts n in

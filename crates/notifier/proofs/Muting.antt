@@ -1,5 +1,7 @@
 -- What is let go with the watches of a client that goes.
-use Rattle.std.proofs.Common.{◌≡◌, ℕ, zero, suc, ◌+◌, ◌<◌, Bool, true, false, cond, not, ◌||◌, List, [], ◌∷◌, ◌++◌, Some, None, length, map, take, get_or, filter, refl, sym, ap, subst, ◌∙◌, inl, inr, arith, nat_eq, eqb-true, eq-eqb}
+use Rattle.std.proofs.Common.{◌≡◌, ℕ, zero, suc, ◌+◌, ◌<◌, Bool, true, false, cond, not, ◌||◌}
+use Rattle.std.proofs.Common.{List, [], ◌∷◌, ◌++◌, Some, length, map, take, get_or, filter}
+use Rattle.std.proofs.Common.{refl, sym, ap, subst, ◌∙◌, inl, inr, arith, nat_eq, eqb-true, eq-eqb}
 use Rattle.std.specs.List.{AllByRecursion, IsDistinct}
 use Rattle.std.proofs.lemmas.Bool.{false≢true, cases_Bool}
 use Rattle.std.proofs.lemmas.List.Folds.{list_any-append}
@@ -81,21 +83,24 @@ watchers-apart n c (e ∷ es) h = by (nat_eq e.client c) refl (watchers-apart n 
         omega arith
 
 -- the object of one watch more is held by one less
-pub one-less : (first old new : ℕ → ℕ) (ws : List Watch) (w : Watch) (o : ℕ) → w.node ≡ New o → is_on o ws ≡ false →
-    ((n : ℕ) → old n + cond (is_on n ws) 1 0 ≡ first n) → ((n : ℕ) → new n + cond (nat_eq o n) 1 0 ≡ old n) →
+pub one-less : (first old new : ℕ → ℕ) (ws : List Watch) (w : Watch) (o : ℕ) → w.node ≡ New o →
+    is_on o ws ≡ false → ((n : ℕ) → old n + cond (is_on n ws) 1 0 ≡ first n) →
+    ((n : ℕ) → new n + cond (nat_eq o n) 1 0 ≡ old n) →
     (n : ℕ) → new n + cond (is_on n (ws ++ w ∷ [])) 1 0 ≡ first n
 one-less first old new ws w o node off before lets n = elim (cases_Bool (nat_eq n o)) [
   | inl q ↦ subst (λ x. new x + cond (is_on x (ws ++ w ∷ [])) 1 0 ≡ first x) (sym (eqb-true n o q))
       (let now : cond {A = ℕ} (is_on o (ws ++ w ∷ [])) 1 0 ≡ 1 = ap (λ b. cond {A = ℕ} b 1 0) (more o ∙ ap (λ b. b || (nat_eq o o || false)) off ∙ ap (λ b. b || false) (eq-eqb o o refl)) in
       let was : cond {A = ℕ} (is_on o ws) 1 0 ≡ 0 = ap (λ b. cond {A = ℕ} b 1 0) off in
       let here = before o in
-      let left : new o + 1 ≡ old o = subst (λ b. new o + cond b 1 0 ≡ old o) (eq-eqb o o refl) (lets o) in
+      let left : new o + 1 ≡ old o =
+      subst (λ b. new o + cond b 1 0 ≡ old o) (eq-eqb o o refl) (lets o) in
       omega arith)
   | inr f ↦
       let same : cond {A = ℕ} (is_on n (ws ++ w ∷ [])) 1 0 ≡ cond (is_on n ws) 1 0 =
       ap (λ b. cond {A = ℕ} b 1 0) (more n ∙ ap (λ b. is_on n ws || (b || false)) f ∙ no-more (is_on n ws)) in
       let here = before n in
-      let left : new n + 0 ≡ old n = subst (λ b. new n + cond b 1 0 ≡ old n) (nat_ne o n (λ is. ne n o f (sym is))) (lets n) in
+      let left : new n + 0 ≡ old n =
+      subst (λ b. new n + cond b 1 0 ≡ old n) (nat_ne o n (λ is. ne n o f (sym is))) (lets n) in
       omega arith
 ]
   where

@@ -1,15 +1,17 @@
 -- What is told one part after another.
-use Rattle.std.proofs.Common.{◌≡◌, ℕ, suc, ◌+◌, List, [], ◌++◌, Option, refl, sym, ap, subst, subst₂, ◌∙◌}
+use Rattle.std.proofs.Common.{◌≡◌, ℕ, suc, ◌+◌, List, [], ◌++◌, Option}
+use Rattle.std.proofs.Common.{refl, sym, ap, subst, subst₂, ◌∙◌}
 use Rattle.std.specs.BTreeMap.{BTreeMap, get}
 use Rattle.std.specs.Option.{option_and_then}
 use Rattle.std.specs.Ordering.{nat_cmp}
 use Rattle.ov_base.specs.Cookies.{cookie_of}
-use Rattle.plain_model.specs.Watching.{ISDIR, MOVED_FROM, MOVED_TO, MOVE_SELF, AllHear, Rule, Subject}
+use Rattle.plain_model.specs.Watching.{ISDIR, MOVED_FROM, MOVED_TO, MOVE_SELF}
+use Rattle.plain_model.specs.Watching.{AllHear, Rule, Subject}
 use Rattle.plain_model.proofs.Watching.{AllHear-none}
 use Rattle.open_handles.specs.declared.clients.Clients.{Clients}
 use Rattle.open_handles.specs.declared.descriptors.Descriptors.{Descriptors}
 use Rattle.open_handles.specs.declared.way.Way.{Way}
-use Rattle.open_handles.specs.Attaching.{KeepsClients, KeepsPlaces}
+use Rattle.open_handles.specs.Attaching.{KeepsClients, KeepsPlaces, LetsGo}
 use Rattle.open_handles.specs.Descriptors.{opened}
 use Rattle.open_handles.specs.Listings.{directory_in}
 use Rattle.notice_laws.specs.Moves.{of_move, of_replaced}
@@ -27,6 +29,10 @@ ends-none clients = record {
   fewer = λ n spot is. is;
   places = λ c d o l there at. at;
 }
+
+-- what is let go ends
+pub ends-of : (a b : Clients) → LetsGo a b → LetsEnd a b
+ends-of a b lets = record { clients = lets.clients; fewer = lets.fewer; places = lets.places }
 
 -- what clients keep in two steps they keep
 pub keeps-then : (a b c : Clients) → KeepsClients a b → KeepsClients b c → KeepsClients a c

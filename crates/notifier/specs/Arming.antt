@@ -1,6 +1,6 @@
 -- What it means that a client's slot is armed on what stands at a path, by the number under which
 -- that is held, and when it is refused, by the number that it has before.
-use Rattle.std.specs.Prelude.{◌≡◌, ℕ, Option, None, Some}
+use Rattle.std.specs.Prelude.{◌≡◌, ℕ, Option, Some}
 use Rattle.ov_base.specs.declared.errno.Errno.{Errno}
 use Rattle.ov_base.specs.declared.node_id.NodeId.TheVariants.{New}
 use Rattle.plain_model.specs.Layers.{Path}
@@ -9,12 +9,10 @@ use Rattle.plain_model.specs.Changes.{armed_on, at_client}
 use Rattle.plain_model.specs.Replies.{number_of, next_number}
 use Rattle.object_table.specs.Objects.{Objects, Spot, AreFewer, Holds}
 use Rattle.open_handles.specs.declared.clients.Clients.{Clients}
-use Rattle.open_handles.specs.Attaching.{KeepsClients, KeepsPlaces}
 use Rattle.watch_table.specs.Listening.{number_refusal}
 use Rattle.notice_laws.specs.declared.object.Object.{Object}
 use Rattle.notice_laws.specs.Objects.{IsNumberOf}
 use Rattle.notice_laws.specs.Steps.{IsSpotOf}
-use Rattle.notifier.specs.Notifying.{AreCounted}
 use Rattle.notifier.specs.Watches.{Watches}
 
 -- the refusal of an arm through a client's slot of the object of a number, or of one that isn't

@@ -11,8 +11,12 @@ use Rattle.notifier.specs.Watches.{Watches}
 -- WHAT THE LAWS OF NOTICES SEE: the objects that the mount holds, what each handle is on, and the
 -- watches
 abbrev pub notified : Clients → Watches → Notified
-notified clients k = record { objects = clients.objects; handles = tables_of clients; instances =
-    k.instances; renames = k.renames }
+notified clients k = record {
+  objects = clients.objects;
+  handles = tables_of clients;
+  instances = k.instances;
+  renames = k.renames;
+}
 
 -- how many clients watch the object of a number
 abbrev pub watchers : List Instance → ℕ → ℕ

@@ -1,5 +1,5 @@
 // What renames tell.
-ghost use Rattle.std.specs.Prelude.{◌≡◌, ◌≢◌, ◌+◌, ◌<◌, ◌^◌, suc, true, OnErr, OnOk};
+ghost use Rattle.std.specs.Prelude.{◌≡◌, ◌≢◌, ◌+◌, ◌<◌, ◌^◌, suc, true, OnOk};
 ghost use Rattle.ov_base.specs.Cookies as cookies;
 ghost use Rattle.plain_model.specs.Watching.{MOVES, is_one_of};
 ghost use Rattle.notice_laws.specs.Moves.{of_move, of_replaced};

@@ -27,7 +27,8 @@ impl<F: Callback, R: Rule> Notifier<F, R> {
     // Tells that an open emptied its file, where it did.
     fn tell_emptied(&mut self, clients: &mut Clients, hold: &Hold, is_emptied: bool)
         requires counted { AreCounted clients.old self.old }
-        ensures told { IsTold R.shows clients.old clients.new self.old self.new (cond is_emptied (of_both hold.now.way (Some hold.now.object) events.MODIFY) []) }
+        ensures told { IsTold R.shows clients.old clients.new self.old self.new (cond
+            is_emptied (of_both hold.now.way (Some hold.now.object) events.MODIFY) []) }
         ensures renames { self.new.renames ≡ self.old.renames }
     {
         if is_emptied {

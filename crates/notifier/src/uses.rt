@@ -1,7 +1,6 @@
 // What uses of open handles tell.
 ghost use Rattle.std.specs.Prelude.{◌≡◌, ◌++◌, Some};
 ghost use Rattle.open_handles.specs.Attaching.{opened_by};
-ghost use Rattle.open_handles.specs.Handles.{tracked_of};
 ghost use Rattle.open_handles.specs.declared.handle.Handle.{Handle};
 ghost use Rattle.notice_laws.specs.Telling.{of_both, of_end};
 ghost use Rattle.notifier.specs.Notifying.{AreCounted, IsOther, IsTold};
@@ -19,7 +18,7 @@ impl<F: Callback, R: Rule> Notifier<F, R> {
         requires open { (h : Handle) × (opened_by clients.old client descriptor ≡ Some h) }
         ensures told { (h : Handle) → opened_by clients.old client descriptor ≡ Some h →
             IsTold R.shows clients.old clients.new self.old self.new (of_both h.way (Some
-                h.object) bits) }
+            h.object) bits) }
         ensures renames { self.new.renames ≡ self.old.renames }
     {
         if let Some(handle) = clients.opened(client, descriptor) {

@@ -1,8 +1,7 @@
 // Watches that are armed and taken away.
-ghost use Rattle.std.specs.Prelude.{◌≡◌, ◌≢◌, ◌<◌, ◌^◌, ◌∷◌, [], ℕ, None, Some, IsSome, IfOk, MatchResult, OnErr, true};
+ghost use Rattle.std.specs.Prelude.{◌≡◌, ◌≢◌, ◌<◌, ◌^◌, ◌∷◌, [], None, Some, IsSome, IfOk, MatchResult, OnErr, true};
 ghost use Rattle.std.specs.List.{list_any};
 ghost use Rattle.object_table.specs.Objects.{Spot};
-ghost use Rattle.plain_model.specs.Layers.{Path as Names};
 ghost use Rattle.plain_model.specs.Machine.{hooks_of, instance_of, watches_of};
 ghost use Rattle.plain_model.specs.Watching as plain;
 ghost use Rattle.plain_model.specs.Watching.{is_numbered};
@@ -108,8 +107,12 @@ impl<F: Callback, R: Rule> Notifier<F, R> {
         requires there { list_any (is_numbered watch) (watches_of (instance_of self.old.instances client)) ≡ true }
         requires counted { AreCounted clients.old self.old }
         ensures told { IsTold R.shows clients.old clients.new self.old self.new
-            (record { aim = plain.Only client watch; bits = plain.IGNORED; cookie = 0; name = None
-                } ∷ []) }
+            (record {
+              aim = plain.Only client watch;
+              bits = plain.IGNORED;
+              cookie = 0;
+              name = None;
+            } ∷ []) }
         ensures renames { self.new.renames ≡ self.old.renames }
     {
         self.watches.lawful();

@@ -6,5 +6,5 @@ use Rattle.notifier.proofs.clients.release_each.Given as goal
 
 abbrev pub invariant-loop-watch : goal.invariant-loop-watch
 invariant-loop-watch l =
-    ((n : ℕ) → beside l.clients n + cond (is_on n (take l.watch-index l.ended)) 1 0 ≡ beside l.fn.clients n)
-    × LetsEnd l.fn.clients l.clients
+    ((n : ℕ) → beside l.clients n + cond (is_on n (take l.watch-index l.ended)) 1 0 ≡
+    beside l.fn.clients n) × LetsEnd l.fn.clients l.clients

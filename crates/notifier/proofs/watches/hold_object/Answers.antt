@@ -15,11 +15,13 @@ returns-in-Upper-clause-holds c =
 pub returns-in-Directory-clause-holds : goal.returns-in-Directory-clause-holds
 returns-in-Directory-clause-holds c =
     let p = c.args.path.now in
-    held-there c.args.clients.now c.hold_path.new.self p c.args.object (At p) c.hold_path.result
-    (subst (λ (o : Object). IsSpotOf p o (At p)) (sym c.in-Directory.is) refl) c.hold_path.ensures.holds
+    let call = c.hold_path in
+    held-there c.args.clients.now call.new.self p c.args.object (At p) call.result
+    (subst (λ (o : Object). IsSpotOf p o (At p)) (sym c.in-Directory.is) refl) call.ensures.holds
 
 pub returns-in-Lower-clause-holds : goal.returns-in-Lower-clause-holds
 returns-in-Lower-clause-holds c =
     let p = c.args.path.now in
-    held-there c.args.clients.now c.hold_path-in-Lower.new.self p c.args.object (At p) c.hold_path-in-Lower.result
-    (subst (λ (o : Object). IsSpotOf p o (At p)) (sym c.in-Lower.is) refl) c.hold_path-in-Lower.ensures.holds
+    let call = c.hold_path-in-Lower in
+    held-there c.args.clients.now call.new.self p c.args.object (At p) call.result
+    (subst (λ (o : Object). IsSpotOf p o (At p)) (sym c.in-Lower.is) refl) call.ensures.holds

@@ -1,4 +1,4 @@
-use Rattle.std.proofs.Common.{◌≡◌, ◌+◌, ℕ, [], ◌∷◌, None, refl, sym, subst, arith}
+use Rattle.std.proofs.Common.{◌≡◌, [], ◌∷◌, None, refl, sym, subst, arith}
 use Rattle.std.proofs.lemmas.Int.{to_z-of_z}
 use Rattle.plain_model.specs.Watching.{AllHear, IGNORED, Only, Subject}
 use Rattle.open_handles.specs.Attaching.{beside}
@@ -7,6 +7,7 @@ use Rattle.notifier.specs.Notifying.{AreCounted, watchers}
 use Rattle.notifier.specs.Watches.{Watches}
 use Rattle.notifier.proofs.Hearing.{fewer-watch, one-spared}
 use Rattle.notifier.proofs.Counting.{counted-told}
+use Rattle.notifier.proofs.Told.{ends-of}
 use Rattle.notifier.proofs.kept.Notifier.disarmed.Goals as goal
 
 pub overflow_sub-ended : goal.overflow_sub-ended
@@ -20,7 +21,7 @@ overflow_sub-ended g c =
 pub release-requires : goal.release-requires
 release-requires g c =
     let o = c.in-Some.object in
-    let counts = subst (λ (k : Watches). AreCounted c.args.clients.now k) (sym c.self.view_is) c.requires.counted in
+    let counts = subst (AreCounted c.args.clients.now) (sym c.self.view_is) c.requires.counted in
     let all : beside c.args.clients.now o ≡ watchers c.self.inside.watches o = counts o in
     omega (arith, c.watchers.ensures, c.watchers-before.ensures)
 
@@ -37,12 +38,12 @@ returns-in-Some-clause-told g c =
     let one = simp (to_z-of_z, fits) at c.in-Some.ensures in
     let heard = simp (to_z-of_z, fits) at c.fire.ensures in
     let less = fewer-watch shows s o es fs heard in
-    let lets = c.release.ensures.lets in
-    let counts = subst (λ (k : Watches). AreCounted before k) (sym c.self.view_is) c.requires.counted in
+    let counts = subst (AreCounted before) (sym c.self.view_is) c.requires.counted in
     record {
       hears = subst (λ (k : Watches). AllHear shows (s ∷ []) k.instances fs) c.self.view_is heard;
-      ends = record { clients = lets.clients; fewer = lets.fewer; places = lets.places };
+      ends = ends-of before after c.release.ensures.lets;
       counted = counted-told shows s o _ (beside before) (beside after) es fs heard
-          (λ n ne. one-spared shows s o c.args.client c.args.watch refl n ne es es one (each-own es c.lawful.ensures)) counts
-          c.release.ensures.beside (omega (arith, less, c.watchers.ensures, c.watchers-before.ensures));
+          (λ n ne. one-spared shows s o c.args.client c.args.watch refl n ne es es one
+          (each-own es c.lawful.ensures)) counts c.release.ensures.beside
+          (omega (arith, less, c.watchers.ensures, c.watchers-before.ensures));
     }

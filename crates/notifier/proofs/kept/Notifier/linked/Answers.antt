@@ -7,4 +7,5 @@ pub returns-clause-told : goal.returns-clause-told
 returns-clause-told g c =
     told-append g.R.Rule.shows (in_way c.args.way.now CREATE 0) (of_number c.args.number ATTRIB)
     c.args.clients.now c.tell_way.new.clients c.tell_number.new.clients
-    c.args.self.now c.tell_way.new.self c.tell_number.new.self c.tell_way.ensures.told c.tell_number.ensures.told
+    c.args.self.now c.tell_way.new.self c.tell_number.new.self
+    c.tell_way.ensures.told c.tell_number.ensures.told

@@ -7,7 +7,8 @@ use Rattle.notifier.proofs.kept.Notifier.opened.Goals as goal
 
 pub tell_both-requires-clause-bits : goal.tell_both-requires-clause-bits
 tell_both-requires-clause-bits g c =
-    subst IsOther (sym c.marks-bits.ensures) (marked-other c.args.object OPEN (refl, refl) (refl, refl))
+    subst IsOther (sym c.marks-bits.ensures)
+    (marked-other c.args.object OPEN (refl, refl) (refl, refl))
 
 pub returns-clause-told : goal.returns-clause-told
 returns-clause-told g c =
@@ -16,7 +17,10 @@ returns-clause-told g c =
     let both = λ (bits : ℕ). of_both hold.way (Some hold.object) bits in
     let emptied = c.tell_emptied.new.clients in
     let after = c.tell_both.new.clients in
-    let opens = subst (λ (bits : ℕ). IsTold shows emptied after c.tell_emptied.new.self c.tell_both.new.self (both bits))
+    let mid = c.tell_emptied.new.self in
+    let new = c.tell_both.new.self in
+    let first = cond c.args.is_emptied (both MODIFY) [] in
+    let opens = subst (λ (bits : ℕ). IsTold shows emptied after mid new (both bits))
     c.marks-bits.ensures c.tell_both.ensures.told in
-    told-append shows (cond c.args.is_emptied (both MODIFY) []) (both (marks c.args.object OPEN)) c.args.clients.now emptied after
-    c.args.self.now c.tell_emptied.new.self c.tell_both.new.self c.tell_emptied.ensures.told opens
+    told-append shows first (both (marks c.args.object OPEN)) c.args.clients.now emptied after
+    c.args.self.now mid new c.tell_emptied.ensures.told opens

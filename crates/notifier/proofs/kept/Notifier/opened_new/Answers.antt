@@ -8,4 +8,5 @@ returns-clause-told g c =
     let way = c.args.hold.now.way in
     told-append g.R.Rule.shows (in_way way CREATE 0) (in_way way OPEN 0)
     c.args.clients.now c.tell_way.new.clients c.tell_way-2.new.clients
-    c.args.self.now c.tell_way.new.self c.tell_way-2.new.self c.tell_way.ensures.told c.tell_way-2.ensures.told
+    c.args.self.now c.tell_way.new.self c.tell_way-2.new.self
+    c.tell_way.ensures.told c.tell_way-2.ensures.told

@@ -11,5 +11,6 @@ returns-else-is_emptied-clause-told g c =
     let hold = c.args.hold.now in
     let clients = c.args.clients.now in
     let self = c.args.self.now in
-    subst (λ b. IsTold shows clients clients self self (cond b (of_both hold.way (Some hold.object) MODIFY) []))
-    (sym c.if-is_emptied.false) (told-none shows clients self c.requires.counted)
+    let both = of_both hold.way (Some hold.object) MODIFY in
+    subst (λ b. IsTold shows clients clients self self (cond b both [])) (sym c.if-is_emptied.false)
+    (told-none shows clients self c.requires.counted)

@@ -12,7 +12,9 @@ returns-clause-told g c =
     let by_number = of_number known.number ATTRIB in
     let clients = c.args.clients.now in
     let self = c.args.self.now in
-    let both = told-append shows by_way by_number clients c.tell_way.new.clients c.tell_number.new.clients
-    self c.tell_way.new.self c.tell_number.new.self c.tell_way.ensures.told c.tell_number.ensures.told in
-    told-append shows (by_way ++ by_number) (of_end c.args.ended) clients c.tell_number.new.clients c.tell_end.new.clients
-    self c.tell_number.new.self c.tell_end.new.self both c.tell_end.ensures.told
+    let mid = c.tell_number.new.clients in
+    let two = told-append shows by_way by_number clients c.tell_way.new.clients mid
+    self c.tell_way.new.self c.tell_number.new.self
+    c.tell_way.ensures.told c.tell_number.ensures.told in
+    told-append shows (by_way ++ by_number) (of_end c.args.ended) clients mid c.tell_end.new.clients
+    self c.tell_number.new.self c.tell_end.new.self two c.tell_end.ensures.told
