@@ -3,7 +3,7 @@ use Rattle.std.proofs.Common.{arith, ◌≡◌, ◌≢◌, ◌⊎◌, ℕ, zero,
 use Rattle.std.proofs.lemmas.List.Sums.{sum_by-cons}
 use Rattle.plain_model.specs.Layers.{Path}
 use Rattle.object_table.specs.Objects as spots
-use Rattle.object_table.specs.Objects.{Objects, Spot, Nowhere, holders_of, room, spot_of, AreFewer, IsVacant}
+use Rattle.object_table.specs.Objects.{Objects, Spot, Nowhere, holders_of, room, spot_of, AreFewer, IsVacant, SetsSpot}
 use Rattle.open_handles.specs.declared.clients.Clients.{Clients}
 use Rattle.open_handles.specs.declared.handle.Handle as handles
 use Rattle.open_handles.specs.declared.way.Way.{Way}
@@ -344,3 +344,70 @@ unpinned-fewer old mid new spot k more fewer attached same known now counted lat
         let uses_same : uses_in new.attached n ≡ uses_in old.attached n = ap (λ z. uses_in z n) attached in
         let unheld_now : holders_of new.objects n ≡ 0 = omega (arith, known.beside n, now.beside n, same n, unheld, uses_same) in
         let no : None ≡ Some was = sym ((later n).1 unheld_now) ∙ at in absurd (cc)
+
+-- no two objects are at one spot
+abbrev pub AreOneThere : Objects → Type 0
+AreOneThere objects = (spot : Spot) (m n : ℕ) → spot ≢ Nowhere → spot_of objects m ≡ Some spot → spot_of objects n ≡ Some spot → m ≡ n
+
+-- what stands at a path is at its spot, by its number
+spot-number : (objects : Objects) (p : Path) (o : Object) (n : ℕ) → IsNumberOf objects p o (Some n) → (spot : Spot) × (spot_of objects n ≡ Some spot) × IsSpotOf p o spot
+spot-number objects p object.Directory n is = (spots.At p, is, refl)
+spot-number objects p object.Lower n is = (spots.At p, is, refl)
+spot-number objects p (object.Upper k last) n is = (spots.Upper k, is, refl)
+spot-number objects p object.Other n is = let no : Some n ≡ None = is in absurd (cc)
+
+-- and nothing else is there
+one-number : (objects : Objects) → AreOneThere objects → (p : Path) (o : Object) (n m : ℕ) (spot : Spot) → IsNumberOf objects p o (Some n) → IsSpotOf p o spot → spot_of objects m ≡ Some spot → m ≡ n
+one-number objects one p object.Directory n m spot is there at = one (spots.At p) m n (λ e. cc) (at ∙ ap Some there) is
+one-number objects one p object.Lower n m spot is there at = one (spots.At p) m n (λ e. cc) (at ∙ ap Some there) is
+one-number objects one p (object.Upper k last) n m spot is there at = one (spots.Upper k) m n (λ e. cc) (at ∙ ap Some there) is
+one-number objects one p object.Other n m spot is there at = absurd there
+
+-- where what stands at a path has no number nothing is there
+pub none-number : (objects : Objects) (p : Path) (o : Object) → IsNumberOf objects p o None → (n : ℕ) (spot : Spot) → spot_of objects n ≡ Some spot → IsSpotOf p o spot → ⊥
+none-number objects p object.Directory none n spot at there = none n (at ∙ ap Some there)
+none-number objects p object.Lower none n spot at there = none n (at ∙ ap Some there)
+none-number objects p (object.Upper k last) none n spot at there = none n (at ∙ ap Some there)
+none-number objects p object.Other none n spot at there = there
+
+-- what loses its last name is nowhere then, and all else where it was
+pub sets-loses : (old new : Objects) → AreOneThere old → (p : Path) (o : Object) (n count : ℕ) → is_last_name o ≡ true → IsNumberOf old p o (Some n) → SetsSpot old new n (Some Nowhere) count → Becomes (Loses p o) old new
+sets-loses old new one p o n count last is sets m spot at = by (cases_eq m n)
+  where
+    stood : (was : Spot) × (spot_of old n ≡ Some was) × IsSpotOf p o was
+    stood = spot-number old p o n is
+
+    by : (m ≡ n) ⊎ (m ≡ n → ⊥) → (was : Spot) × (spot_of old m ≡ Some was) × Loses p o was spot
+    by (inl e) =
+        let gone : Some spot ≡ Some Nowhere = sym at ∙ ap (spot_of new) e ∙ sets.here in
+        let nowhere : spot ≡ Nowhere = cc in
+        (stood.0, ap (spot_of old) e ∙ stood.1, inl (last, stood.2, nowhere))
+    by (inr off) =
+        let was : spot_of old m ≡ Some spot = sym (sets.other_spots m off) ∙ at in
+        (spot, was, inr (λ l there. off (one-number old one p o n m spot is there was), refl))
+
+-- where nothing that is held loses its last name, all is where it was
+pub stays-loses : (objects : Objects) (p : Path) (o : Object) → ((n : ℕ) (spot : Spot) → is_last_name o ≡ true → spot_of objects n ≡ Some spot → IsSpotOf p o spot → ⊥) → Becomes (Loses p o) objects objects
+stays-loses objects p o none m spot at = (spot, at, inr (λ l there. none m spot l at there, refl))
+
+-- what is no file of a lower layer leaves all where it was
+pub rests-lifts : (objects : Objects) (p : Path) (o : Object) (key : ℕ) → (o ≡ object.Lower → ⊥) → Becomes (Lifts p o key) objects objects
+rests-lifts objects p object.Lower key other m spot at = absurd (other refl)
+rests-lifts objects p object.Directory key other m spot at = (spot, at, refl)
+rests-lifts objects p (object.Upper k last) key other m spot at = (spot, at, refl)
+rests-lifts objects p object.Other key other m spot at = (spot, at, refl)
+
+-- a file of a lower layer may come into the upper once what it replaces has lost its name
+module _ (old mid : Objects) (p q : Path) (o e : Object) (low : o ≡ object.Lower) (apart : p ≢ q) (loses : Becomes (Loses q e) old mid) where
+  pub number-led : (r : Option ℕ) → ((n : ℕ) → IsSome (spot_of old n) → IsSome (spot_of mid n)) → IsNumberOf old p o r → IsNumberOf mid p o r
+  number-led r there is =
+      subst (λ z. IsNumberOf mid p z r) (sym low) (number-lost old mid p q e r apart loses there (subst (λ z. IsNumberOf old p z r) low is))
+
+  pub may-led : (key : ℕ) → room old ≤ room mid → HasRoom old p o → IsFreeFor old p q o e key → MayLift mid p o key
+  may-led key more has free =
+      subst (λ z. MayLift mid p z key) (sym low)
+      (may-lift-lost old mid p q e key loses more (subst (HasRoom old p) low has) (subst (λ z. IsFreeFor old p q z e key) low free))
+
+-- a path whose directory is held more often may be held in
+pub may-held : (old new : Objects) (path : Path) (name : List ℕ) (p : Path) (k : ℕ) → path ≡ name ∷ p → HoldsMore old new (spots.At p) k → MayHold old new path
+may-held old new path name p k is more = subst (MayHold old new) (sym is) (inr (k, more))

@@ -1,19 +1,20 @@
 -- What a removal leaves once what lost its last name is freed.
 use Rattle.std.proofs.Common.{◌≡◌, ◌≢◌, ℕ, Bool, true, false, cond, Option, None, List, ◌∷◌, ◌++◌, Some, refl, sym, ap, ◌∙◌, subst, is_some, rules, arith}
 use Rattle.merged_lookup.specs.Merged.{upper_of}
-use Rattle.mount_calls.proofs.Words.{after, AreLayers, Call, false≢true, Folder, Inode, inode_of, is_directory, layer_of, Layers, layers_of, lowers_of, option_and_then, option_map, Path, Removes, shows, State, StaysLayers, StaysMount}
+use Rattle.mount_calls.proofs.Words.{after, AreLayers, Call, false≢true, Folder, Inode, inode_of, is_directory, IsLive, layer_of, Layers, layers_of, lowers_of, NodeId, option_and_then, option_map, Path, Removes, shows, State, StaysLayers, StaysMount, Tree}
 use Rattle.plain_model.specs.Layers.{Directory, Named, Object, Whiteout, below, cuts, held, over, unless}
 use Rattle.plain_model.specs.Tree.{merged}
 use Rattle.mount_laws.specs.Removals.{Loses, ShowsNoName}
 use Rattle.slab.specs.Slab.{get}
 use Rattle.layer_tree.specs.Table.{entry_in, object_key}
-use Rattle.layer_tree.specs.Tree.{table_of, seen, inode_at, child, IsUnmarked, IsTree, SameObjects}
+use Rattle.layer_tree.specs.Tree.{table_of, seen, inode_at, child, Frees, IsUnmarked, IsTree, SameObjects}
 use Rattle.layer_tree.specs.Tree.{Tree as LayerTree}
 use Rattle.layer_tree.specs.Nameless.{IsNameless}
 use Rattle.layer_tree.specs.declared.node.Inode.{Inode as StoredInode}
 use Rattle.layer_tree.specs.declared.node.Node.TheVariants as node
 use Rattle.copy_up.specs.Showing.{ShowsSame, KeepsPath, KeepsOthers}
 use Rattle.copy_up.proofs.Keeping.{lowers-same}
+use Rattle.copy_up.proofs.Raising.{inode-raised}
 use Rattle.make_remove.specs.Removing.{has_more, last_named, TakesName}
 use Rattle.mount_laws.specs.Renaming.{Renames}
 use Rattle.ov_base.specs.declared.call.CallOf.TheVariants as call
@@ -121,3 +122,15 @@ released-named l p released k file back is = by (held (layer_of l.upper) p) refl
 pub not-some : (number : Option ℕ) → is_some number ≡ false → number ≡ None
 not-some None off = refl
 not-some (Some n) off = absurd (false≢true (sym off))
+
+-- a file that isn't freed stays live
+pub freed-live : (old new : Layers) (key : ℕ) → Frees old.upper new.upper key → SameObjects (layer_of old.upper) (layer_of new.upper) → new.lowers ≡ old.lowers → (t : Tree) (d : NodeId) (k : ℕ) → k ≢ key → IsLive (upper_of old) t d k → IsLive (upper_of new) t d k
+freed-live old new key frees objects low t d k off l = record {
+  bytes = l.bytes;
+  attributes = l.attributes;
+  links = l.links;
+  mark = l.mark;
+  inode = inode-raised old new low k (frees.inodes k off) ∙ l.inode;
+  node = l.node;
+  paths = λ q. (λ led. objects q ∙ (l.paths q).0 led, λ names. (l.paths q).1 (sym (objects q) ∙ names));
+}

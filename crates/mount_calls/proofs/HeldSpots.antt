@@ -3,20 +3,19 @@ use Rattle.std.proofs.Common.{arith, ◌≡◌, ◌≢◌, ℕ, ◌≤◌, true,
 use Rattle.std.specs.BTreeMap.{get}
 use Rattle.plain_model.specs.Layers.{Path, is_directory, shows}
 use Rattle.object_table.specs.Objects as spots
-use Rattle.object_table.specs.Objects.{Objects, Spot, Nowhere, spot_of, AreFewer, IsBare, IsVacant, SameSpots, SetsSpot}
+use Rattle.object_table.specs.Objects.{Spot, spot_of, SetsSpot}
 use Rattle.object_table.specs.Opened as places
 use Rattle.object_table.specs.declared.dentry.Unlisted.TheVariants as unlisted
 use Rattle.object_table.proofs.Spots.{location-spot, opened-key, opened-path}
 use Rattle.notice_laws.specs.declared.object.Object.{Object}
 use Rattle.notice_laws.specs.declared.object.Object.TheVariants as object
 use Rattle.notice_laws.specs.Objects.{IsNumberOf}
-use Rattle.notice_laws.specs.Steps.{is_last_name, IsSpotOf, Lifts, Loses}
 use Rattle.open_handles.specs.declared.clients.Clients.{Clients}
 use Rattle.open_handles.specs.declared.handle.Handle as handles
 use Rattle.open_handles.specs.Attaching.{directory_by, opened_by, HoldsNoMore, KeepsClients, KeepsPlaces}
 use Rattle.mount_calls.proofs.Words.{cases_eq, Dentries, directory_in, false≢true, Handle, nat_cmp, node_at, OpenDirectory, State}
 use Rattle.mount_calls.specs.declared.mount.Mount.{Mount}
-use Rattle.mount_calls.specs.Numbers.{Becomes, ShowsNoFolder}
+use Rattle.mount_calls.specs.Numbers.{ShowsNoFolder}
 use Rattle.mount_calls.specs.States.{AreTables, IsHandle, IsOpenAs, IsStateOf, Stands, StaysState}
 use Rattle.mount_calls.proofs.Carrying.{open-on}
 use Rattle.mount_calls.proofs.Changing.{one-attached, tables-attached}
@@ -95,68 +94,3 @@ file-number m p o n file is s st b fd d h leads on e = by o is
     by object.Lower at = at-path at
     by (object.Upper k last) at = at-key k at
     by object.Other none = let no : Some n ≡ None = none in absurd (cc)
-
--- no two objects are at one spot
-abbrev pub AreOneThere : Objects → Type 0
-AreOneThere objects = (spot : Spot) (m n : ℕ) → spot ≢ Nowhere → spot_of objects m ≡ Some spot → spot_of objects n ≡ Some spot → m ≡ n
-
--- what stands at a path is at its spot, by its number
-spot-number : (objects : Objects) (p : Path) (o : Object) (n : ℕ) → IsNumberOf objects p o (Some n) → (spot : Spot) × (spot_of objects n ≡ Some spot) × IsSpotOf p o spot
-spot-number objects p object.Directory n is = (spots.At p, is, refl)
-spot-number objects p object.Lower n is = (spots.At p, is, refl)
-spot-number objects p (object.Upper k last) n is = (spots.Upper k, is, refl)
-spot-number objects p object.Other n is = let no : Some n ≡ None = is in absurd (cc)
-
--- and nothing else is there
-one-number : (objects : Objects) → AreOneThere objects → (p : Path) (o : Object) (n m : ℕ) (spot : Spot) → IsNumberOf objects p o (Some n) → IsSpotOf p o spot → spot_of objects m ≡ Some spot → m ≡ n
-one-number objects one p object.Directory n m spot is there at = one (spots.At p) m n (λ e. cc) (at ∙ ap Some there) is
-one-number objects one p object.Lower n m spot is there at = one (spots.At p) m n (λ e. cc) (at ∙ ap Some there) is
-one-number objects one p (object.Upper k last) n m spot is there at = one (spots.Upper k) m n (λ e. cc) (at ∙ ap Some there) is
-one-number objects one p object.Other n m spot is there at = absurd there
-
--- where what stands at a path has no number nothing is there
-pub none-number : (objects : Objects) (p : Path) (o : Object) → IsNumberOf objects p o None → (n : ℕ) (spot : Spot) → spot_of objects n ≡ Some spot → IsSpotOf p o spot → ⊥
-none-number objects p object.Directory none n spot at there = none n (at ∙ ap Some there)
-none-number objects p object.Lower none n spot at there = none n (at ∙ ap Some there)
-none-number objects p (object.Upper k last) none n spot at there = none n (at ∙ ap Some there)
-none-number objects p object.Other none n spot at there = there
-
--- what loses its last name is nowhere then, and all else where it was
-pub sets-loses : (old new : Objects) → AreOneThere old → (p : Path) (o : Object) (n count : ℕ) → is_last_name o ≡ true → IsNumberOf old p o (Some n) → SetsSpot old new n (Some Nowhere) count → Becomes (Loses p o) old new
-sets-loses old new one p o n count last is sets m spot at = by (cases_eq m n)
-  where
-    stood : (was : Spot) × (spot_of old n ≡ Some was) × IsSpotOf p o was
-    stood = spot-number old p o n is
-
-    by : (m ≡ n) ⊎ (m ≡ n → ⊥) → (was : Spot) × (spot_of old m ≡ Some was) × Loses p o was spot
-    by (inl e) =
-        let gone : Some spot ≡ Some Nowhere = sym at ∙ ap (spot_of new) e ∙ sets.here in
-        let nowhere : spot ≡ Nowhere = cc in
-        (stood.0, ap (spot_of old) e ∙ stood.1, inl (last, stood.2, nowhere))
-    by (inr off) =
-        let was : spot_of old m ≡ Some spot = sym (sets.other_spots m off) ∙ at in
-        (spot, was, inr (λ l there. off (one-number old one p o n m spot is there was), refl))
-
--- where nothing that is held loses its last name, all is where it was
-pub stays-loses : (objects : Objects) (p : Path) (o : Object) → ((n : ℕ) (spot : Spot) → is_last_name o ≡ true → spot_of objects n ≡ Some spot → IsSpotOf p o spot → ⊥) → Becomes (Loses p o) objects objects
-stays-loses objects p o none m spot at = (spot, at, inr (λ l there. none m spot l at there, refl))
-
--- a file of a lower layer that comes into the upper is under its key then, and all else where it was
-pub sets-lifts : (old new : Objects) → AreOneThere old → (p : Path) (n count key : ℕ) → spot_of old n ≡ Some (spots.At p) → SetsSpot old new n (Some (spots.Upper key)) count → Becomes (Lifts p object.Lower key) old new
-sets-lifts old new one p n count key is sets m spot at = by (cases_eq m n)
-  where
-    by : (m ≡ n) ⊎ (m ≡ n → ⊥) → (was : Spot) × (spot_of old m ≡ Some was) × Lifts p object.Lower key was spot
-    by (inl e) =
-        let came : Some spot ≡ Some (spots.Upper key) = sym at ∙ ap (spot_of new) e ∙ sets.here in
-        let there : spot ≡ spots.Upper key = cc in
-        (spots.At p, ap (spot_of old) e ∙ is, inl (refl, there))
-    by (inr off) =
-        let was : spot_of old m ≡ Some spot = sym (sets.other_spots m off) ∙ at in
-        (spot, was, inr (λ here. off (one (spots.At p) m n (λ no. cc) (was ∙ ap Some here) is), refl))
-
--- where nothing that is held comes into the upper, all is where it was
-pub stays-lifts : (objects : Objects) (p : Path) (o : Object) (key : ℕ) → (o ≡ object.Lower → IsVacant objects (spots.At p)) → Becomes (Lifts p o key) objects objects
-stays-lifts objects p object.Lower key vacant m spot at = (spot, at, inr (λ here. vacant refl m (at ∙ ap Some here), refl))
-stays-lifts objects p object.Directory key vacant m spot at = (spot, at, refl)
-stays-lifts objects p (object.Upper k last) key vacant m spot at = (spot, at, refl)
-stays-lifts objects p object.Other key vacant m spot at = (spot, at, refl)

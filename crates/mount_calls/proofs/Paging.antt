@@ -9,7 +9,7 @@ use Rattle.mount_calls.specs.declared.mount.Mount.{Mount}
 use Rattle.open_handles.specs.declared.handle.On.{On}
 use Rattle.open_handles.specs.Attaching.{directory_by, path_of, ChangesClient}
 use Rattle.open_handles.specs.Descriptors.{opened}
-use Rattle.open_handles.specs.Listings.{after_names, directory_on, listed_as, listed_on, names_left, open_directory}
+use Rattle.open_handles.specs.Listings.{after_names, directory_on, listed_as, listed_on, listing_of, names_left, open_directory}
 use Rattle.mount_calls.specs.States.{AreNamesIn, AreLeft, Pages}
 use Rattle.mount_calls.proofs.Serving.{opened-is}
 use Rattle.mount_calls.proofs.Slots.{changes-to}
@@ -30,6 +30,12 @@ names-listed (Some h) o n left is e = by h.on is
         let same : record { directory = h.object; listing = listing } ≡ o = cc in
         ap (λ z. Some (record h { on = Directory (option_map (drop n) z) })) (ap (λ (z : OpenDirectory). z.listing) same ∙ e)
     by (File f) leads = refl
+
+-- what was listed so far is a directory
+pub listed-so : (o : Option OpenDirectory) (l : Option (List Name)) →
+    Some l ≡ option_map listing_of o → (x : OpenDirectory) × (o ≡ Some x) × (x.listing ≡ l)
+listed-so None l listed = let no : None ≡ Some l = sym listed in absurd (cc)
+listed-so (Some x) l listed = let same : x.listing ≡ l = cc in (x, refl, same)
 
 module _ (m : Mount) (new : Clients) (c d : ℕ) (o : OpenDirectory) (was : directory_by m.clients c d ≡ Some o) where
   opened-before : (P : Slots → Slots → Type 0) (h : ChangesClient m.clients new c P) → open_directory h.before.slots.items d ≡ Some o

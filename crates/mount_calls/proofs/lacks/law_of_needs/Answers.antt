@@ -19,7 +19,7 @@ use Rattle.mount_calls.proofs.FileReads.{read-done}
 use Rattle.mount_calls.proofs.Writings.{write-done}
 use Rattle.mount_calls.proofs.Paging.{page-fresh}
 use Rattle.mount_calls.proofs.Answering.{list-done}
-use Rattle.mount_calls.proofs.HeldSpots.{sets-loses}
+use Rattle.mount_calls.proofs.HeldSpots.{sets-stay}
 use Rattle.mount_calls.proofs.Along.{moves-file}
 use Rattle.mount_calls.proofs.Preparing.{both-from}
 use Rattle.mount_calls.proofs.Lacking as lacking

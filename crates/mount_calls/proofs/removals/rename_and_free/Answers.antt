@@ -37,8 +37,8 @@ pub returns-in-Directory-clause-texts : goal.returns-in-Directory-clause-texts
 returns-in-Directory-clause-texts c =
     texts-after c.args.layers.now c.rename.new.layers c.free_released.new.layers (Some c.args.old.now) c.rename.ensures.texts c.free_released.ensures.texts
 
-pub free_released-in-Inode-requires-clause-held : goal.free_released-in-Inode-requires-clause-held
-free_released-in-Inode-requires-clause-held c = λ key is off has.
+pub free_released-requires-in-Inode-clause-held : goal.free_released-requires-in-Inode-clause-held
+free_released-requires-in-Inode-clause-held c = λ key is off has.
     let does = rw c.in-Inode.is at c.in_ok-renamed.ensures.does in
     let l = c.args.layers.now in
     let may = c.requires.may.1 in

@@ -45,8 +45,8 @@ returns-in_default-clause-answers c =
     (open-paths (the_upper m) (the_lowers m) s st.layers client c.args.path.now c.args.flags c.args.mode fine (ap is_some found.1))
     (stay-files m.layers m.layers refl))
 
-pub open-in-Inode-requires-clause-held : goal.open-in-Inode-requires-clause-held
-open-in-Inode-requires-clause-held c = elim c.if-flags.branch [
+pub open-requires-in-Inode-clause-held : goal.open-requires-in-Inode-clause-held
+open-requires-in-Inode-clause-held c = elim c.if-flags.branch [
   | then-flags+in_ok-resize_file w ↦ rw w.self-is (held-for c.args.self.now.clients c.new-in-Inode.result c.args.hold.now c.new-in-Inode.ensures.tracked c.requires.held)
   | else-flags w ↦ rw w.self-is (held-for c.args.self.now.clients c.new-in-Inode.result c.args.hold.now c.new-in-Inode.ensures.tracked c.requires.held)
 ]

@@ -69,7 +69,7 @@ returns-in_default-clause-makes c = λ client.
     let q = c.args.new.now in
     let new = c.rename_and_free.new.layers in
     let moved = c.in_ok-key.ensures.moves m.redirects c.requires.moving in
-    let file = object-file (the_upper m) (the_lowers m) p c.args.course.now.object c.requires.object (λ is. c.in_default.isnt is) in
+    let file = object-file (the_upper m) (the_lowers m) p c.args.course.now.object c.requires.object (λ is. c.in_default.not-Directory is) in
     marks-done client (call.Rename p q) m new m.clients (attached-same m.clients)
     (λ s st.
     let still = leads-still m s st client p q c.requires.moving.fine new c.rename_and_free.ensures.lowers moved file in
