@@ -40,7 +40,7 @@ file-bare t (Some d) file n = by (t d) file
     by (Some (Branch a b names links)) file = absurd (false≢true (sym file))
 
 -- no path goes on from what has no names
-none-below : (t : Tree) (p : Path) → ((n : Name) → entry t (node_at t p) n ≡ None) → (n : Name) (r : Path) → node_at t (n ∷ (r ++ p)) ≡ None
+pub none-below : (t : Tree) (p : Path) → ((n : Name) → entry t (node_at t p) n ≡ None) → (n : Name) (r : Path) → node_at t (n ∷ (r ++ p)) ≡ None
 none-below t p bare n [] = bare n
 none-below t p bare n (m ∷ r) = ap (λ (o : Option NodeId). entry t o n) (none-below t p bare m r)
 

@@ -1,5 +1,5 @@
 -- Calls of a mount whose clients hold otherwise before a call, or afterwards.
-use Rattle.std.proofs.Common.{◌≡◌, ℕ, Option, None, Some, Result, Ok, Err, ◌∙◌}
+use Rattle.std.proofs.Common.{◌≡◌, ℕ, Option, None, Some, Result, Ok, Err, sym, subst, ◌∙◌}
 use Rattle.std.specs.declared.alloc.AllocError.{AllocError}
 use Rattle.ov_base.specs.Calls.{Call}
 use Rattle.ov_base.specs.declared.errno.Errno.{Errno}
@@ -10,7 +10,7 @@ use Rattle.open_handles.specs.declared.clients.Clients.{Clients}
 use Rattle.open_handles.specs.Attaching.{KeepsAttached}
 use Rattle.mount_calls.specs.declared.mount.Mount.{Mount}
 use Rattle.mount_calls.specs.Making.{MakesCall}
-use Rattle.mount_calls.specs.States.{Serves, StaysState}
+use Rattle.mount_calls.specs.States.{IsStateOf, Serves, StaysState}
 
 -- the same clients are attached through two changes
 pub attached-on : (old mid new : Clients) → KeepsAttached old mid → KeepsAttached mid new →
@@ -72,3 +72,20 @@ makes-from {c} {k} {new} {Err e} old clients kept stays m = record {
   lowers = m.lowers;
   thin = m.thin;
 }
+
+-- the same where what follows is told by what it leaves alone
+pub makes-to : {c : ℕ} {k : Call} {r : Reply} {old : Mount} (mid new : Mount) →
+    new ≡ record mid { clients = new.clients } → KeepsAttached mid.clients new.clients →
+    StaysState mid new → MakesCall c k old mid (Ok r) → MakesCall c k old new (Ok r)
+makes-to {c} {k} {r} {old} mid new only kept stays m =
+    subst (λ x. MakesCall c k old x (Ok r)) (sym only)
+    (makes-on mid new.clients kept (λ s st. subst (λ x. IsStateOf x s) only (stays s st)) m)
+
+-- and where what comes before is
+pub makes-since : {c : ℕ} {k : Call} {new : Mount} {result : Result Reply AllocError}
+    (old first : Mount) → first ≡ record old { clients = first.clients } →
+    KeepsAttached old.clients first.clients → StaysState old first →
+    MakesCall c k first new result → MakesCall c k old new result
+makes-since {c} {k} {new} {result} old first only kept stays m =
+    makes-from old first.clients kept (λ s st. subst (λ x. IsStateOf x s) only (stays s st))
+    (subst (λ x. MakesCall c k x new result) only m)

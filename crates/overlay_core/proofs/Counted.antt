@@ -114,6 +114,29 @@ becomes-fewer old mid new fewer became n spot is =
 pub same-fewer : (old new : Objects) → SameSpots old new → AreFewer old new
 same-fewer old new same n spot is = sym (same.spots n) ∙ is
 
+-- so it is where something is made of them in between
+pub lifted-told : {becomes : Spot → Spot → Type 0} (shows : Rule)
+    (old mid lifted after : Clients) (from to : Watches) (ss : List Subject) →
+    AreFewer old.objects mid.objects → Becomes becomes mid.objects lifted.objects →
+    IsTold shows lifted after from to ss →
+    Tells shows (notified old from) (notified after to) ss becomes
+lifted-told shows old mid lifted after from to ss fewer became told =
+    tells-by shows old lifted after from to ss
+    (becomes-fewer old.objects mid.objects lifted.objects fewer became) told
+
+-- what is known is known where the same is held
+pub known-same : (old new : Clients) (k : Watches) → KeepsClients old new →
+    SameSpots old.objects new.objects → AreKnown (notified old k) → AreKnown (notified new k)
+known-same old new k kept same knows =
+    subst (λ ts. AreKnown (record (notified new k) { handles = ts }))
+    (sym (ap tables_in kept.attached)) (record {
+      watched = λ n on. ap is_some (same.spots n) ∙ knows.watched n on;
+      opened = λ c d (h : TrackedHandle) is.
+          ap is_some (same.spots h.object) ∙ knows.opened c d h is;
+      ways = λ c d (h : TrackedHandle) (w : Way) is way.
+          ap is_some (same.spots w.directory) ∙ knows.ways c d h w is way;
+    })
+
 -- clients that let go leave each state that the mount stood for
 pub ends-stay : (m : Mount) (new : Clients) → LetsEnd m.clients new →
     StaysState m (record m { clients = new })

@@ -9,6 +9,7 @@ pub mod Leaving
 pub mod Bare
 pub mod Lifted
 pub mod Lifts
+pub mod Shut
 pub mod Altering
 pub mod Uses
 pub mod NeverRefused

@@ -111,3 +111,11 @@ number-same old new p o number same is = by o number is
     by object.Lower r is = at (At p) r is
     by (object.Upper j last) r is = at (Upper j) r is
     by object.Other r is = is
+
+-- a file of a lower layer that has a number is at its path
+pub at-lower : (objects : Objects) (p : Path) (o : Object) (number : Option ℕ) (n : ℕ) →
+    o ≡ object.Lower → number ≡ Some n → IsNumberOf objects p o number →
+    spot_of objects n ≡ Some (At p)
+at-lower objects p o number n lower is numbered =
+    subst (λ r. IsNumberOf objects p object.Lower r) is
+    (subst (λ x. IsNumberOf objects p x number) lower numbered)

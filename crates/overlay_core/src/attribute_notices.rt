@@ -33,6 +33,7 @@ impl<F: Callback, R: Rule> Watched<F, R> {
         requires found { IsTarget self.old.mount.layers path.now call (found.0.now, found.1) }
         ensures { Performs R.shows client (call_at path.now call.entry) self.old self.new result }
     {
+        self.mount.clients.lawful();
         let object = self.mount.object_seen(look);
         let known = self.mount.known_at(path, object);
         self.mount.prepare_lift(known.number, object)?;
@@ -62,12 +63,13 @@ impl<F: Callback, R: Rule> Watched<F, R> {
         ensures { Performs R.shows client (Call.Hardlink old.now new.now) self.old self.new
             result }
     {
+        self.mount.clients.lawful();
         let object = self.mount.object_seen(from);
         let number = self.mount.number_of(old, object);
+        let way = self.mount.clients.way_to(new);
         self.mount.prepare_lift(number, object)?;
         let key = self.mount.give_name(old, new, found)?;
         self.mount.lift(number, object, key);
-        let way = self.mount.clients.way_to(new);
         self.notifier.linked(&mut self.mount.clients, &way, number);
         self.mount.clients.lawful();
         Ok(Reply::Done)
