@@ -1,7 +1,8 @@
 -- Nothing that is tracked is below what is removed or comes into the upper: a file has no names, nor has a directory that is removed.
-use Rattle.std.proofs.Common.{◌≡◌, ◌∷◌, ◌++◌, [], ℕ, false, List, Option, None, Some, refl, sym, ap, ◌∙◌}
+use Rattle.std.proofs.Common.{◌≡◌, ◌∷◌, ◌++◌, [], ℕ, false, List, Option, None, Some, map, refl, sym, ap, subst, ◌∙◌}
 use Rattle.std.proofs.lemmas.Bool.{false≢true}
 use mathlib.Core.Logic.{∥∥₁_elim}
+use mathlib.Core.Bool.{Bool-set}
 use mathlib.Core.HLevel.{⊥_prop}
 use Rattle.ov_base.specs.Calls.{Call}
 use Rattle.ov_base.specs.declared.call.CallOf.TheVariants.{Rmdir, Unlink}
@@ -11,7 +12,8 @@ use Rattle.ov_base.specs.declared.reply.Reply.TheVariants.{Done, Refused}
 use Rattle.plain_model.specs.Layers.{Layer, Name, Path, is_directory, shows}
 use Rattle.plain_model.specs.Tree.{Branch, Leaf, Node, Tree, entry, is_folder, node_at, node_of, root}
 use Rattle.plain_model.specs.Machine.{State}
-use Rattle.plain_model.specs.Changes.{tree_after}
+use Rattle.plain_model.specs.Changes.{after, tree_after}
+use Rattle.layer_tree.specs.Tree.{layer_of}
 use Rattle.merged_lookup.specs.Merged.{lowers_of}
 use Rattle.mount_laws.specs.Looks.{IsMountOf}
 use Rattle.mount_laws.specs.Paths.{LeadsNoMore}
@@ -23,7 +25,7 @@ use Rattle.notice_laws.specs.Objects.{IsLower}
 use Rattle.notice_laws.proofs.Resuming.{paths-after}
 use Rattle.notifier.specs.Notifying.{notified}
 use Rattle.notifier.specs.Watches.{Watches}
-use Rattle.mount_calls.specs.Numbers.{IsBareAt}
+use Rattle.mount_calls.specs.Numbers.{IsBareAt, ShowsNoFolder}
 use Rattle.mount_calls.specs.declared.mount.Mount.{Mount}
 use Rattle.overlay_core.specs.Watching.{HasState}
 use Rattle.overlay_core.proofs.Performing.{Performed}
@@ -91,3 +93,27 @@ done-bare c k r old new from p done is has bare =
     let served = done.serves s x.1.stands in
     let fine = allowed-by s c k r new served (λ e refused. let no : Done ≡ Refused e = sym is ∙ refused in cc) in
     bare s x.1.tracks (passes s c k r old new from done.lowers x.1 fine served (done.named s x.1.stands fine)))
+
+-- a path that no node has after an unlink shows no directory
+pub unlinked-gone : (s : State) (U V : Layer) (lowers : List Layer) (c : ℕ) (p : Path) →
+    Passes U V lowers s c (Unlink p) → is_directory (shows 0 (V ∷ lowers) p) ≡ false
+unlinked-gone s U V lowers c p passes =
+    sym (folder-at V lowers (after s c (Unlink p)) passes.now p)
+    ∙ ap (λ o. is_folder (node_of (after s c (Unlink p)).tree o))
+    (paths-after U V lowers s c (Unlink p) passes).gone
+
+-- so it is also where the state isn't told
+pub done-gone : (c : ℕ) (k : Call) (r : Reply) (old new : Mount) (from : Watches) (p : Path) →
+    Performed c k r old new → r ≡ Done → ∥ HasState old from ∥₁ →
+    ((s : State) → Passes (mount_upper old) (mount_upper new) (lowers_of old.layers) s c k →
+    is_directory (shows 0 (mount_upper new ∷ lowers_of old.layers) p) ≡ false) →
+    ShowsNoFolder new.layers p
+done-gone c k r old new from p done is has gone =
+    subst (λ (ls : List Layer). is_directory (shows 0 (mount_upper new ∷ ls) p) ≡ false)
+    (sym (ap (λ x. map layer_of x.items) done.lowers))
+    (∥∥₁_elim has (Bool-set _ _) (λ (x : HasState old from).
+    let s = x.0 in
+    let served = done.serves s x.1.stands in
+    let fine = allowed-by s c k r new served
+    (λ e refused. let no : Done ≡ Refused e = sym is ∙ refused in cc) in
+    gone s (passes s c k r old new from done.lowers x.1 fine served (done.named s x.1.stands fine))))

@@ -49,7 +49,7 @@ pub makes-from : {c : ℕ} {k : Call} {new : Mount} {result : Result Reply Alloc
     (clients : Clients) → KeepsAttached old.clients clients →
     StaysState old (record old { clients = clients }) →
     MakesCall c k (record old { clients = clients }) new result → MakesCall c k old new result
-makes-from {c} {k} {new} {Ok r} old clients kept stays m = record {
+makes-from {c} {k} {new} {result = Ok r} old clients kept stays m = record {
   answers = record {
     serves = λ s st. m.answers.serves s (stays s st);
     refused = m.answers.refused;
@@ -61,7 +61,7 @@ makes-from {c} {k} {new} {Ok r} old clients kept stays m = record {
   lowers = m.lowers;
   thin = m.thin;
 }
-makes-from {c} {k} {new} {Err e} old clients kept stays m = record {
+makes-from {c} {k} {new} {result = Err e} old clients kept stays m = record {
   answers = tt;
   no_memory = record {
     states = λ s st. m.no_memory.states s (stays s st);

@@ -11,7 +11,11 @@ use Rattle.plain_model.specs.Machine.{State}
 use Rattle.plain_model.specs.Runs.{Called}
 use Rattle.merged_lookup.specs.Merged.{lowers_of}
 use Rattle.notice_laws.specs.Notified.{Passes, Resumes, Tracks}
-use Rattle.notifier.specs.Notifying.{notified}
+use mathlib.Core.HLevel.{IsProp, is_prop→PathP}
+use mathlib.Core.Nat.{ℕ_set}
+use Rattle.open_handles.specs.declared.clients.Clients.{Clients}
+use Rattle.open_handles.specs.Attaching.{beside}
+use Rattle.notifier.specs.Notifying.{AreCounted, notified, watchers}
 use Rattle.notifier.specs.Watches.{Watches}
 use Rattle.notice_laws.specs.Steps.{IsSilent, keeps_handles}
 use Rattle.mount_calls.specs.declared.mount.Mount.{Mount}
@@ -29,6 +33,21 @@ use Rattle.overlay_core.proofs.Uses.{goes-silent}
 use Rattle.overlay_core.proofs.Watching.{stays, mount_upper}
 use Rattle.watch_table.specs.declared.hook.Callback.{Ghosts as Callback}
 use Rattle.watch_table.specs.declared.hook.Rule.{Ghosts as Ruled}
+
+-- what is counted has one proof at most
+counted-prop : (clients : Clients) (k : Watches) → IsProp (AreCounted clients k)
+counted-prop clients k x y = λ i n. ℕ_set (beside clients n) (watchers k.instances n) (x n) (y n) i
+
+-- a mount with watches is told by its parts
+pub same-watched : {F G : Type 0} {asks : Callback F} {rule : Ruled G}
+    (old new : Watched F G asks rule) → new.mount ≡ old.mount → new.notifier ≡ old.notifier →
+    new ≡ old
+same-watched old new mount notifier = λ i. record {
+  mount = mount i;
+  notifier = notifier i;
+  counted = is_prop→PathP (λ j. AreCounted (mount j).clients (notifier j))
+      (λ j. counted-prop (mount j).clients (notifier j)) new.counted old.counted i;
+}
 
 module _ {F G : Type 0} {asks : Callback F} {rule : Ruled G} {shows : Rule} where
   -- a call is made as what it is

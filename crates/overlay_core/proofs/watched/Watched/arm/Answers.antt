@@ -1,4 +1,4 @@
-use Rattle.std.proofs.Common.{None, subst, sym, w32}
+use Rattle.std.proofs.Common.{None, refl, subst, sym, w32}
 use Rattle.std.proofs.lemmas.Int.{to_z_pos}
 use Rattle.ov_base.specs.declared.call.CallOf.TheVariants.{Arm}
 use Rattle.ov_base.specs.declared.reply.Reply.TheVariants.{Watch}

@@ -1,5 +1,6 @@
 use Rattle.std.proofs.Common.{refl}
 use Rattle.overlay_core.proofs.Instances.{has-instance}
+use Rattle.overlay_core.proofs.Making.{same-watched}
 use Rattle.overlay_core.proofs.Performing.{on-err}
 use Rattle.overlay_core.proofs.WatchCalls.{taking-allowed, taking-goes}
 use Rattle.overlay_core.proofs.watched.Watched.notices.Goals as goal
@@ -21,3 +22,7 @@ pub returns-in_err-notices-clause-allowed : goal.returns-in_err-notices-clause-a
 returns-in_err-notices-clause-allowed g c =
     on-err c.from_residual.result _ (λ s a. taking-allowed s c.args.client c.args.count
     c.if-count-gt-NOTICES_MAX.false)
+
+pub returns-in_err-notices-clause-err : goal.returns-in_err-notices-clause-err
+returns-in_err-notices-clause-err g c =
+    on-err c.from_residual.result _ (same-watched c.args.self.now _ refl c.in_err-notices.ensures.err)
