@@ -41,9 +41,10 @@ returns-clause-shuts g c =
     (λ s st. serves-on mid new (ends-stay mid clients told.ends) _ s client (Close d)
     c.close-reply.result (made.answers.serves s st)) made.lowers made.answers.named
     (known clients to c.lawful.ensures.known c.lawful.ensures.counted told.counted)
-    (closed-told shows m.clients mid.clients clients from to client d h c.is_lost-is_lost.result
-    c.end_of-ended.result is_open c.is_lost-is_lost.ensures c.end_of-ended.ensures
-    c.close-reply.ensures.shuts told c.closed.ensures.renames)
+    (closed-told shows m.clients mid.clients clients from to client d c.closing_of-bits.result h
+    c.hold-hold.result c.is_lost-is_lost.result c.end_of-ended.result is_open c.hold-hold.ensures
+    c.closing_of-bits.ensures (rw c.objects.ensures at c.is_lost-is_lost.ensures)
+    c.end_of-ended.ensures c.close-reply.ensures.shuts told c.closed.ensures.renames)
 
 pub returns-clause-clients : goal.returns-clause-clients
 returns-clause-clients g c =
