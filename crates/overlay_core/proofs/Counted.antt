@@ -125,17 +125,21 @@ lifted-told shows old mid lifted after from to ss fewer became told =
     (becomes-fewer old.objects mid.objects lifted.objects fewer became) told
 
 -- what is known is known where the same is held
+pub known-room : (k : Notified) (objects : Objects) → SameSpots k.objects objects → AreKnown k →
+    AreKnown (record k { objects = objects })
+known-room k objects same knows = record {
+  watched = λ n on. ap is_some (same.spots n) ∙ knows.watched n on;
+  opened = λ c d (h : TrackedHandle) is. ap is_some (same.spots h.object) ∙ knows.opened c d h is;
+  ways = λ c d (h : TrackedHandle) (w : Way) is way.
+      ap is_some (same.spots w.directory) ∙ knows.ways c d h w is way;
+}
+
+-- so it is for clients that hold the same
 pub known-same : (old new : Clients) (k : Watches) → KeepsClients old new →
     SameSpots old.objects new.objects → AreKnown (notified old k) → AreKnown (notified new k)
 known-same old new k kept same knows =
     subst (λ ts. AreKnown (record (notified new k) { handles = ts }))
-    (sym (ap tables_in kept.attached)) (record {
-      watched = λ n on. ap is_some (same.spots n) ∙ knows.watched n on;
-      opened = λ c d (h : TrackedHandle) is.
-          ap is_some (same.spots h.object) ∙ knows.opened c d h is;
-      ways = λ c d (h : TrackedHandle) (w : Way) is way.
-          ap is_some (same.spots w.directory) ∙ knows.ways c d h w is way;
-    })
+    (sym (ap tables_in kept.attached)) (known-room (notified old k) new.objects same knows)
 
 -- clients that let go leave each state that the mount stood for
 pub ends-stay : (m : Mount) (new : Clients) → LetsEnd m.clients new →

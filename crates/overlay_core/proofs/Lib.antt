@@ -21,6 +21,7 @@ pub mod Arming
 pub mod Opens
 pub mod OpenedNodes
 pub mod OpenedKeys
+pub mod OpensHeld
 pub mod OpensTold
 pub mod Renamed
 pub mod MovesFree

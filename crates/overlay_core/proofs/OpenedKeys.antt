@@ -14,17 +14,18 @@ use Rattle.mount_laws.specs.OpenFiles.{IsLive}
 use Rattle.mount_laws.proofs.Handling.{law_of_new_handle}
 use Rattle.mount_laws.proofs.OpenFiles.{law_of_live_one, law_of_live_shown}
 use Rattle.open_handles.specs.declared.handle.Handle as handles
+use Rattle.open_handles.specs.declared.handle.On.{On}
 use Rattle.open_handles.specs.declared.handle.On.TheVariants.{Directory, File}
 use Rattle.open_handles.specs.declared.open_file.FileSource.{FileSource}
 use Rattle.open_handles.specs.declared.open_file.FileSource.TheVariants.{Upper, Lower}
 use Rattle.open_handles.specs.declared.open_file.OpenFile.{OpenFile}
-use Rattle.open_handles.specs.Listings.{file_in}
+use Rattle.open_handles.specs.Listings.{file_in, file_on}
 use Rattle.notice_laws.specs.declared.object.Object.TheVariants as object
 use Rattle.notice_laws.specs.Objects.{IsObject}
 use Rattle.mount_calls.specs.declared.mount.Mount.{Mount}
 use Rattle.open_handles.specs.Attaching.{file_by, opened_by}
 use Rattle.mount_calls.specs.Files.{IsOf, key_in_upper}
-use Rattle.mount_calls.specs.States.{IsOpenAs, IsSlot, IsStateOf}
+use Rattle.mount_calls.specs.States.{IsOpenAs, IsOpenOnAs, IsSlot, IsStateOf}
 
 -- a handle that writes sees its file as it comes to be
 pub writes-live : (f : OpenFlags) (o : Option Node) → f.writes ≡ true → view_of f o ≡ Live
@@ -69,5 +70,10 @@ module _ (new : Mount) (s : State) (c : ℕ) (p : Path) (f : OpenFlags) (mode fd
 
       by : (o : Option handles.Handle) → IsSlot (IsOpenAs V L t.tree new.clients.objects.tree) o (Some h) → unwrap_or (key_in_upper (file_in o)) 0 ≡ j
       by None on = absurd on
-      by (Some (Directory o)) on = absurd (false≢true (sym (ap is_folder mine.node) ∙ on.directory))
-      by (Some (File g)) on = source g.source g refl on.source
+      by (Some o) on = kind o.on on
+        where
+          kind : (x : On) → IsOpenOnAs V L t.tree new.clients.objects.tree o.object x h →
+              unwrap_or (key_in_upper (file_on x)) 0 ≡ j
+          kind (Directory listing) on =
+              absurd (false≢true (sym (ap is_folder mine.node) ∙ on.directory))
+          kind (File g) on = source g.source g refl on.source

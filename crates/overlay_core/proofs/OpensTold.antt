@@ -28,8 +28,12 @@ use Rattle.notice_laws.specs.Opens.{Opened, OpenedNew}
 use Rattle.notice_laws.proofs.Numbers.{node-shown}
 use Rattle.notice_laws.proofs.OpenNewTold.{law_of_opened_new}
 use Rattle.notice_laws.proofs.OpenTold.{law_of_opened}
-use Rattle.notifier.specs.Notifying.{IsFree}
-use Rattle.notifier.specs.Opening.{IsReady, IsReadyNew}
+use Rattle.open_handles.specs.declared.clients.Clients.{Clients}
+use Rattle.open_handles.specs.declared.handle.Hold.{Hold}
+use Rattle.open_handles.specs.Holding.{HoldsNew}
+use Rattle.notifier.specs.Notifying.{notified}
+use Rattle.notifier.specs.Watches.{Watches}
+use Rattle.mount_calls.specs.Numbers.{HoldsFor, IsFree}
 use Rattle.mount_calls.specs.declared.mount.Mount.{Mount}
 use Rattle.open_handles.specs.Attaching.{file_by}
 use Rattle.mount_calls.specs.Files.{key_in_upper as key_of}
@@ -39,13 +43,13 @@ use Rattle.overlay_core.specs.Watching.{Agrees, Goes, HasState}
 use Rattle.overlay_core.proofs.Lifted.{free-key, free-squashed, lifted-key}
 use Rattle.overlay_core.proofs.Performing.{Performed, passing}
 use Rattle.overlay_core.proofs.Watching.{allowed-by, goes, mount_upper}
-use Rattle.overlay_core.proofs.Opens.{lowest-given, object-some, open-absent, open-no-link, open-shown, ready-tracks, way-tracks}
+use Rattle.overlay_core.proofs.Opens.{held-spot, lowest-given, object-some, open-absent, open-no-link, open-shown, ready-tracks, way-tracks}
 use Rattle.overlay_core.proofs.OpenedKeys.{opened-key, writes-live}
 use Rattle.overlay_core.proofs.OpenedNodes.{held-vacant, new-here, new-key, new-vacant, opened-file, opened-leads, opened-touches}
 
 -- A CALL THAT OPENS, as a mount made it
 module _ (rule : Rule) (c : ℕ) (p : Path) (f : OpenFlags) (mode : ℕ) (k : Call) (is : k ≡ Open p f mode) (r : Reply) (old new : Mount)
-    (from : Notified) (done : Performed c k r old new) where
+    (from : Watches) (done : Performed c k r old new) where
   abbrev U : Layer
   U = mount_upper old
 
@@ -72,20 +76,23 @@ module _ (rule : Rule) (c : ℕ) (p : Path) (f : OpenFlags) (mode : ℕ) (k : Ca
       (subst (λ (x : List Layer). IsObject V x p (object.Upper j last)) (sym (ap (λ x. map layer_of x.items) done.lowers)) at)
 
   -- OF WHAT STANDS THERE
-  module _ (o : Object) (stands : IsObject U L p o) (something : o ≢ object.Other) (known : AreKnown from)
-      (ready : Notified) (fd : ℕ) (is_ready : IsReady from ready c fd p o) (low : IsLowestFree old.clients c fd) (key : ℕ)
+  module _ (o : Object) (stands : IsObject U L p o) (something : o ≢ object.Other)
+      (known : AreKnown (notified old.clients from)) (first : Clients) (hold : Hold)
+      (holds : HoldsFor old.clients.objects first.objects p o hold) (fd : ℕ) (low : IsLowestFree old.clients c fd) (key : ℕ)
       (found : key ≡ unwrap_or (key_of (file_by new.clients c fd)) 0) (isnt : (e : Errno) → r ≢ Refused e) where
     -- what is kept with what the open holds
     abbrev held : Notified
-    held = record from { objects = ready.objects }
+    held = record (notified old.clients from) { objects = first.objects }
 
     -- it tracks the state
     held-tracks : (s : State) → Agrees old from s → refusal s c k ≡ None → Tracks U s held
     held-tracks s a fine =
         let allowed = subst (λ j. refusal s c j ≡ None) is fine in
         let m = a.stands.layers in
-        ready-tracks U L s m from a.tracks known p o stands (open-no-link U L s m c p f mode allowed)
-        (open-shown U L s m c p f mode allowed) ready.objects is_ready.handle is_ready.holds
+        let at = held-spot old.clients.objects first.objects p o hold something holds in
+        ready-tracks U L s m (notified old.clients from) a.tracks known p o stands
+        (open-no-link U L s m c p f mode allowed) (open-shown U L s m c p f mode allowed)
+        first.objects hold at.0 at.1 at.2
 
     -- the node that is opened
     node-there : (s : State) → Agrees old from s → (d : NodeId) × (node_at s.tree p ≡ Some d)
@@ -105,9 +112,9 @@ module _ (rule : Rule) (c : ℕ) (p : Path) (f : OpenFlags) (mode : ℕ) (k : Ca
         found-here s a fine fd low (still-there s a fine) (writes-live f (node_of s.tree (node_at s.tree p)) writes) key found
 
     -- nothing is tracked under the key by which it comes into the upper
-    pub opened-free : ∥ HasState old from ∥₁ → f.writes ≡ true → IsFree ready.objects p o key
+    pub opened-free : ∥ HasState old from ∥₁ → f.writes ≡ true → IsFree first.objects p o key
     opened-free has writes =
-        free-squashed ready.objects p o key has (λ x.
+        free-squashed first.objects p o key has (λ x.
         let s = x.0 in
         let a = x.1 in
         let fine = allowed-by s c k r new (done.serves s a.stands) isnt in
@@ -117,35 +124,38 @@ module _ (rule : Rule) (c : ℕ) (p : Path) (f : OpenFlags) (mode : ℕ) (k : Ca
         (opened-leads U V L s c p f mode pass d.0 d.1) held (held-tracks s a fine) key o stands (λ lower. found-there s a fine writes))
 
     -- told, it goes as the machine's
-    pub goes-opened : (to : Notified) → AreKnown to → Opened rule held to c fd p o key f → Goes rule old from c (Called k r) new to
+    pub goes-opened : (to : Watches) → AreKnown (notified new.clients to) →
+        Opened rule held (notified new.clients to) c fd p o key f →
+        Goes rule old from c (Called k r) new to
     goes-opened to knows told =
         goes rule c k r old new from to done.there done.serves (λ s a e at. absurd (isnt e at))
         (λ s a fine.
         let pass = open-passes s a fine in
         let d = node-there s a in
         let t = held-tracks s a fine in
-        subst (λ j. Resumes rule V s c j to) (sym is)
-        (law_of_opened rule U V L s c fd p f mode pass (lowest-given old s c fd a.stands done.there low) o key stands held to
+        subst (λ j. Resumes rule V s c j (notified new.clients to)) (sym is)
+        (law_of_opened rule U V L s c fd p f mode pass (lowest-given old s c fd a.stands done.there low) o key stands held (notified new.clients to)
         (λ writes.
         lifted-key U V L s c (Open p f mode) pass p (opened-touches s p f mode writes) (opened-file s c p f mode (ap is_none d.1))
         (opened-leads U V L s c p f mode pass d.0 d.1) held t key o stands (λ lower. found-there s a fine writes))
         t knows told))
 
   -- OF A FILE THAT IT MAKES
-  module _ (nothing : IsObject U L p object.Other) (known : AreKnown from)
-      (ready : Notified) (fd : ℕ) (is_ready : IsReadyNew from ready c fd p) (low : IsLowestFree old.clients c fd) (key : ℕ)
+  module _ (nothing : IsObject U L p object.Other)
+      (known : AreKnown (notified old.clients from)) (first : Clients) (hold : Hold)
+      (holds : HoldsNew old.clients.objects first.objects p hold) (fd : ℕ) (low : IsLowestFree old.clients c fd) (key : ℕ)
       (found : key ≡ unwrap_or (key_of (file_by new.clients c fd)) 0) (isnt : (e : Errno) → r ≢ Refused e) where
     -- what is kept with the way in that the open holds
     abbrev entered : Notified
-    entered = record from { objects = is_ready.holds.mid }
+    entered = record (notified old.clients from) { objects = holds.mid }
 
     -- it tracks the state
     entered-tracks : (s : State) → Agrees old from s → refusal s c k ≡ None → Tracks U s entered
     entered-tracks s a fine =
         let allowed = subst (λ j. refusal s c j ≡ None) is fine in
         let m = a.stands.layers in
-        way-tracks U L s m from a.tracks known p (open-shown U L s m c p f mode allowed) is_ready.holds.mid is_ready.handle.way
-        is_ready.holds.way
+        way-tracks U L s m (notified old.clients from) a.tracks known p
+        (open-shown U L s m c p f mode allowed) holds.mid hold.way holds.way
 
     -- nothing stands there
     node-absent : (s : State) → Agrees old from s → refusal s c k ≡ None → node_at s.tree p ≡ None
@@ -160,7 +170,7 @@ module _ (rule : Rule) (c : ℕ) (p : Path) (f : OpenFlags) (mode : ℕ) (k : Ca
         (ap (λ x. view_of f (node_of s.tree x)) absent) key found
 
     -- nothing is tracked under the key by which the file comes there
-    pub made-vacant : ∥ HasState old from ∥₁ → IsVacant ready.objects (Upper key)
+    pub made-vacant : ∥ HasState old from ∥₁ → IsVacant first.objects (Upper key)
     made-vacant has n at =
         ∥∥₁_elim has ⊥_prop (λ x.
         let s = x.0 in
@@ -169,17 +179,19 @@ module _ (rule : Rule) (c : ℕ) (p : Path) (f : OpenFlags) (mode : ℕ) (k : Ca
         let pass = open-passes s a fine in
         let absent = node-absent s a fine in
         let shown = new-key U V L s c p f mode pass absent key (found-new s a fine) in
-        held-vacant is_ready.holds.mid ready.objects is_ready.handle.object key is_ready.holds.object
+        held-vacant holds.mid first.objects hold.object key holds.object
         (new-vacant U V L s c p f mode pass absent entered (entered-tracks s a fine) key shown.0 shown.1) n at)
 
     -- told, it goes as the machine's
-    pub goes-made : (to : Notified) → AreKnown to → OpenedNew rule entered to c fd p key → Goes rule old from c (Called k r) new to
+    pub goes-made : (to : Watches) → AreKnown (notified new.clients to) →
+        OpenedNew rule entered (notified new.clients to) c fd p key →
+        Goes rule old from c (Called k r) new to
     goes-made to knows told =
         goes rule c k r old new from to done.there done.serves (λ s a e at. absurd (isnt e at))
         (λ s a fine.
         let pass = open-passes s a fine in
         let absent = node-absent s a fine in
         let shown = new-key U V L s c p f mode pass absent key (found-new s a fine) in
-        subst (λ j. Resumes rule V s c j to) (sym is)
+        subst (λ j. Resumes rule V s c j (notified new.clients to)) (sym is)
         (law_of_opened_new rule U V L s c fd p f mode pass (lowest-given old s c fd a.stands done.there low) absent key shown.0 shown.1
-        entered to (entered-tracks s a fine) knows told))
+        entered (notified new.clients to) (entered-tracks s a fine) knows told))

@@ -46,8 +46,12 @@ use Rattle.notice_laws.specs.Objects.{IsObject}
 use Rattle.notice_laws.proofs.Moved.{law_of_moved}
 use Rattle.notice_laws.proofs.ShownParents.{new-shown}
 use Rattle.notice_laws.proofs.Staying.{law_of_unmoved}
-use Rattle.notifier.specs.Moving.{IsFreeFor, IsHeldFor, IsPlaceFor, LetsGo}
-use Rattle.notifier.specs.Notifying.{IsBareAt}
+use Rattle.open_handles.specs.declared.clients.Clients.{Clients}
+use Rattle.open_handles.specs.Attaching.{KeepsClients}
+use Rattle.notifier.specs.Notifying.{notified}
+use Rattle.notifier.specs.Watches.{Watches}
+use Rattle.mount_calls.specs.Moving.{IsFreeFor, IsPlaceFor, MayHold}
+use Rattle.mount_calls.specs.Numbers.{IsBareAt}
 use Rattle.mount_calls.specs.declared.mount.Mount.{Mount}
 use Rattle.mount_calls.specs.Living.{StaysLive}
 use Rattle.mount_calls.specs.Looking.{IsKeyAt}
@@ -55,52 +59,27 @@ use Rattle.mount_calls.specs.States.{StaysState}
 use Rattle.overlay_core.specs.Watching.{Agrees, Goes, HasState, Stays}
 use Rattle.overlay_core.proofs.Bare.{bare-squashed}
 use Rattle.overlay_core.proofs.MovesFree.{found-one, fits-directory, key-free, key-squashed, lifted-found, place-squashed}
-use Rattle.overlay_core.proofs.MovesHeld.{few-clients, gone-tracks, ready-tracks}
+use Rattle.overlay_core.proofs.MovesHeld.{ready-tracks}
 use Rattle.overlay_core.proofs.Performing.{Performed, goes-done, passing}
 use Rattle.overlay_core.proofs.Renamed.{nothing-below}
 use Rattle.overlay_core.proofs.Watching.{allowed-by, goes, stays, mount_upper}
 
--- each client's handles can be counted
-pub clients-counted : (m : Mount) (from : Notified) → ∥ HasState m from ∥₁ → 64 * length (clients_of from.handles) < 2 ^ 64
-clients-counted m from has = by (cases_lt (64 * length (clients_of from.handles)) (2 ^ 64))
-  where
-    one : (x : HasState m from) → 64 * length (clients_of from.handles) < 2 ^ 64
-    one x = few-clients x.0 x.1.settled (length (clients_of from.handles)) (ap length x.1.tracks.clients)
-
-    by : (64 * length (clients_of from.handles) < 2 ^ 64) ⊎ (2 ^ 64 ≤ 64 * length (clients_of from.handles)) →
-        64 * length (clients_of from.handles) < 2 ^ 64
-    by (inl below) = below
-    by (inr above) = absurd (∥∥₁_elim has ⊥_prop (λ x. let below = one x in omega arith))
-
--- LET GO, what a rename held leaves what agreed
-pub gone-agrees : (m : Mount) (from to : Notified) → LetsGo from to → AreKnown to → Stays m from m to
-gone-agrees m from to g known s a = record {
-  stands = a.stands;
-  settled = a.settled;
-  one = a.one;
-  tracks = gone-tracks (mount_upper m) s from to g known a.tracks;
-}
-
--- also where the mount wanted memory
-pub stays-gone : (old new : Mount) (from to : Notified) → LetsGo from to → AreKnown to → StaysState old new →
-    StaysLive old.layers new.layers → Stays old from new to
-stays-gone old new from to g known state live = stays old new from to state live (λ s t. gone-tracks (mount_upper old) s from to g known t)
-
 -- A RENAME ONTO THE SAME OBJECT leaves all
-pub goes-same : (rule : Rule) (c : ℕ) (p q : Path) (m : Mount) (from : Notified) → Performed c (Rename p q) Done m m →
+pub goes-same : (rule : Rule) (c : ℕ) (p q : Path) (m : Mount) (from : Watches) → Performed c (Rename p q) Done m m →
     is_one (mount_upper m) p q ≡ true → Goes rule m from c (Called (Rename p q) Done) m from
 goes-same rule c p q m from done one =
     let U : Layer = mount_upper m in
     let L : List Layer = lowers_of m.layers in
     goes-done rule c (Rename p q) Done m m from done from refl
     (λ s a pass. law_of_unmoved rule U U L s c p q pass
-    (found-one U L s pass.before c p q pass.allowed true one) from a.tracks)
+    (found-one U L s pass.before c p q pass.allowed true one) (notified m.clients from) a.tracks)
 
 -- A RENAME THAT MOVES SOMETHING, as a mount made it
-module _ (rule : Rule) (c : ℕ) (p q : Path) (old new : Mount) (from ready : Notified)
-    (h : IsHeldFor from ready q)
+module _ (rule : Rule) (c : ℕ) (p q : Path) (old new : Mount) (from : Watches)
+    (first : Clients) (kept : KeepsClients old.clients first)
+    (may : MayHold old.clients.objects first.objects q)
     (done : Performed c (Rename p q) Done old new) (moves : is_one (mount_upper old) p q ≡ false)
-    (known : AreKnown ready) (o e : Object)
+    (known : AreKnown (notified first from)) (o e : Object)
     (stands : IsObject (mount_upper old) (lowers_of old.layers) p o)
     (replaced : IsObject (mount_upper old) (lowers_of old.layers) q e)
     (key : ℕ) (found : IsKeyAt new.layers q key) where
@@ -130,32 +109,35 @@ module _ (rule : Rule) (c : ℕ) (p q : Path) (old new : Mount) (from ready : No
   two s a = let pass = moving-passes s a in found-one U L s pass.before c p q pass.allowed false moves
 
   -- what is prepared tracks the state
-  tracked : (s : State) → Agrees old from s → Tracks U s ready
+  tracked : (s : State) → Agrees old from s → Tracks U s (notified first from)
   tracked s a =
       let pass = moving-passes s a in
-      ready-tracks U L s pass.before from ready q h (new-shown U L s pass.before c p q pass.allowed) known a.tracks
+      ready-tracks U L s pass.before old.clients first from q kept may
+      (new-shown U L s pass.before c p q pass.allowed) known a.tracks
 
-  pub moving-free : ∥ HasState old from ∥₁ → IsFreeFor ready.objects p q o e key
+  pub moving-free : ∥ HasState old from ∥₁ → IsFreeFor first.objects p q o e key
   moving-free has =
-      key-squashed ready.objects p q o e key has
-      (λ x. key-free U V L x.0 c p q (moving-passes x.0 x.1) (two x.0 x.1) ready (tracked x.0 x.1) o e stands replaced key found-here)
+      key-squashed first.objects p q o e key has
+      (λ x. key-free U V L x.0 c p q (moving-passes x.0 x.1) (two x.0 x.1) (notified first from) (tracked x.0 x.1) o e stands replaced key found-here)
 
-  pub moving-place : ∥ HasState old from ∥₁ → o ≡ object.Directory → IsPlaceFor ready p q e
+  pub moving-place : ∥ HasState old from ∥₁ → o ≡ object.Directory → IsPlaceFor first.objects p q e
   moving-place has folder =
-      place-squashed U L ready p q e replaced has
-      (λ x. fits-directory U V L x.0 c p q (moving-passes x.0 x.1) (two x.0 x.1) ready (tracked x.0 x.1) (subst (IsObject U L p) folder stands))
+      place-squashed U L (notified first from) p q e replaced has
+      (λ x. fits-directory U V L x.0 c p q (moving-passes x.0 x.1) (two x.0 x.1) (notified first from) (tracked x.0 x.1) (subst (IsObject U L p) folder stands))
 
   -- nothing is tracked below the new place
-  pub moving-bare : ∥ HasState old from ∥₁ → q ≢ [] → IsBareAt ready.objects q
+  pub moving-bare : ∥ HasState old from ∥₁ → q ≢ [] → IsBareAt first.objects q
   moving-bare has not =
-      bare-squashed ready.objects q has
-      (λ (x : HasState old from). (not, nothing-below U V L x.0 c p q (moving-passes x.0 x.1) (two x.0 x.1) ready (tracked x.0 x.1)))
+      bare-squashed first.objects q has
+      (λ (x : HasState old from). (not, nothing-below U V L x.0 c p q (moving-passes x.0 x.1) (two x.0 x.1) (notified first from) (tracked x.0 x.1)))
 
   -- told, it goes as the machine's
-  pub goes-moved : (to : Notified) → AreKnown to → Moved rule ready to p q o e key → Goes rule old from c (Called (Rename p q) Done) new to
+  pub goes-moved : (to : Watches) → AreKnown (notified new.clients to) →
+      Moved rule (notified first from) (notified new.clients to) p q o e key →
+      Goes rule old from c (Called (Rename p q) Done) new to
   goes-moved to knows told =
       goes rule c (Rename p q) Done old new from to done.there done.serves (λ s a x at. absurd (isnt x at))
       (λ s a fine.
-      law_of_moved rule U V L s c p q (moving-passes s a) (two s a) o e key stands replaced ready to
-      (lifted-found U V L s c p q (moving-passes s a) (two s a) ready (tracked s a) o e stands replaced key found-here)
+      law_of_moved rule U V L s c p q (moving-passes s a) (two s a) o e key stands replaced (notified first from) (notified new.clients to)
+      (lifted-found U V L s c p q (moving-passes s a) (two s a) (notified first from) (tracked s a) o e stands replaced key found-here)
       (tracked s a) knows told)

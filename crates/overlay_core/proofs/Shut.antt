@@ -19,6 +19,7 @@ use Rattle.mount_laws.specs.Looks.{IsMountOf}
 use Rattle.mount_laws.specs.OpenFiles.{IsLive}
 use Rattle.mount_laws.specs.Removals.{ShowsNoName, rmdir_fault}
 use Rattle.mount_laws.proofs.Links.{first-none}
+use Rattle.mount_laws.proofs.Looks.{at-some}
 use Rattle.mount_laws.proofs.OpenFiles.{law_of_live_shown, one-number}
 use Rattle.object_table.specs.Objects.{At, IsBare, Nowhere, Objects, Spot, Upper, spot_of}
 use Rattle.open_handles.specs.declared.handle.Handle as handles
@@ -29,14 +30,14 @@ use Rattle.open_handles.specs.declared.open_file.FileSource.TheVariants as sourc
 use Rattle.open_handles.specs.declared.open_file.OpenFile.{OpenFile}
 use Rattle.open_handles.specs.Attaching.{HasFile, opened_by, tables_of}
 use Rattle.open_handles.specs.Handles.{tracked_in, tracked_of}
-use Rattle.open_handles.specs.Listings.{file_in}
+use Rattle.open_handles.specs.Listings.{file_in, file_on}
 use Rattle.open_handles.specs.TrackedHandles.{TrackedHandle, tracked_by}
 use Rattle.open_handles.proofs.Entries.{tracked-read}
 use Rattle.notice_laws.specs.declared.object.Object.{Object}
 use Rattle.notice_laws.specs.declared.object.Object.TheVariants as object
 use Rattle.notice_laws.specs.Notified.{IsAt, IsSlotOn}
 use Rattle.notice_laws.specs.Objects.{IsNumberOf, IsObject}
-use Rattle.notice_laws.proofs.Numbers.{at-some, live-apart, looks-as}
+use Rattle.notice_laws.proofs.Numbers.{live-apart, looks-as}
 use Rattle.notifier.specs.Notifying.{notified}
 use Rattle.notifier.specs.Watches.{Watches}
 use Rattle.mount_calls.specs.declared.mount.Mount.{Mount}
@@ -135,9 +136,9 @@ module _ (m : Mount) (from : Watches) (p : Path) (o : Object)
       kind : (h : handles.Handle) (x : On) → h.on ≡ x → file_in (Some h) ≡ Some open.file →
           h.on ≡ File open.file
       kind h (Directory listing) on is =
-          let no = ap (λ y. file_in (Some (record h { on = y }))) on in absurd (cc)
+          let no : None ≡ Some open.file = sym (ap file_on on) ∙ is in absurd (cc)
       kind h (File f) on is =
-          let one = ap (λ y. file_in (Some (record h { on = y }))) on in
+          let one : Some f ≡ Some open.file = sym (ap file_on on) ∙ is in
           let same : f ≡ open.file = cc in on ∙ ap File same
 
       by : (o : Option handles.Handle) (x : Option Handle) → file_in o ≡ Some open.file →

@@ -1,5 +1,6 @@
 pub mod Watching
 pub mod Performing
+pub mod Opening
 pub mod Leaving
 pub mod PathFaults
 pub mod Mounting

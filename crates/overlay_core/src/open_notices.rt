@@ -1,21 +1,58 @@
 // What opens tell: those of what stands at a path, and those that make a file.
-ghost use Rattle.std.specs.Prelude.{◌≡◌, ◌≢◌, true, OnErr, OnOk};
+ghost use Rattle.std.specs.Prelude.{◌≡◌, ◌≢◌, ℕ, true, Some, OnErr, OnOk};
+ghost use Rattle.plain_model.specs.Layers.{Path as Names};
 ghost use Rattle.ov_base.specs.declared.call.CallOf.TheVariants as Call;
 ghost use Rattle.plain_model.specs.Runs.{Called};
 ghost use Rattle.merged_lookup.specs.Merged.{upper_of, lowers_of};
 ghost use Rattle.notice_laws.specs.declared.object.Object.TheVariants as stands;
-ghost use Rattle.notice_laws.specs.Objects.{IsObject};
-ghost use Rattle.open_handles.specs.Attaching.{is_attached};
+ghost use Rattle.notice_laws.specs.Objects.{IsNumberOf, IsObject};
+ghost use Rattle.notice_laws.specs.Opens.{opens_to};
+ghost use Rattle.open_handles.specs.Attaching.{is_attached, KeepsClients, SameBeside};
 ghost use Rattle.mount_calls.specs.Looking.{IsJudged, IsLook};
+ghost use Rattle.mount_calls.specs.Numbers.{Becomes, MayLift, ShowsNoFolder};
+ghost use Rattle.mount_calls.specs.States.{StaysState};
+ghost use Rattle.overlay_core.specs.Opening.{key_of_opened};
 ghost use Rattle.overlay_core.specs.Performing.{Performs};
 ghost use Rattle.overlay_core.specs.Watching.{Goes, HasState, Keeps, Stays};
 
 use crate::watched::Watched;
-use mount_calls::{Judged, Look};
+use mount_calls::{Judged, Look, Mount};
 use notice_laws::Object;
 use ov_base::{OpenFlags, Path, Reply};
 use std::alloc::AllocError;
 use watch_table::{Callback, Rule};
+
+// Notes that what a client opened is in the upper now, where it was opened for writing and was a file
+// of a lower layer that is held. It takes no memory.
+fn lift_opened(
+    mount: &mut Mount,
+    client: u64,
+    descriptor: u32,
+    number: usize,
+    object: Object,
+    is_written: bool,
+)
+    requires { is_written ≡ true →
+        (p : Names) × IsNumberOf mount.old.clients.objects p object (Some number)
+        × MayLift mount.old.clients.objects p object
+        (key_of_opened mount.old.clients client descriptor)
+        × ((n : ℕ) → object ≡ stands.Lower → Some number ≡ Some n →
+        ShowsNoFolder mount.old.layers p) }
+    ensures clients { KeepsClients mount.old.clients mount.new.clients }
+    ensures lifted { (p : Names) →
+        IsNumberOf mount.old.clients.objects p object (Some number) →
+        Becomes (opens_to is_written p object (key_of_opened mount.old.clients client descriptor))
+        mount.old.clients.objects mount.new.clients.objects }
+    ensures beside { SameBeside mount.old.clients mount.new.clients }
+    ensures only { mount.new ≡ record mount.old { clients = mount.new.clients } }
+    ensures stays { StaysState mount.old mount.new }
+{
+    if !is_written {
+        return;
+    }
+    let key = mount.key_opened(client, descriptor);
+    mount.lift(Some(number), object, key);
+}
 
 impl<F: Callback, R: Rule> Watched<F, R> {
     // Opens what stands at a path, as it was judged, and notifies its directory and the object.
@@ -38,17 +75,19 @@ impl<F: Callback, R: Rule> Watched<F, R> {
         ensures err { OnErr result (Stays self.old.mount self.old.notifier self.new.mount self.new.notifier) }
         ensures kept { Keeps (Call.Open path.now flags judged.mode) self.old.mount self.new.mount }
     {
+        self.mount.clients.lawful();
         let descriptor = judged.descriptor;
-        let hold = self.mount.prepare_open(client, descriptor, path, object)?;
+        let prepared = self.mount.prepare_open(client, descriptor, path, object);
+        self.mount.clients.lawful();
+        let hold = prepared?;
         match self
             .mount
             .open_judged(client, path, look, flags, judged, &hold)
         {
             Ok(()) => {
-                if flags.writes {
-                    let key = self.mount.key_opened(client, descriptor);
-                    self.mount.lift(Some(hold.object), object, key);
-                }
+                let number = hold.object;
+                let mount = &mut self.mount;
+                lift_opened(mount, client, descriptor, number, object, flags.writes);
                 self.notifier
                     .opened(&mut self.mount.clients, &hold, object, flags.truncate);
                 self.mount.clients.lawful();
@@ -81,10 +120,13 @@ impl<F: Callback, R: Rule> Watched<F, R> {
         ensures err { OnErr result (Stays self.old.mount self.old.notifier self.new.mount self.new.notifier) }
         ensures kept { Keeps (Call.Open path.now flags judged.mode) self.old.mount self.new.mount }
     {
+        self.mount.clients.lawful();
         let descriptor = judged.descriptor;
-        let hold = self
+        let prepared = self
             .mount
-            .prepare_open(client, descriptor, path, Object::Other)?;
+            .prepare_open(client, descriptor, path, Object::Other);
+        self.mount.clients.lawful();
+        let hold = prepared?;
         match self
             .mount
             .open_judged(client, path, look, flags, judged, &hold)

@@ -1,85 +1,74 @@
-use Rattle.std.proofs.Common.{◌≡◌, refl}
+use Rattle.std.proofs.Common.{◌≡◌, ◌≤◌, arith, ap, refl, subst, sym, ◌∙◌}
+use mathlib.Core.Logic.{∥∥₁_map}
 use Rattle.ov_base.specs.Calls.{Call}
 use Rattle.ov_base.specs.declared.call.CallOf.TheVariants.{Open}
-use Rattle.ov_base.specs.declared.reply.Reply.{Reply}
 use Rattle.ov_base.specs.declared.reply.Reply.TheVariants.{Descriptor, Refused}
+use Rattle.merged_lookup.specs.declared.layers.Layers.{Layers}
+use Rattle.mount_calls.specs.Looking.{IsLook}
+use Rattle.mount_calls.specs.declared.mount.Mount.{Mount}
+use Rattle.notice_laws.specs.declared.object.Object.TheVariants as object
+use Rattle.notifier.specs.Notifying.{notified}
 use Rattle.overlay_core.specs.Watching.{Stays}
-use Rattle.overlay_core.proofs.Opens.{attached-tracked, back-agrees, back-tracks, free-watched}
-use Rattle.overlay_core.proofs.OpensTold.{goes-made, made-vacant}
-use Rattle.overlay_core.proofs.Performing.{Performed, on-err, state-of, keeps-same}
-use Rattle.overlay_core.proofs.Watching.{stays, mount_upper}
+use Rattle.overlay_core.proofs.Counted.{known}
+use Rattle.overlay_core.proofs.OpensHeld.{held-at, judged-since, tracks-spots}
+use Rattle.overlay_core.proofs.Performing.{keeps-layers, on-err}
+use Rattle.overlay_core.proofs.Watching.{mount_upper, tracks-same}
 use Rattle.overlay_core.proofs.watched.Watched.open_new.Goals as goal
 
-pub prepare_new-prepared-requires-clause-attached : goal.prepare_new-prepared-requires-clause-attached
-prepare_new-prepared-requires-clause-attached g c =
-    attached-tracked c.args.self.now.mount c.args.self.now.notifier c.args.client c.requires.state c.requires.there
-
-pub prepare_new-prepared-requires-clause-slot : goal.prepare_new-prepared-requires-clause-slot
-prepare_new-prepared-requires-clause-slot g c = c.requires.judged.free.in_range
-
-pub prepare_new-prepared-requires-clause-free : goal.prepare_new-prepared-requires-clause-free
-prepare_new-prepared-requires-clause-free g c =
-    free-watched c.args.self.now.mount c.args.self.now.notifier c.args.client c.args.judged.descriptor c.requires.state c.requires.judged.free.free
-
-pub returns-in_err-prepared-clause-err : goal.returns-in_err-prepared-clause-err
-returns-in_err-prepared-clause-err g c =
+-- the layers stay as they were
+pub returns-in_err-hold-clause-err : goal.returns-in_err-hold-clause-err
+returns-in_err-hold-clause-err g c =
     let old = c.args.self.now.mount in
     let from = c.args.self.now.notifier in
-    let back = c.prepare_new-prepared.new.self in
-    on-err c.from_residual.result (Stays old from old back)
-    (λ s a. back-agrees old s from back c.lawful-2.ensures.known c.in_err-prepared.ensures.err a)
+    let first = c.prepare_open-prepared.new.self in
+    let said = c.in_err-hold.ensures in
+    let all = c.prepare_open-prepared.ensures in
+    let knows = known old.clients from c.lawful.ensures.known c.lawful.ensures.counted
+    c.args.self.now.counted in
+    on-err c.from_residual.result (Stays old from first from) (λ s a. record {
+      stands = all.stays s a.stands;
+      settled = a.settled;
+      one = a.one;
+      tracks = tracks-same old first s (notified first.clients from)
+          (ap (λ (m : Mount). m.layers) all.only)
+          (tracks-spots (mount_upper old) s old.clients first.clients from said.err all.tracked
+          knows a.tracks);
+    })
+
+pub returns-in_err-hold-clause-kept : goal.returns-in_err-hold-clause-kept
+returns-in_err-hold-clause-kept g c =
+    keeps-layers (Open c.args.path.now c.args.flags c.args.judged.mode) c.args.self.now.mount
+    c.prepare_open-prepared.new.self c.prepare_open-prepared.ensures.attached
+    (ap (λ (m : Mount). m.layers) c.prepare_open-prepared.ensures.only)
 
 pub open_judged-requires-clause-state : goal.open_judged-requires-clause-state
-open_judged-requires-clause-state g c = state-of c.args.self.now.mount c.args.self.now.notifier c.requires.state
+open_judged-requires-clause-state g c =
+    ∥∥₁_map c.requires.state
+    (λ x. (x.0, c.prepare_open-prepared.ensures.stays x.0 x.1.stands))
 
-pub returns-in-Err-clause-err : goal.returns-in-Err-clause-err
-returns-in-Err-clause-err g c =
-    let old = c.args.self.now.mount in
-    let from = c.args.self.now.notifier in
-    let new = c.open_judged.new.self in
-    let back = c.cancel_open.new.self in
-    let ready = c.in_ok-prepared.ensures.ready in
-    stays old new from back c.in-Err.ensures.no_memory.states c.in-Err.ensures.no_memory.live
-    (λ s t. back-tracks (mount_upper old) s from back c.lawful-in-Err.ensures.known (c.cancel_open.ensures from ready.handle ready.readies) t)
+pub open_judged-requires-clause-attached : goal.open_judged-requires-clause-attached
+open_judged-requires-clause-attached g c =
+    c.prepare_open-prepared.ensures.attached.attached c.args.client ∙ c.requires.there
 
-pub opened_new-requires-clause-open : goal.opened_new-requires-clause-open
-opened_new-requires-clause-open g c =
-    let ready = c.in_ok-prepared.ensures.ready in (ready.handle, ready.readies.sets.here, ready.holds.object.here)
+pub open_judged-requires-clause-look : goal.open_judged-requires-clause-look
+open_judged-requires-clause-look g c =
+    subst (λ (l : Layers). IsLook l c.args.path.now c.args.look.now)
+    (sym (ap (λ (m : Mount). m.layers) c.prepare_open-prepared.ensures.only)) c.requires.look
 
-pub opened_new-requires-clause-vacant : goal.opened_new-requires-clause-vacant
-opened_new-requires-clause-vacant g c =
-    let client = c.args.client in
-    let fd = c.args.judged.descriptor in
-    let call : Call = Open c.args.path.now c.args.flags c.args.judged.mode in
-    let reply : Reply = Descriptor fd in
-    let old = c.args.self.now.mount in
-    let from = c.args.self.now.notifier in
-    let new = c.open_judged.new.self in
-    let said = c.in-Ok.ensures in
-    let ready = c.in_ok-prepared.ensures.ready in
-    let done : Performed client call reply old new = record { there = c.requires.there; serves = said.answers.serves; lowers = c.open_judged.ensures.lowers; named = said.answers.named; refused = said.answers.refused } in
-    made-vacant g.R.Rule.shows client c.args.path.now c.args.flags c.args.judged.mode call refl reply old new from done
-    c.requires.nothing c.lawful.ensures.known c.prepare_new-prepared.new.self
-    fd ready c.requires.judged.free c.key_opened-key.result c.key_opened-key.ensures
-    (λ e is. let no : Descriptor fd ≡ Refused e = is in cc) c.requires.state
+pub open_judged-requires-clause-judged : goal.open_judged-requires-clause-judged
+open_judged-requires-clause-judged g c =
+    judged-since c.args.self.now.mount c.prepare_open-prepared.new.self c.args.client
+    c.args.path.now c.args.flags c.args.judged
+    (ap (λ (m : Mount). m.layers) c.prepare_open-prepared.ensures.only)
+    c.prepare_open-prepared.ensures.opened c.requires.judged
 
-pub returns-in-Ok-clause-goes : goal.returns-in-Ok-clause-goes
-returns-in-Ok-clause-goes g c =
-    let client = c.args.client in
-    let fd = c.args.judged.descriptor in
-    let call : Call = Open c.args.path.now c.args.flags c.args.judged.mode in
-    let reply : Reply = Descriptor fd in
-    let old = c.args.self.now.mount in
-    let from = c.args.self.now.notifier in
-    let new = c.open_judged.new.self in
-    let said = c.in-Ok.ensures in
-    let ready = c.in_ok-prepared.ensures.ready in
-    let done : Performed client call reply old new = record { there = c.requires.there; serves = said.answers.serves; lowers = c.open_judged.ensures.lowers; named = said.answers.named; refused = said.answers.refused } in
-    goes-made g.R.Rule.shows client c.args.path.now c.args.flags c.args.judged.mode call refl reply old new from done
-    c.requires.nothing c.lawful.ensures.known c.prepare_new-prepared.new.self
-    fd ready c.requires.judged.free c.key_opened-key.result c.key_opened-key.ensures
-    (λ e is. let no : Descriptor fd ≡ Refused e = is in cc) c.opened_new.new.self c.lawful-in-Ok.ensures.known
-    (c.opened_new.ensures from c.args.path.now ready)
+pub open_judged-requires-clause-held : goal.open_judged-requires-clause-held
+open_judged-requires-clause-held g c n =
+    let more = c.in_ok-hold.ensures.beside n in
+    omega arith
 
-pub returns-in_err-prepared-clause-kept : goal.returns-in_err-prepared-clause-kept
-returns-in_err-prepared-clause-kept g c = keeps-same (Open c.args.path.now c.args.flags c.args.judged.mode) c.args.self.now.mount
+pub open_judged-requires-clause-there : goal.open_judged-requires-clause-there
+open_judged-requires-clause-there g c =
+    held-at c.args.self.now.mount c.prepare_open-prepared.new.self.clients c.args.path.now
+    c.args.judged.top object.Other c.in_ok-hold.hold c.requires.judged.top c.requires.nothing
+    c.in_ok-hold.ensures.holds
