@@ -1,5 +1,5 @@
 -- Calls of a mount whose clients hold otherwise before a call, or afterwards.
-use Rattle.std.proofs.Common.{◌≡◌, ℕ, Option, None, Some, Result, Ok, Err, sym, subst, ◌∙◌}
+use Rattle.std.proofs.Common.{◌≡◌, ℕ, Option, None, Some, Result, Ok, Err, sym, ap, subst, ◌∙◌}
 use Rattle.std.specs.declared.alloc.AllocError.{AllocError}
 use Rattle.ov_base.specs.Calls.{Call}
 use Rattle.ov_base.specs.declared.errno.Errno.{Errno}
@@ -9,7 +9,10 @@ use Rattle.plain_model.specs.Changes.{after}
 use Rattle.open_handles.specs.declared.clients.Clients.{Clients}
 use Rattle.open_handles.specs.Attaching.{KeepsAttached}
 use Rattle.mount_calls.specs.declared.mount.Mount.{Mount}
+use Rattle.merged_lookup.specs.declared.layers.Layers.{Layers}
+use Rattle.mount_calls.specs.Living.{KeepsNamed}
 use Rattle.mount_calls.specs.Making.{MakesCall}
+use Rattle.overlay_core.proofs.Performing.{Performed}
 use Rattle.mount_calls.specs.States.{IsStateOf, Serves, StaysState}
 
 -- the same clients are attached through two changes
@@ -89,3 +92,18 @@ pub makes-since : {c : ℕ} {k : Call} {new : Mount} {result : Result Reply Allo
 makes-since {c} {k} {new} {result} old first only kept stays m =
     makes-from old first.clients kept (λ s st. subst (λ x. IsStateOf x s) only (stays s st))
     (subst (λ x. MakesCall c k x new result) only m)
+
+-- what a mount performed it performed still where the clients hold otherwise afterwards
+pub performed-on : {c : ℕ} {k : Call} {r : Reply} {old : Mount} (mid new : Mount) →
+    new ≡ record mid { clients = new.clients } → StaysState mid new → Performed c k r old mid →
+    Performed c k r old new
+performed-on {c} {k} {r} {old} mid new only stays done =
+    let same : new.layers ≡ mid.layers = ap (λ (m : Mount). m.layers) only in
+    record {
+      there = done.there;
+      serves = λ s st. serves-on mid new stays _ s c k r (done.serves s st);
+      lowers = ap (λ (l : Layers). l.lowers) same ∙ done.lowers;
+      named = λ s st fine. subst (λ (l : Layers). KeepsNamed s c old.layers l k) (sym same)
+          (done.named s st fine);
+      refused = λ e is. same ∙ done.refused e is;
+    }

@@ -1,7 +1,8 @@
 -- Opens that are told: of what stands at a path, and of a file that is made there.
-use Rattle.std.proofs.Common.{◌≡◌, ◌≢◌, ℕ, Bool, true, List, None, Some, is_none, map, sym, ap, subst, ◌∙◌}
+use Rattle.std.proofs.Common.{◌≡◌, ◌≢◌, ◌∷◌, ℕ, Bool, true, false, List, None, Some, is_none, map, sym, ap, subst, ◌∙◌}
 use Rattle.std.specs.Option.{unwrap_or}
 use mathlib.Core.Logic.{∥∥₁_elim}
+use mathlib.Core.Bool.{Bool-set}
 use mathlib.Core.HLevel.{⊥_prop}
 use Rattle.ov_base.specs.Calls.{Call}
 use Rattle.ov_base.specs.declared.call.CallOf.TheVariants.{Open}
@@ -10,7 +11,7 @@ use Rattle.ov_base.specs.declared.errno.Errno.{Errno}
 use Rattle.ov_base.specs.declared.node_id.NodeId.{NodeId}
 use Rattle.ov_base.specs.declared.reply.Reply.{Reply}
 use Rattle.ov_base.specs.declared.reply.Reply.TheVariants.{Refused}
-use Rattle.plain_model.specs.Layers.{Layer, Path}
+use Rattle.plain_model.specs.Layers.{Layer, Path, is_directory, shows}
 use Rattle.plain_model.specs.Tree.{node_at, node_of}
 use Rattle.plain_model.specs.Watching.{Rule}
 use Rattle.plain_model.specs.Machine.{Live, State}
@@ -19,7 +20,7 @@ use Rattle.plain_model.specs.Changes.{after, opens, view_of}
 use Rattle.plain_model.specs.Runs.{Called}
 use Rattle.layer_tree.specs.Tree.{layer_of}
 use Rattle.merged_lookup.specs.Merged.{lowers_of}
-use Rattle.object_table.specs.Objects.{IsVacant, Upper}
+use Rattle.object_table.specs.Objects.{At, IsVacant, Upper, spot_of}
 use Rattle.notice_laws.specs.declared.object.Object.{Object}
 use Rattle.notice_laws.specs.declared.object.Object.TheVariants as object
 use Rattle.notice_laws.specs.Notified.{AreKnown, Notified, Passes, Resumes, Tracks}
@@ -33,7 +34,8 @@ use Rattle.open_handles.specs.declared.handle.Hold.{Hold}
 use Rattle.open_handles.specs.Holding.{HoldsNew}
 use Rattle.notifier.specs.Notifying.{notified}
 use Rattle.notifier.specs.Watches.{Watches}
-use Rattle.mount_calls.specs.Numbers.{HoldsFor, IsFree}
+use Rattle.mount_calls.specs.Numbers.{HoldsFor, IsFree, ShowsNoFolder}
+use Rattle.notice_laws.specs.Steps.{IsLifted}
 use Rattle.mount_calls.specs.declared.mount.Mount.{Mount}
 use Rattle.open_handles.specs.Attaching.{file_by}
 use Rattle.mount_calls.specs.Files.{key_in_upper as key_of}
@@ -122,6 +124,23 @@ module _ (rule : Rule) (c : ℕ) (p : Path) (f : OpenFlags) (mode : ℕ) (k : Ca
         let d = node-there s a in
         free-key U V L s c (Open p f mode) pass p (opened-touches s p f mode writes) (opened-file s c p f mode (ap is_none d.1))
         (opened-leads U V L s c p f mode pass d.0 d.1) held (held-tracks s a fine) key o stands (λ lower. found-there s a fine writes))
+
+    -- and it is shown as a file then, where it is held
+    pub opened-shown : ∥ HasState old from ∥₁ → f.writes ≡ true → o ≡ object.Lower → (n : ℕ) →
+        spot_of first.objects n ≡ Some (At p) → ShowsNoFolder new.layers p
+    opened-shown has writes lower n at =
+        ∥∥₁_elim has (Bool-set _ _) (λ (x : HasState old from).
+        let s = x.0 in
+        let a = x.1 in
+        let fine = allowed-by s c k r new (done.serves s a.stands) isnt in
+        let pass = open-passes s a fine in
+        let d = node-there s a in
+        let low = subst (λ y. IsLifted first.objects V L p y key) lower
+        (lifted-key U V L s c (Open p f mode) pass p (opened-touches s p f mode writes)
+        (opened-file s c p f mode (ap is_none d.1)) (opened-leads U V L s c p f mode pass d.0 d.1)
+        held (held-tracks s a fine) key o stands (λ lower. found-there s a fine writes)) in
+        subst (λ (ls : List Layer). is_directory (shows 0 (V ∷ ls) p) ≡ false)
+        (sym (ap (λ y. map layer_of y.items) done.lowers)) (ap is_directory (low n at).1.shown))
 
     -- told, it goes as the machine's
     pub goes-opened : (to : Watches) → AreKnown (notified new.clients to) →

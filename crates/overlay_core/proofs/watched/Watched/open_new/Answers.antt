@@ -15,7 +15,6 @@ use Rattle.overlay_core.proofs.Performing.{keeps-layers, on-err}
 use Rattle.overlay_core.proofs.Watching.{mount_upper, tracks-same}
 use Rattle.overlay_core.proofs.watched.Watched.open_new.Goals as goal
 
--- the layers stay as they were
 pub returns-in_err-hold-clause-err : goal.returns-in_err-hold-clause-err
 returns-in_err-hold-clause-err g c =
     let old = c.args.self.now.mount in
