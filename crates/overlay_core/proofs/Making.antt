@@ -11,8 +11,8 @@ use Rattle.plain_model.specs.Machine.{State}
 use Rattle.plain_model.specs.Runs.{Called}
 use Rattle.merged_lookup.specs.Merged.{lowers_of}
 use Rattle.notice_laws.specs.Notified.{Passes, Resumes, Tracks}
-use mathlib.Core.HLevel.{IsProp, is_prop→PathP}
-use mathlib.Core.Nat.{ℕ_set}
+use mathlib.Core.HLevel.{is_prop→PathP}
+use Rattle.std.proofs.Math.Nat.{ℕ_set}
 use Rattle.open_handles.specs.declared.clients.Clients.{Clients}
 use Rattle.open_handles.specs.Attaching.{beside}
 use Rattle.notifier.specs.Notifying.{AreCounted, notified, watchers}
