@@ -10,18 +10,7 @@ use Rattle.overlay_core.proofs.Waited.{none-waits}
 use Rattle.overlay_core.proofs.mounted.Core.attach.Goals as goal
 
 pub invariant_of-self : goal.invariant_of-self
-invariant_of-self g c =
-    let self = c.args.self.now in
-    record {
-      agrees = self.agrees;
-      begins = self.begins;
-      given = self.given;
-      short = self.short;
-      waits = none-waits self.watched.mount c.clear.new.self.items c.clear.ensures.items;
-      temps = self.temps;
-      blank = self.blank;
-      idle = self.idle;
-    }
+invariant_of-self g c = (c.args.self.now.watched.counted, tt)
 
 pub invariant_of-self-in-Break-1 : goal.invariant_of-self-in-Break-1
 invariant_of-self-in-Break-1 g c =
