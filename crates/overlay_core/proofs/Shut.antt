@@ -124,39 +124,39 @@ module _ (m : Mount) (from : Watches) (p : Path) (o : Object)
 
   -- WHAT HAS NO NUMBER no client has open
   shut-in : IsShut m.clients m.layers p
-  shut-in k named open =
-      by (opened_by m.clients open.client open.descriptor)
-      (handle_of s.tables open.client open.descriptor) open.opened
-      (a.stands.tables.slots open.client open.descriptor)
+  shut-in k named shut =
+      by (opened_by m.clients shut.client shut.descriptor)
+      (handle_of s.tables shut.client shut.descriptor) shut.opened
+      (a.stands.tables.slots shut.client shut.descriptor)
       (subst (λ x. IsSlotOn m.clients.objects a.tracks.bearers x
-      (handle_of s.tables open.client open.descriptor))
-      (tracked-read m.clients.attached open.client open.descriptor)
-      (a.tracks.slots open.client open.descriptor))
+      (handle_of s.tables shut.client shut.descriptor))
+      (tracked-read m.clients.attached shut.client shut.descriptor)
+      (a.tracks.slots shut.client shut.descriptor))
     where
-      kind : (h : handles.Handle) (x : On) → h.on ≡ x → file_in (Some h) ≡ Some open.file →
-          h.on ≡ File open.file
+      kind : (h : handles.Handle) (x : On) → h.on ≡ x → file_in (Some h) ≡ Some shut.file →
+          h.on ≡ File shut.file
       kind h (Directory listing) on is =
-          let no : None ≡ Some open.file = sym (ap file_on on) ∙ is in absurd (cc)
+          let no : None ≡ Some shut.file = sym (ap file_on on) ∙ is in absurd (cc)
       kind h (File f) on is =
-          let one : Some f ≡ Some open.file = sym (ap file_on on) ∙ is in
-          let same : f ≡ open.file = cc in on ∙ ap File same
+          let one : Some f ≡ Some shut.file = sym (ap file_on on) ∙ is in
+          let same : f ≡ shut.file = cc in on ∙ ap File same
 
-      by : (o : Option handles.Handle) (x : Option Handle) → file_in o ≡ Some open.file →
+      by : (o : Option handles.Handle) (x : Option Handle) → file_in o ≡ Some shut.file →
           IsSlot (IsOpenAs U L s.tree m.clients.objects.tree) o x →
           IsSlotOn m.clients.objects a.tracks.bearers (tracked_in o) x → ⊥
-      by None x is alike tracked = let no : None ≡ Some open.file = is in cc
+      by None x is alike tracked = let no : None ≡ Some shut.file = is in cc
       by (Some h) None is alike tracked = alike
       by (Some h) (Some g) is alike tracked =
-          no-handle h g open.file k (kind h h.on refl is) open.key named alike tracked
+          no-handle h g shut.file k (kind h h.on refl is) shut.key named alike tracked
 
 -- so it is where the state isn't told
 pub is-shut : (m : Mount) (from : Watches) (p : Path) (o : Object) →
     IsObject (mount_upper m) (lowers_of m.layers) p o → (number : Option ℕ) →
     IsNumberOf m.clients.objects p o number → ∥ HasState m from ∥₁ → number ≡ None →
     IsShut m.clients m.layers p
-is-shut m from p o stands number is has none k named open =
+is-shut m from p o stands number is has none k named shut =
     ∥∥₁_elim has ⊥_prop (λ (x : HasState m from).
-    shut-in m from p o stands (subst (IsNumberOf m.clients.objects p o) none is) x.0 x.1 k named open)
+    shut-in m from p o stands (subst (IsNumberOf m.clients.objects p o) none is) x.0 x.1 k named shut)
 
 -- WHERE NO NAME IS SHOWN nothing is held below
 pub empty-bare : (m : Mount) (from : Watches) (p : Path) → ∥ HasState m from ∥₁ →

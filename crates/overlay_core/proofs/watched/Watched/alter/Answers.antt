@@ -74,8 +74,6 @@ lift-requires g c =
     let path = c.args.path.now in
     let call = call_at path c.args.call in
     let asks = asked-alters path c.args.call in
-    let numbered = (c.known_at-known.result.number, c.known_at-known.ensures.number) in
-    let entered = (c.known_at-known.result.way, c.known_at-known.ensures.way) in
     let object = c.object_seen-object.result in
     let key = c.in_ok-key.key in
     let spots : SameSpots old.clients.objects mid.clients.objects =
@@ -89,18 +87,18 @@ lift-requires g c =
     let free = lifts-free shows client (call_at c.args.path.now c.args.call) old mid from done path (λ t. altered-touches t path call asks) (λ t. altered-file t client path call asks) (λ t. altered-leads (mount_upper old) (mount_upper mid) (lowers_of old.layers) t client path call asks) object
     stands key found c.requires.state in
     let room = subst (λ (x : Clients). HasRoom x.objects path object)
-    (sym c.alter.ensures.clients) (c.in_ok-prepare_lift.ensures.room path numbered.1) in
+    (sym c.alter.ensures.clients) (c.in_ok-prepare_lift.ensures.room path c.known_at-known.ensures.number) in
     (
       path,
-      number-same old.clients.objects mid.clients.objects path object numbered.0 spots numbered.1,
+      number-same old.clients.objects mid.clients.objects path object c.known_at-known.result.number spots c.known_at-known.ensures.number,
       (room, free-same old.clients.objects mid.clients.objects path object key spots free),
       λ n lower is. lifts-shown shows client (call_at c.args.path.now c.args.call) old mid from done path (λ t. altered-touches t path call asks) (λ t. altered-file t client path call asks) (λ t. altered-leads (mount_upper old) (mount_upper mid) (lowers_of old.layers) t client path call asks)
           object stands key found c.requires.state lower n
-          (at-lower old.clients.objects path object numbered.0 n lower is numbered.1),
+          (at-lower old.clients.objects path object c.known_at-known.result.number n lower is c.known_at-known.ensures.number),
     )
 
-pub altered-requires-clause-counted : goal.altered-requires-clause-counted
-altered-requires-clause-counted g c =
+pub altered-requires : goal.altered-requires
+altered-requires g c =
     let old = c.args.self.now.mount in
     let from = c.args.self.now.notifier in
     let first = c.prepare_lift.new.self in
@@ -130,8 +128,6 @@ returns g c =
     let path = c.args.path.now in
     let call = call_at path c.args.call in
     let asks = asked-alters path c.args.call in
-    let numbered = (c.known_at-known.result.number, c.known_at-known.ensures.number) in
-    let entered = (c.known_at-known.result.way, c.known_at-known.ensures.way) in
     let object = c.object_seen-object.result in
     let key = c.in_ok-key.key in
     let spots : SameSpots old.clients.objects mid.clients.objects =
@@ -156,14 +152,14 @@ returns g c =
     (lifts-key shows client (call_at c.args.path.now c.args.call) old new from done path (λ t. altered-touches t path call asks) (λ t. altered-file t client path call asks) (λ t. altered-leads (mount_upper old) (mount_upper new) (lowers_of old.layers) t client path call asks) object stands
     key found s a passes) a.tracks
     (known clients to lawful.known lawful.counted told.counted) (record {
-      number = numbered.0;
-      found = numbered.1;
-      way = entered.0;
-      entered = entered.1;
+      number = c.known_at-known.result.number;
+      found = c.known_at-known.ensures.number;
+      way = c.known_at-known.result.way;
+      entered = c.known_at-known.ensures.way;
       tells = lifted-told shows old.clients mid.clients lifted.clients clients from to _
           (same-fewer old.clients.objects mid.clients.objects spots)
           (c.lift.ensures.lifted path (number-same old.clients.objects mid.clients.objects path
-          object numbered.0 spots numbered.1)) told;
+          object c.known_at-known.result.number spots c.known_at-known.ensures.number)) told;
       handles = same-tracked old.clients clients (keeps-then old.clients lifted.clients clients
           (keeps-then old.clients mid.clients lifted.clients kept c.lift.ensures.clients)
           told.ends.clients);

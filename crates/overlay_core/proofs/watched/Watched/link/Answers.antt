@@ -72,7 +72,6 @@ lift-requires g c =
     let mid = c.give_name.new.self in
     let p = c.args.old.now in
     let q = c.args.new.now in
-    let numbered = (c.number_of-number.result, c.number_of-number.ensures) in
     let object = c.object_seen-object.result in
     let key = c.in_ok-key.key in
     let spots : SameSpots old.clients.objects mid.clients.objects =
@@ -86,18 +85,18 @@ lift-requires g c =
     let free = lifts-free shows client (Hardlink c.args.old.now c.args.new.now) old mid from done p (λ t. refl) (λ t. linked-file t client p q) (λ t. linked-leads (mount_upper old) (mount_upper mid) (lowers_of old.layers) t client p q) object
     stands key found c.requires.state in
     let room = subst (λ (x : Clients). HasRoom x.objects p object)
-    (sym c.give_name.ensures.clients) (c.in_ok-prepare_lift.ensures.room p numbered.1) in
+    (sym c.give_name.ensures.clients) (c.in_ok-prepare_lift.ensures.room p c.number_of-number.ensures) in
     (
       p,
-      number-same old.clients.objects mid.clients.objects p object numbered.0 spots numbered.1,
+      number-same old.clients.objects mid.clients.objects p object c.number_of-number.result spots c.number_of-number.ensures,
       (room, free-same old.clients.objects mid.clients.objects p object key spots free),
       λ n lower is. lifts-shown shows client (Hardlink c.args.old.now c.args.new.now) old mid from done p (λ t. refl) (λ t. linked-file t client p q) (λ t. linked-leads (mount_upper old) (mount_upper mid) (lowers_of old.layers) t client p q)
           object stands key found c.requires.state lower n
-          (at-lower old.clients.objects p object numbered.0 n lower is numbered.1),
+          (at-lower old.clients.objects p object c.number_of-number.result n lower is c.number_of-number.ensures),
     )
 
-pub linked-requires-clause-counted : goal.linked-requires-clause-counted
-linked-requires-clause-counted g c =
+pub linked-requires : goal.linked-requires
+linked-requires g c =
     let old = c.args.self.now.mount in
     let from = c.args.self.now.notifier in
     let first = c.prepare_lift.new.self in
@@ -126,7 +125,6 @@ returns g c =
     let lawful = c.lawful-2.ensures in
     let p = c.args.old.now in
     let q = c.args.new.now in
-    let numbered = (c.number_of-number.result, c.number_of-number.ensures) in
     let object = c.object_seen-object.result in
     let key = c.in_ok-key.key in
     let spots : SameSpots old.clients.objects mid.clients.objects =
@@ -151,14 +149,14 @@ returns g c =
     (lifts-key shows client (Hardlink c.args.old.now c.args.new.now) old new from done p (λ t. refl) (λ t. linked-file t client p q) (λ t. linked-leads (mount_upper old) (mount_upper new) (lowers_of old.layers) t client p q) object stands
     key found s a passes) a.tracks
     (known clients to lawful.known lawful.counted told.counted) (record {
-      number = numbered.0;
-      found = numbered.1;
+      number = c.number_of-number.result;
+      found = c.number_of-number.ensures;
       way = c.way_to-way.result;
       entered = c.way_to-way.ensures;
       tells = lifted-told shows old.clients mid.clients lifted.clients clients from to _
           (same-fewer old.clients.objects mid.clients.objects spots)
           (c.lift.ensures.lifted p (number-same old.clients.objects mid.clients.objects p
-          object numbered.0 spots numbered.1)) told;
+          object c.number_of-number.result spots c.number_of-number.ensures)) told;
       handles = same-tracked old.clients clients (keeps-then old.clients lifted.clients clients
           (keeps-then old.clients mid.clients lifted.clients kept c.lift.ensures.clients)
           told.ends.clients);

@@ -132,8 +132,8 @@ lift_opened-requires g c = λ writes.
           (at-lower first.clients.objects path object (Some hold.object) n lower is numbered),
     )
 
-pub opened-requires-clause-counted : goal.opened-requires-clause-counted
-opened-requires-clause-counted g c =
+pub opened-requires : goal.opened-requires
+opened-requires g c =
     let old = c.args.self.now.mount.clients in
     let first = c.prepare_open-prepared.new.self.clients in
     let mid = c.open_judged.new.self.clients in

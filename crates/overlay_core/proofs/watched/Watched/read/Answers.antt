@@ -70,3 +70,11 @@ returns-clause-performs g c =
           rw w.self-is (performs-told made (goes-unread shows client k reply old mid from done holds d count refl
           (λ bytes answer. absurd (w.in_default.not-Read bytes answer))) (λ is. tt))
     ]
+
+pub invariant_of-self-then-not-is_empty : goal.invariant_of-self-then-not-is_empty
+invariant_of-self-then-not-is_empty g c =
+    let there = open-after g.R.Rule.shows c.args.client (Read c.args.descriptor c.args.count) c.in_ok-reply.reply
+    c.args.self.now.mount c.read.new.self c.args.self.now.notifier
+    (performed-by c.requires.there c.in_ok-reply.ensures.makes) c.read.ensures.holds
+    c.args.descriptor (λ e refused. let z = sym c.in-Read.is ∙ refused in cc) (λ s fine. read-open c.args.client c.args.descriptor c.args.count s fine) c.requires.state in
+    record { counted = (c.used.ensures.told there.0 there.1).counted }

@@ -79,3 +79,11 @@ returns-else-count-gt0-clause-performs g c =
     c.read_into.new.self c.args.self.now.notifier (performed-by c.requires.there made)
     c.read_into.ensures.holds d n refl
     (λ bytes answer. sym (same-bytes (take count room) bytes answer) ∙ front-none count room (omega (arith, none)))) (λ is. tt)
+
+pub invariant_of-self-then-count-gt0 : goal.invariant_of-self-then-count-gt0
+invariant_of-self-then-count-gt0 g c =
+    let there = open-after g.R.Rule.shows c.args.client (Read c.args.descriptor (length c.args.room.now)) (reply.Read (take c.in-Ok.count c.read_into.new.room))
+    c.args.self.now.mount c.read_into.new.self c.args.self.now.notifier
+    (performed-by c.requires.there c.in-Ok.ensures.makes) c.read_into.ensures.holds
+    c.args.descriptor (λ e refused. cc) (λ s fine. read-open c.args.client c.args.descriptor (length c.args.room.now) s fine) c.requires.state in
+    record { counted = (c.used.ensures.told there.0 there.1).counted }

@@ -28,8 +28,8 @@ returns-in_err-rmdir g c =
     c.in_err-rmdir.ensures.err) refl (c.in_err-rmdir.ensures.makes c.args.client)
     c.from_residual.result c.from_residual.ensures.0
 
-pub removed-requires-clause-counted : goal.removed-requires-clause-counted
-removed-requires-clause-counted g c =
+pub removed-requires : goal.removed-requires
+removed-requires g c =
     counts-on c.args.self.now.mount.clients c.rmdir.new.self.clients c.args.self.now.notifier
     c.rmdir.ensures.beside c.args.self.now.counted
 

@@ -69,3 +69,11 @@ returns-clause-performs g c =
           rw w.self-is (performs-told made (goes-refused shows client k reply old mid from done holds d refl
           (λ s at. w.in_default.not-Done at)) (λ is. tt))
     ]
+
+pub invariant_of-self-in-Done : goal.invariant_of-self-in-Done
+invariant_of-self-in-Done g c =
+    let there = open-after g.R.Rule.shows c.args.client (Truncate c.args.descriptor c.args.size) c.in_ok-reply.reply
+    c.args.self.now.mount c.truncate.new.self c.args.self.now.notifier
+    (performed-by c.requires.there c.in_ok-reply.ensures.makes) (holds-same c.args.self.now.mount.clients c.truncate.new.self.clients c.truncate.ensures.clients)
+    c.args.descriptor (λ e refused. let z = sym c.in-Done.is ∙ refused in cc) (λ s fine. truncate-open c.args.client c.args.descriptor c.args.size s fine) c.requires.state in
+    record { counted = (c.used.ensures.told there.0 there.1).counted }

@@ -76,8 +76,8 @@ lose_name-requires-clause-lost g c =
           (lowers_of old.layers) c.args.client path passes),
     )
 
-pub unlinked-requires-clause-counted : goal.unlinked-requires-clause-counted
-unlinked-requires-clause-counted g c =
+pub unlinked-requires : goal.unlinked-requires
+unlinked-requires g c =
     let old = c.args.self.now.mount in
     let mid = c.unlink.new.self in
     counts-on mid.clients c.lose_name.new.self.clients c.args.self.now.notifier

@@ -70,3 +70,11 @@ returns-clause-performs g c =
           rw w.self-is (performs-told made (goes-refused shows client k reply old mid from done holds d refl
           (λ s at. w.in_default.not-Written _ at)) (λ is. tt))
     ]
+
+pub invariant_of-self-then-not-is_empty : goal.invariant_of-self-then-not-is_empty
+invariant_of-self-then-not-is_empty g c =
+    let there = open-after g.R.Rule.shows c.args.client (Write c.args.descriptor c.args.bytes.now) c.in_ok-reply.reply
+    c.args.self.now.mount c.write.new.self c.args.self.now.notifier
+    (performed-by c.requires.there c.in_ok-reply.ensures.makes) c.write.ensures.holds
+    c.args.descriptor (λ e refused. let z = sym c.in-Written.is ∙ refused in cc) (λ s fine. write-open c.args.client c.args.descriptor c.args.bytes.now s fine) c.requires.state in
+    record { counted = (c.used.ensures.told there.0 there.1).counted }
