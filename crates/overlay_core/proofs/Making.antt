@@ -14,7 +14,8 @@ use Rattle.notice_laws.specs.Notified.{Passes, Resumes, Tracks}
 use mathlib.Core.HLevel.{is_prop→PathP}
 use Rattle.std.proofs.Math.Nat.{ℕ_set}
 use Rattle.open_handles.specs.declared.clients.Clients.{Clients}
-use Rattle.notifier.specs.Notifying.{AreCounted, notified}
+use Rattle.open_handles.specs.Attaching.{beside}
+use Rattle.notifier.specs.Notifying.{AreCounted, notified, watchers}
 use Rattle.notifier.specs.Watches.{Watches}
 use Rattle.notice_laws.specs.Steps.{IsSilent, keeps_handles}
 use Rattle.mount_calls.specs.declared.mount.Mount.{Mount}
@@ -35,7 +36,7 @@ use Rattle.watch_table.specs.declared.hook.Rule.{Ghosts as Ruled}
 
 -- what is counted has one proof at most
 counted-prop : (clients : Clients) (k : Watches) → IsProp (AreCounted clients k)
-counted-prop clients k = Prim.hlevel
+counted-prop clients k x y = λ i n. ℕ_set (beside clients n) (watchers k.instances n) (x n) (y n) i
 
 -- a mount with watches is told by its parts
 pub same-watched : {F G : Type 0} {asks : Callback F} {rule : Ruled G}
