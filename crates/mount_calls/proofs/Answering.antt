@@ -1,6 +1,10 @@
 -- The mount answers each call as the machine does.
 use Rattle.std.proofs.Common.{arith, ◌≡◌, ℕ, ◌+◌, true, min, List, Option, None, Some, Result, Ok, Err, refl, sym, ap, ◌∙◌, subst, is_some, length, take, drop}
-use Rattle.mount_calls.proofs.Words.{after, AllocError, Apart, At, Call, Directory, directory_in, Errno, File, GivesNames, Handle, handle_of, is_directory, Layer, Location, Name, OnErr, OpenDirectory, option_and_then, or_else, parents_fault, Path, refusal, Reply, reply_of, SetsSlot, Shown, shows, Stat, State, with_listing}
+use Rattle.mount_calls.proofs.Words.{after, AllocError, Apart, At, Call, Directory, directory_in}
+use Rattle.mount_calls.proofs.Words.{Errno, File, GivesNames, Handle, handle_of, is_directory}
+use Rattle.mount_calls.proofs.Words.{Layer, Location, Name, OnErr, OpenDirectory, option_and_then}
+use Rattle.mount_calls.proofs.Words.{or_else, parents_fault, Path, refusal, Reply, reply_of}
+use Rattle.mount_calls.proofs.Words.{SetsSlot, Shown, shows, Stat, State, with_listing}
 use Rattle.std.specs.Option.{unwrap_or}
 use Rattle.std.proofs.lemmas.List.{drop_min, drop-drop}
 use Rattle.ov_base.specs.declared.call.CallOf.TheVariants as call
@@ -26,7 +30,9 @@ use Rattle.mount_calls.specs.Opening.{list_fault, list_fault_on}
 use Rattle.mount_calls.specs.Status.{stat_at, stat_shown, unless_refused}
 use Rattle.mount_calls.specs.States.{IsLeft, Stands, IsHandle, IsStateOf, StaysState, Serves, AreNamesIn, AreLeft, Pages}
 use Rattle.mount_calls.proofs.Directories.{Turns, shown-directory, turns}
-use Rattle.mount_calls.proofs.Slots.{as-directory, by-opened, changes-as, directory-at, directory-no-file, directory-open, listed-directory, opened-after, slot-becomes, state-set}
+use Rattle.mount_calls.proofs.Slots.{as-directory, by-opened, changes-as, directory-at}
+use Rattle.mount_calls.proofs.Slots.{directory-no-file, directory-open, listed-directory}
+use Rattle.mount_calls.proofs.Slots.{opened-after, slot-becomes, state-set}
 use Rattle.mount_calls.proofs.Stating.{the_layers, the_lowers, the_upper, keep-state}
 
 -- a refusal answers as the machine does, where it refuses so
@@ -112,7 +118,8 @@ module _ (m : Mount) (s : State) (st : IsStateOf m s) (c : ℕ) where
   -- why a list is refused, told by what is open
   refused-list : (d n : ℕ) → refusal s c (call.ListNames d n) ≡ list_fault (opened_by m.clients c d) n
   refused-list d n =
-      by-opened m s st c d (λ o. refusal s c (call.ListNames d n) ≡ list_fault o n) (λ none. grind arith)
+      by-opened m s st c d (λ o. refusal s c (call.ListNames d n) ≡ list_fault o n)
+      (λ none. grind arith)
       (λ k way f h on is. grind arith) (λ k way listing h on is. grind arith)
 
   -- where that isn't there it isn't refused
@@ -131,12 +138,17 @@ module _ (m : Mount) (s : State) (st : IsStateOf m s) (c : ℕ) where
       (list-allowed d n good)
       (ap reply.Names (pages.next ∙ ap (take n) left) ∙ sym (law.answer n))
       (subst (IsStateOf new) (sym (law.state n))
-      (state-set m s st c d h x.1 new pages.layers pages.redirects pages.metacopy pages.limit (Some then) (listed_on s.tree n (Some h)) set
-      (λ f g k is on. let no : None ≡ Some f = sym (directory-no-file (Some then) _ leads) ∙ is in absurd (cc))
-      (as-directory (the_upper m) (the_lowers m) s.tree new.clients.objects.tree then (record o { listing = Some (drop n pages.left) }) _ leads
+      (state-set m s st c d h x.1 new pages.layers pages.redirects pages.metacopy pages.limit
+      (Some then) (listed_on s.tree n (Some h)) set
+      (λ f g k is on. let no : None ≡ Some f = sym (directory-no-file (Some then) _ leads) ∙ is in
+      absurd (cc))
+      (as-directory (the_upper m) (the_lowers m) s.tree new.clients.objects.tree then
+      (record o { listing = Some (drop n pages.left) }) _ leads
       (record {
         location = x.2.location;
-        located = pages.changes.places c d _ x.2.location (ap directory_in (opened-after m.clients new.clients c d then set) ∙ leads) x.2.located;
+        located =
+            pages.changes.places c d _ x.2.location (ap directory_in
+            (opened-after m.clients new.clients c d then set) ∙ leads) x.2.located;
         stands = x.2.stands;
         directory = x.2.directory;
         access = ap (λ (z : Handle). record z { listed = Some now; place = min (length now) (h.place + n) }) x.2.access;
@@ -146,7 +158,8 @@ module _ (m : Mount) (s : State) (st : IsStateOf m s) (c : ℕ) where
       o : OpenDirectory
       o = pages.directory
 
-      led : (z : handles.Handle) × (opened_by m.clients c d ≡ Some z) × (directory_in (Some z) ≡ Some o)
+      led : (z : handles.Handle) × (opened_by m.clients c d ≡ Some z) × (directory_in
+          (Some z) ≡ Some o)
       led = directory-open (opened_by m.clients c d) o pages.was
 
       -- what the descriptor leads to then
@@ -154,7 +167,8 @@ module _ (m : Mount) (s : State) (st : IsStateOf m s) (c : ℕ) where
       then = with_listing (Some (drop n pages.left)) led.0
 
       set : ChangesClient m.clients new.clients c (λ z y. SetsSlot z y d (Some then))
-      set = slot-becomes m.clients new.clients c d led.0 (with_listing (Some (drop n pages.left))) led.1 pages.changes
+      set = slot-becomes m.clients new.clients c d led.0 (with_listing (Some (drop n pages.left)))
+          led.1 pages.changes
 
       leads : directory_in (Some then) ≡ Some (record o { listing = Some (drop n pages.left) })
       leads = listed-directory led.0 o (Some (drop n pages.left)) led.2

@@ -1,7 +1,10 @@
 -- Open files through changes of the layers and of the tree.
-use Rattle.std.proofs.Common.{◌≡◌, ℕ, Bool, true, false, List, Option, None, Some, refl, sym, ap, ◌∙◌, subst}
+use Rattle.std.proofs.Common.{◌≡◌, ℕ, Bool, true, false, List, Option, None, Some, refl, sym, ap}
+use Rattle.std.proofs.Common.{◌∙◌, subst}
 use Rattle.merged_lookup.specs.Merged.{upper_of}
-use Rattle.mount_calls.proofs.Words.{after, Call, Dentries, Directory, directory_in, File, file_in, Handle, handle_of, IsLive, IsMountOf, Layer, Layers, lowers_of, NodeId, OpenDirectory, OpenFile, State, Table, Tree, Upper}
+use Rattle.mount_calls.proofs.Words.{after, Call, Dentries, Directory, directory_in, File, file_in}
+use Rattle.mount_calls.proofs.Words.{Handle, handle_of, IsLive, IsMountOf, Layer, Layers, lowers_of}
+use Rattle.mount_calls.proofs.Words.{NodeId, OpenDirectory, OpenFile, State, Table, Tree, Upper}
 use Rattle.plain_model.specs.Tree.{IsKept, is_data_low}
 use Rattle.plain_model.specs.Changes.{is_held}
 use Rattle.plain_model.proofs.OwnBytes.{OwnsAlso, law_of_own}
@@ -12,7 +15,7 @@ use Rattle.open_handles.specs.declared.clients.Clients.{Clients}
 use Rattle.mount_calls.specs.declared.mount.Mount.{Mount}
 use Rattle.open_handles.specs.declared.handle.On.{On}
 use Rattle.open_handles.specs.Listings.{directory_on, file_on}
-use Rattle.open_handles.specs.Attaching.{file_by, opened_by, HasFile}
+use Rattle.open_handles.specs.Attaching.{file_by, opened_by}
 use Rattle.mount_calls.specs.Files.{is_leaf, IsFile}
 use Rattle.mount_calls.specs.Living.{StaysLive, KeepsLive, KeepsHeldFrom}
 use Rattle.mount_calls.specs.States.{IsHandle, IsOpenAs, IsOpenOnAs, IsSlot, AreTables, IsStateOf}
@@ -45,19 +48,23 @@ module _ (U V : Layer) (lowers : List Layer) (t u : Tree) where
 
   -- and what a descriptor leads to is what it was
   pub open-on : (ds es : Dentries) (o : handles.Handle) (h : Handle) →
-      ((d : OpenDirectory) → directory_in (Some o) ≡ Some d → IsHandle t ds d h → IsHandle u es d h) →
+      ((d : OpenDirectory) → directory_in (Some o) ≡ Some d → IsHandle t ds d h →
+      IsHandle u es d h) →
       ((f : OpenFile) → file_in (Some o) ≡ Some f → IsFile U lowers t f h → IsFile V lowers u f h) →
       IsOpenAs U lowers t ds o h → IsOpenAs V lowers u es o h
   open-on ds es o h directory file is = by o.on refl is
     where
-      by : (on : On) → o.on ≡ on → IsOpenOnAs U lowers t ds o.object on h → IsOpenOnAs V lowers u es o.object on h
+      by : (on : On) → o.on ≡ on → IsOpenOnAs U lowers t ds o.object on h →
+          IsOpenOnAs V lowers u es o.object on h
       by (Directory listing) e x =
-          directory (record { directory = o.object; listing = listing }) (ap (directory_on o.object) e) x
+          directory (record { directory = o.object; listing = listing })
+          (ap (directory_on o.object) e) x
       by (File f) e x = file f (ap file_on e) x
 
 -- each open file of the upper stays live, each node on which a handle is open stays a file, and bytes of a node's own stay so
 pub record CarriesFiles (U V : Layer) (t u : Tree) (clients : Clients) (ks : List Table) : Type 0 where
-  pub live : (c fd : ℕ) (f : OpenFile) (h : Handle) (k : ℕ) → file_by clients c fd ≡ Some f → handle_of ks c fd ≡ Some h → f.source ≡ Upper k → IsLive U t h.node k → IsLive V u h.node k
+  pub live : (c fd : ℕ) (f : OpenFile) (h : Handle) (k : ℕ) → file_by clients c fd ≡ Some f →
+      handle_of ks c fd ≡ Some h → f.source ≡ Upper k → IsLive U t h.node k → IsLive V u h.node k
   pub leaves : (c fd : ℕ) (h : Handle) → handle_of ks c fd ≡ Some h → is_leaf (t h.node) ≡ true → is_leaf (u h.node) ≡ true
   pub owns : OwnsAlso t u
 
@@ -84,7 +91,8 @@ module _ (old new : Layers) where
           subst (λ (Ls : List Layer). IsOpenAs V Ls u es o h) (sym (lowers-same old new lowers))
           (open-on U V (lowers_of old) t u clients.objects.tree es o h
           (λ d is. directories c fd d h g)
-          (λ f is file. file-on U V (lowers_of old) t u f h file (λ k key. files.live c fd f h k (ap file_in e ∙ is) g key) (files.leaves c fd h g) (files.owns h.node))
+          (λ f is file. file-on U V (lowers_of old) t u f h file (λ k key. files.live c fd f h k
+          (ap file_in e ∙ is) g key) (files.leaves c fd h g) (files.owns h.node))
           s)
 
   -- other layers in which live files stay live
@@ -101,9 +109,12 @@ module _ (old new : Layers) where
     }
 
     -- a call through which those stay so that a handle holds
-    pub files-held : KeepsHeldFrom s c clients old new k → KeepsHeldLeaves k → CarriesFiles U V s.tree (after s c k).tree clients s.tables
+    pub files-held : KeepsHeldFrom s c clients old new k → KeepsHeldLeaves k →
+        CarriesFiles U V s.tree (after s c k).tree clients s.tables
     files-held live leaves = record {
-      live = λ b fd f h j at on key. live h.node j (record { client = b; descriptor = fd; file = f; opened = at; key = key }) (held-by s.tables b fd h on);
+      live = λ b fd f h j at on key. live h.node j
+          (record { client = b; descriptor = fd; file = f; opened = at; key = key })
+          (held-by s.tables b fd h on);
       leaves = λ b fd h on. leaves s mounts.kept c h.node (held-by s.tables b fd h on);
       owns = law_of_own s c k;
     }

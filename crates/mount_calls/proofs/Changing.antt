@@ -1,12 +1,20 @@
 -- The calls that change the layers: what becomes of open directories, and the machine's steps.
-use Rattle.std.proofs.Common.{arith, ◌≡◌, ◌≢◌, ℕ, ◌<◌, Bool, true, false, cond, List, [], ◌∷◌, ◌++◌, Option, None, Some, Result, Ok, IsSome, refl, sym, ap, ◌∙◌, subst, inl, inr}
+use Rattle.std.proofs.Common.{arith, ◌≡◌, ◌≢◌, ℕ, Bool, true, false, not, cond, List, ◌∷◌, Option}
+use Rattle.std.proofs.Common.{None, Some, Ok, refl, sym, ap, ◌∙◌, subst, inl, inr}
 use Rattle.merged_lookup.specs.Merged.{upper_of}
-use Rattle.mount_calls.proofs.Words.{after, AllocError, Apart, At, Attributes, base, Call, cases_eq, change, Dentries, Descriptors, Directory, Errno, false≢true, folder_attributes, Handle, handle_of, is_directory, is_folder, IsMountOf, Layer, Layers, Location, lowers_of, made_way, MountOptions, Name, nat_cmp, New, Node, node_at, NodeId, OnErr, OpenDirectory, option_and_then, option_map, or_else, over_node, Path, put, refusal, Removes, reply_of, shows, State, StaysMount, Table, Tree, way_of, when}
+use Rattle.mount_calls.proofs.Words.{after, Apart, At, Attributes, base, Call, cases_eq, change}
+use Rattle.mount_calls.proofs.Words.{Dentries, Descriptors, Errno, false≢true, folder_attributes}
+use Rattle.mount_calls.proofs.Words.{Handle, handle_of, is_folder, IsMountOf, Layer, Layers}
+use Rattle.mount_calls.proofs.Words.{Location, lowers_of, made_way, MountOptions, Name, nat_cmp}
+use Rattle.mount_calls.proofs.Words.{New, Node, node_at, NodeId, OpenDirectory, option_and_then}
+use Rattle.mount_calls.proofs.Words.{option_map, or_else, over_node, Path, put, refusal, Removes}
+use Rattle.mount_calls.proofs.Words.{reply_of, shows, State, Table, Tree, way_of, when}
 use Rattle.std.specs.BTreeMap.{get}
 use Rattle.ov_base.specs.declared.call.CallOf.TheVariants as call
-use Rattle.ov_base.specs.declared.errno.Errno.TheVariants.{EBUSY, EISDIR}
+use Rattle.ov_base.specs.declared.errno.Errno.TheVariants.{EBUSY, EISDIR, ENOTDIR, ENOTEMPTY}
 use Rattle.ov_base.specs.declared.reply.Reply.TheVariants as reply
 use Rattle.plain_model.specs.Layers.{same_path}
+use Rattle.plain_model.specs.Machine.{is_root}
 use Rattle.plain_model.specs.Tree.{with_name}
 use Rattle.plain_model.specs.Changes.{lead_way, one_more}
 use Rattle.plain_model.proofs.Paths.{ids_tell, paths_tell}
@@ -35,13 +43,14 @@ use Rattle.mount_calls.specs.Altering.{AltersUnless}
 use Rattle.mount_calls.specs.AttributeCalls.{asked_fault, call_at}
 use Rattle.mount_calls.specs.Removing.{HasAttributes}
 use Rattle.mount_calls.specs.Files.{AreOne}
-use Rattle.mount_calls.specs.Living.{StaysLive, KeepsLive, KeepsHeld}
-use Rattle.mount_calls.specs.States.{Stands, IsHandle, AreTables, IsStateOf, StaysState, Serves}
-use Rattle.mount_calls.proofs.Answering.{on-err, serve-refused, serve-done}
+use Rattle.mount_calls.specs.Living.{KeepsLive, KeepsHeld}
+use Rattle.mount_calls.specs.States.{Stands, IsHandle, AreTables, IsStateOf, Serves}
+use Rattle.mount_calls.proofs.Answering.{serve-refused, serve-done}
 use Rattle.mount_calls.proofs.AttributeCalls.{leaves-asked, refusal-asked, still-asked}
 use Rattle.mount_calls.proofs.Serving.{handle-now, open-before, one-fewer}
 use Rattle.mount_calls.proofs.Stating.{the_layers, the_lowers, the_upper, Alike}
-use Rattle.mount_calls.proofs.Carrying.{KeepsLeaves, KeepsHeldLeaves, CarriesFiles, tables-on, state-stays, files-kept, files-held}
+use Rattle.mount_calls.proofs.Carrying.{KeepsLeaves, KeepsHeldLeaves, CarriesFiles, tables-on}
+use Rattle.mount_calls.proofs.Carrying.{files-kept, files-held}
 use Rattle.mount_calls.proofs.Directories.{seen, shown-attributes, shown-directory}
 
 -- a directory with another name in it is one still
@@ -84,6 +93,12 @@ module _ (t u : Tree) (stays : (q : Path) (d : NodeId) → node_at t q ≡ Some 
 unlinked-none : (root : Bool) (w : Option Errno) (d : Bool) → or_else (when root EBUSY) (or_else w (when d EISDIR)) ≡ None → d ≡ false
 unlinked-none root w d e = grind arith
 
+-- what rmdir doesn't refuse is a directory
+pub is-removable : (p : Path) (w : Option Errno) (d : Bool) →
+    or_else (when (is_root p) EBUSY) (or_else w (or_else (when (not d) ENOTDIR)
+    (when false ENOTEMPTY))) ≡ None → d ≡ true
+is-removable p w d fine = grind arith
+
 -- what has the attributes of a directory is one
 pub still-folder : (o q : Option Node) → folder_attributes q ≡ folder_attributes o → is_folder o ≡ true → is_folder q ≡ true
 still-folder o q e f = grind arith
@@ -120,21 +135,26 @@ module _ (s : State) (c : ℕ) (p : Path) (k : Call) (V : Layer) (lowers : List 
       (still-folder (s.tree h.node) (t h.node) (x.held b fd h on) is.directory)
 
 -- clients that have the same descriptors have the same tables
-pub tables-attached : (P : handles.Handle → Handle → Type 0) (clients new : Clients) (ks : List Table) → new.attached ≡ clients.attached → AreTables P clients ks → AreTables P new ks
+pub tables-attached : (P : handles.Handle → Handle →
+    Type 0) (clients new : Clients) (ks : List Table) → new.attached ≡ clients.attached →
+    AreTables P clients ks → AreTables P new ks
 tables-attached P clients new ks same tables = grind arith
 
 -- and have the same files open
-pub one-attached : (clients new : Clients) (ks : List Table) → new.attached ≡ clients.attached → AreOne clients ks → AreOne new ks
+pub one-attached : (clients new : Clients) (ks : List Table) → new.attached ≡ clients.attached →
+    AreOne clients ks → AreOne new ks
 one-attached clients new ks same =
     one-fewer clients new ks ks
     (λ k d x. open-before clients new ks ks k d x (ap (λ z. option_and_then (λ (e : Descriptors). opened e.slots.items x.descriptor) (get nat_cmp z x.client)) same) refl)
 
 -- what has a name in a directory is in one
-pub folder-above : (t : Tree) (p : Path) (n : Name) (d : NodeId) → node_at t (n ∷ p) ≡ Some d → (e : NodeId) × (node_at t p ≡ Some e) × (is_folder (t e) ≡ true)
+pub folder-above : (t : Tree) (p : Path) (n : Name) (d : NodeId) → node_at t (n ∷ p) ≡ Some d →
+    (e : NodeId) × (node_at t p ≡ Some e) × (is_folder (t e) ≡ true)
 folder-above t p n d at = grind arith
 
 -- another object than the one at a path stands after a removal there where it stood
-removal-apart : (p : Path) (a : Unlisted) (o : Option Location) → o ≢ Some (At p) → option_map (after_removal p a) o ≡ o
+removal-apart : (p : Path) (a : Unlisted) (o : Option Location) → o ≢ Some (At p) →
+    option_map (after_removal p a) o ≡ o
 removal-apart p a None away = refl
 removal-apart p a (Some (Apart b)) away = refl
 removal-apart p a (Some (At q)) away = by (same_path p q) refl
@@ -144,11 +164,17 @@ removal-apart p a (Some (At q)) away = by (same_path p q) refl
     by false off = refl
 
 -- the only object at a path, whose directory was removed, is a removed one
-pub removes-one : (t : Objects) (es : Dentries) (n : ℕ) (p : Path) (a : Unlisted) → spot_of t n ≡ Some (spots.At p) → ((k : ℕ) → spot_of t k ≡ Some (spots.At p) → k ≡ n) → places.SetsApart t.tree es n a → places.Removes t.tree es p a
+pub removes-one : (t : Objects) (es : Dentries) (n : ℕ) (p : Path) (a : Unlisted) →
+    spot_of t n ≡ Some (spots.At p) → ((k : ℕ) → spot_of t k ≡ Some (spots.At p) → k ≡ n) →
+    places.SetsApart t.tree es n a → places.Removes t.tree es p a
 removes-one t es n p a there one sets = record {
   located = λ k. elim (cases_eq k n) [
-    | inl e ↦ ap (places.opened es) e ∙ sets.located ∙ ap (λ b. Some (cond b (Apart a) (At p))) (sym ((paths_tell p p).1 refl)) ∙ sym (ap (option_map (after_removal p a)) (ap (places.opened t.tree) e ∙ opened-path t n p there))
-    | inr away ↦ sets.others k away ∙ sym (removal-apart p a (places.opened t.tree k) (λ at. away (one k (path-spot t k p at))))
+    | inl e ↦ ap (places.opened es) e ∙ sets.located ∙ ap (λ b. Some (cond b (Apart a) (At p)))
+        (sym ((paths_tell p p).1 refl))
+        ∙ sym (ap (option_map (after_removal p a)) (ap (places.opened t.tree) e
+        ∙ opened-path t n p there))
+    | inr away ↦ sets.others k away ∙ sym (removal-apart p a (places.opened t.tree k) (λ at. away
+        (one k (path-spot t k p at))))
   ];
   counted = sets.counted;
 }
@@ -231,7 +257,11 @@ module _ (m : Mount) (s : State) (st : IsStateOf m s) (new : Layers) where
   not-there p ok l d stands f e = grind (arith, unlinked-none, shown-directory)
 
   -- an unlink that isn't refused is served
-  pub unlink-done : (c : ℕ) (p : Path) → unlink_fault (the_layers m) p ≡ None → new.lowers ≡ m.layers.lowers → Removes V (lowers_of new) s c p (call.Unlink p) → KeepsHeld m.clients m.layers new (call.Unlink p) → KeepsHeldLeaves (call.Unlink p) → Serves (refusal s c (call.Unlink p)) s c (call.Unlink p) reply.Done (record m { layers = new })
+  pub unlink-done : (c : ℕ) (p : Path) → unlink_fault (the_layers m) p ≡ None →
+      new.lowers ≡ m.layers.lowers → Removes V (lowers_of new) s c p (call.Unlink p) →
+      KeepsHeld m.clients m.layers new (call.Unlink p) → KeepsHeldLeaves (call.Unlink p) →
+      Serves (refusal s c (call.Unlink p)) s c (call.Unlink p) reply.Done
+      (record m { layers = new })
   unlink-done c p ok same x live leaves =
       let k = call.Unlink p in
       done c k (law_of_unlink (the_upper m) (the_lowers m) s st.layers c p ∙ ok) x.answer x.mounts x.tables refl same
@@ -243,13 +273,17 @@ module _ (m : Mount) (s : State) (st : IsStateOf m s) (new : Layers) where
   folder-has p a has e at = shown-attributes (s.tree e) (base (the_upper m) (the_lowers m) p) (shows 0 (the_layers m) p) a has (seen (the_upper m) (the_lowers m) s st.layers p e at)
 
   -- rmdir of a directory
-  module _ (c : ℕ) (p : Path) (ok : rmdir_fault (the_layers m) p false ≡ None) (bare : ShowsNoName (the_layers m) p) (same : new.lowers ≡ m.layers.lowers) (x : Removes V (lowers_of new) s c p (call.Rmdir p)) (live : KeepsHeld m.clients m.layers new (call.Rmdir p)) (leaves : KeepsHeldLeaves (call.Rmdir p)) where
+  module _ (c : ℕ) (p : Path) (ok : rmdir_fault (the_layers m) p false ≡ None) (bare : ShowsNoName
+      (the_layers m) p) (same : new.lowers ≡ m.layers.lowers) (x : Removes V (lowers_of new) s c p
+      (call.Rmdir p)) (live : KeepsHeld m.clients m.layers new (call.Rmdir p))
+      (leaves : KeepsHeldLeaves (call.Rmdir p)) where
     abbrev u : Tree
     u = (after s c (call.Rmdir p)).tree
 
     -- open files stay
     files : CarriesFiles (the_upper m) V s.tree u m.clients s.tables
-    files = files-held m.layers new s st.layers c (call.Rmdir p) m.clients (live s st.layers c) leaves
+    files = files-held m.layers new s st.layers c (call.Rmdir p) m.clients
+        (live s st.layers c) leaves
 
     -- it is served where its tables are right
     rmdir-done : (clients : Clients) → AreTables (Alike new (after s c (call.Rmdir p)) clients) clients s.tables → AreOne clients s.tables → clients.next ≡ m.clients.next → Serves (refusal s c (call.Rmdir p)) s c (call.Rmdir p) reply.Done (record m { layers = new; clients = clients })
@@ -258,20 +292,35 @@ module _ (m : Mount) (s : State) (st : IsStateOf m s) (new : Layers) where
         (state-after c (call.Rmdir p) clients x.mounts x.tables refl tables one next)
 
     -- where it is held, handles on it are on a removed directory then
-    pub rmdir-held : (a : Attributes) (n : ℕ) (clients : Clients) → HasAttributes (the_layers m) p a → spot_of m.clients.objects n ≡ Some (spots.At p) → ((k : ℕ) → spot_of m.clients.objects k ≡ Some (spots.At p) → k ≡ n) → KeepsClients m.clients clients → places.SetsApart m.clients.objects.tree clients.objects.tree n (unlisted.Removed a) → Serves (refusal s c (call.Rmdir p)) s c (call.Rmdir p) reply.Done (record m { layers = new; clients = clients })
+    pub rmdir-held : (a : Attributes) (n : ℕ) (clients : Clients) →
+        HasAttributes (the_layers m) p a → spot_of m.clients.objects n ≡ Some (spots.At p) →
+        ((k : ℕ) → spot_of m.clients.objects k ≡ Some (spots.At p) → k ≡ n) →
+        KeepsClients m.clients clients →
+        places.SetsApart m.clients.objects.tree clients.objects.tree n (unlisted.Removed a) →
+        Serves (refusal s c (call.Rmdir p)) s c (call.Rmdir p) reply.Done
+        (record m { layers = new; clients = clients })
     rmdir-held a n clients has there one kept sets =
-        let removes = removes-one m.clients.objects clients.objects.tree n p (unlisted.Removed a) there one sets in
-        let directories = handle-marked s c p (call.Rmdir p) V (lowers_of new) x a m.clients.objects.tree clients.objects.tree (folder-has p a has) removes in
+        let removes =
+        removes-one m.clients.objects clients.objects.tree n p (unlisted.Removed a) there one
+        sets in
+        let directories =
+        handle-marked s c p (call.Rmdir p) V (lowers_of new) x a m.clients.objects.tree
+        clients.objects.tree (folder-has p a has) removes in
         let moved = tables-on m.layers new s.tree u m.clients s.tables same st.tables clients.objects.tree directories files in
         rmdir-done clients
-        (tables-attached (Alike new (after s c (call.Rmdir p)) clients) m.clients clients s.tables kept.attached moved)
+        (tables-attached (Alike new (after s c (call.Rmdir p)) clients) m.clients clients s.tables
+        kept.attached moved)
         (one-attached m.clients clients s.tables kept.attached st.one)
         kept.next
 
     -- where it isn't, no open directory changes
-    pub rmdir-unheld : IsVacant m.clients.objects (spots.At p) → Serves (refusal s c (call.Rmdir p)) s c (call.Rmdir p) reply.Done (record m { layers = new })
+    pub rmdir-unheld : IsVacant m.clients.objects (spots.At p) →
+        Serves (refusal s c (call.Rmdir p)) s c (call.Rmdir p) reply.Done
+        (record m { layers = new })
     rmdir-unheld vacant =
         let apart = handle-apart s c p (call.Rmdir p) V (lowers_of new) x m.clients.objects.tree in
         rmdir-done m.clients
-        (tables-after c (call.Rmdir p) same (λ b fd o h on is. apart b fd o h on is (λ e. vacant o.directory (path-spot m.clients.objects o.directory p (is.located ∙ ap Some e)))) files)
+        (tables-after c (call.Rmdir p) same (λ b fd o h on is. apart b fd o h on is
+        (λ e. vacant o.directory (path-spot m.clients.objects o.directory p (is.located
+        ∙ ap Some e)))) files)
         st.one refl

@@ -1,7 +1,11 @@
 -- What closing a descriptor does to a mount, where a file that nothing names or holds any more is freed.
-use Rattle.std.proofs.Common.{arith, ◌≡◌, ◌↔◌, ℕ, ◌<◌, true, false, cond, ◌||◌, List, Option, None, Some, Ok, Err, refl, sym, ap, ◌∙◌, subst, ◌⊎◌, inl, inr, is_some}
+use Rattle.std.proofs.Common.{arith, ◌≡◌, ℕ, true, false, cond, ◌||◌, List, Option, None, Some, Ok}
+use Rattle.std.proofs.Common.{Err, refl, sym, ap, ◌∙◌, subst, ◌⊎◌, inl, inr, is_some}
 use Rattle.merged_lookup.specs.Merged.{upper_of}
-use Rattle.mount_calls.proofs.Words.{after, cases_Bool, cases_eq, Errno, false≢true, File, Handle, handle_of, Inode, IsLive, IsMountOf, Layer, Layers, lowers_of, node_at, NodeId, OpenFile, Path, refusal, SetsSlot, State, StaysMount, Table, Tree, Upper, with_handle}
+use Rattle.mount_calls.proofs.Words.{after, cases_Bool, cases_eq, Errno, false≢true, Handle}
+use Rattle.mount_calls.proofs.Words.{handle_of, Inode, IsLive, IsMountOf, Layer, Layers, lowers_of}
+use Rattle.mount_calls.proofs.Words.{node_at, NodeId, OpenFile, Path, refusal, SetsSlot, State}
+use Rattle.mount_calls.proofs.Words.{StaysMount, Table, Tree, Upper, with_handle}
 use Rattle.ov_base.specs.declared.call.CallOf.TheVariants as call
 use Rattle.ov_base.specs.declared.errno.Errno.TheVariants as errno
 use Rattle.ov_base.specs.declared.reply.Reply.TheVariants as reply
@@ -81,11 +85,16 @@ module _ (clients : Clients) (old new : Layers) (k : ℕ) (f : FreesClosed clien
     mark = l.mark;
     inode = still (cases_eq j k) ∙ l.inode;
     node = l.node;
-    paths = λ q. (λ led. f.keeps.objects q ∙ (l.paths q).0 led, λ names. (l.paths q).1 (sym (f.keeps.objects q) ∙ names));
+    paths = λ q. (
+      λ led. f.keeps.objects q ∙ (l.paths q).0 led,
+      λ names. (l.paths q).1
+          (sym (f.keeps.objects q) ∙ names),
+    );
   }
     where
       still : (j ≡ k) ⊎ (j ≡ k → ⊥) → (upper_of new).inodes j ≡ (upper_of old).inodes j
-      still (inl e) = ap (λ (z : Layers). (upper_of z).inodes j) (f.held (subst (HasFile clients) e holds))
+      still (inl e) =
+          ap (λ (z : Layers). (upper_of z).inodes j) (f.held (subst (HasFile clients) e holds))
       still (inr off) = f.others j off
 
 -- What the close of a descriptor leaves of the layers: paths hold what they held, no whiteout is needless, the mount stays one of the
@@ -119,7 +128,8 @@ live-still : (U : Layer) (t u : Tree) (d : NodeId) (k : ℕ) → ((q : Path) →
 live-still U t u d k paths same l = grind arith
 
 -- what has a key in the upper is an open file of it
-upper-file : (o : Option OpenFile) (k : ℕ) → key_in_upper o ≡ Some k → (f : OpenFile) × (o ≡ Some f) × (f.source ≡ Upper k)
+upper-file : (o : Option OpenFile) (k : ℕ) → key_in_upper o ≡ Some k →
+    (f : OpenFile) × (o ≡ Some f) × (f.source ≡ Upper k)
 upper-file o k h = grind arith
 
 -- a client closes a descriptor
@@ -146,7 +156,8 @@ module _ (m : Mount) (s : State) (st : IsStateOf m s) (c d : ℕ) where
       ap is_some of.0.inode
 
   -- an open one is closed
-  module _ (new : Clients) (led : handles.Handle) (ch : ChangesClient m.clients new c (λ x y. Closes x y d (Ok led)))
+  module _ (new : Clients) (led : handles.Handle) (ch : ChangesClient m.clients new c
+      (λ x y. Closes x y d (Ok led)))
       (l : Layers) (closed : Option ℕ) (is_closed : closed ≡ key_in_upper (file_in (Some led)))
       (leaves : LeavesOpen new m.layers l closed) where
     -- what the descriptor led to
@@ -182,7 +193,9 @@ module _ (m : Mount) (s : State) (st : IsStateOf m s) (c d : ℕ) where
               (λ b i o g on is. handle-same s.tree step.tree new.objects.tree law.paths o g (law.held b i g on) is)
               (record {
                 live = λ b i f g k opens on key is. live-still (upper_of l) s.tree step.tree g.node k law.paths (law.held b i g on)
-                    (live s.tree g.node k (record { client = b; descriptor = i; file = f; opened = opens; key = key }) is);
+                    (live s.tree g.node k
+                    (record { client = b; descriptor = i; file = f; opened = opens; key = key })
+                    is);
                 leaves = λ b i g on leaf. ap is_leaf (law.held b i g on) ∙ leaf;
                 owns = law_of_own s c (call.Close d);
               }));
@@ -206,4 +219,5 @@ module _ (m : Mount) (s : State) (st : IsStateOf m s) (c d : ℕ) where
         closes = changes-as m.clients new c _ _ (λ x y g. g.closes) ch
 
         state : IsStateOf (record m { clients = new }) (record s { tables = left })
-        state = state-set m s st c d handle.1 handle.2 (record m { clients = new }) refl refl refl refl None None closes (λ f g k e. let no : None ≡ Some f = e in absurd (cc)) tt
+        state = state-set m s st c d handle.1 handle.2 (record m { clients = new }) refl refl refl
+            refl None None closes (λ f g k e. let no : None ≡ Some f = e in absurd (cc)) tt

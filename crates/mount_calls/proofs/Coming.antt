@@ -1,7 +1,11 @@
 -- Clients come on both sides.
 use Rattle.std.proofs.Common.{◌≡◌, ◌≢◌, ℕ, zero, suc, Bool, false, cond, ◌||◌, List, [], ◌∷◌, ◌++◌, Option, None, Some, Result, Ok, Err, refl, sym, ap, ◌∙◌, subst, is_some, length, replicate, slice_get, nat_eq, add-one, arith, ◌⊎◌, inl, inr}
 use Rattle.merged_lookup.specs.Merged.{upper_of}
-use Rattle.mount_calls.proofs.Words.{AllocError, AreLayers, cases_eq, Descriptors, DESCRIPTORS_MAX, directory_in, eq-eqb, Errno, file_in, Handle, handle_of, handles_of, held_in, IfOk, Layer, layers_of, list_any, lowers_of, nat_cmp, ne_eqb, OnErr, OpenFile, option_and_then, State, Table, Tree}
+use Rattle.mount_calls.proofs.Words.{AllocError, AreLayers, cases_eq, Descriptors, DESCRIPTORS_MAX}
+use Rattle.mount_calls.proofs.Words.{directory_in, eq-eqb, Errno, file_in, Handle, handle_of}
+use Rattle.mount_calls.proofs.Words.{handles_of, held_in, IfOk, Layer, layers_of, list_any}
+use Rattle.mount_calls.proofs.Words.{lowers_of, nat_cmp, ne_eqb, OnErr, OpenFile, option_and_then}
+use Rattle.mount_calls.proofs.Words.{State, Table, Tree}
 use Rattle.std.proofs.Math.Bool.{or-false, or-true}
 use Rattle.std.proofs.lemmas.Bool.{or_parts}
 use Rattle.std.proofs.lemmas.List.Folds.{list_any-append}
@@ -14,11 +18,13 @@ use Rattle.mount_laws.proofs.Looks.{law_of_beginning}
 use Rattle.open_handles.specs.declared.clients.Clients.{Clients}
 use Rattle.open_handles.specs.declared.handle.Handle as handles
 use Rattle.mount_calls.specs.declared.mount.Mount.{Mount}
-use Rattle.open_handles.specs.Attaching.{Attaches, IsSame, KeepsAttached, KeepsPlaces, TakesBack, file_by, opened_by}
+use Rattle.open_handles.specs.Attaching.{Attaches, IsSame, KeepsAttached, KeepsPlaces, TakesBack}
+use Rattle.open_handles.specs.Attaching.{file_by, opened_by}
 use Rattle.open_handles.specs.Descriptors.{opened}
 use Rattle.mount_calls.specs.Files.{AreOne, IsOpenOn}
 use Rattle.mount_calls.specs.States.{IsOpenAs, IsSlot, AreTables, IsStateOf}
-use Rattle.mount_calls.proofs.Serving.{slot-as, places-same, OpensFewer, one-fewer, open-before, placed, slot-moves}
+use Rattle.mount_calls.proofs.Serving.{slot-as, places-same, OpensFewer, one-fewer, open-before}
+use Rattle.mount_calls.proofs.Serving.{placed, slot-moves}
 use Rattle.mount_calls.proofs.Stating.{the_lowers, the_upper, Alike, keep-same}
 
 -- whether a table is of a client
@@ -56,7 +62,8 @@ module _ (clients new : Clients) (ks ls : List Table) (n : ℕ) (others : (b : �
     where
       by : (x.client ≡ n) ⊎ (x.client ≡ n → ⊥) → IsOpenOn clients ks k d
       by (inl e) =
-          let no : None ≡ Some x.file = sym (ap file_in (ap (λ b. opened_by new b x.descriptor) e ∙ none x.descriptor)) ∙ x.opened in absurd (cc)
+          let no : None ≡ Some x.file = sym (ap file_in (ap (λ b. opened_by new b x.descriptor) e
+          ∙ none x.descriptor)) ∙ x.opened in absurd (cc)
       by (inr off) =
           open-before clients new ks ls k d x (ap (open_in x.descriptor) (others x.client off))
           (ap (λ hs. held_in (slice_get hs x.descriptor)) (kept x.client off))
@@ -69,23 +76,34 @@ module _ (clients new : Clients) (ks ls : List Table) (n : ℕ) (others : (b : �
     slots = λ b d. slots b d (cases_eq b n);
   }
     where
-      attached : (b : ℕ) → (b ≡ n) ⊎ (b ≡ n → ⊥) → list_any (of b) ls ≡ is_some (get nat_cmp new.attached b)
-      attached b (inl e) = ap (λ z. list_any (of z) ls) e ∙ here ∙ ap (λ z. is_some (get nat_cmp new.attached z)) (sym e)
-      attached b (inr off) = any b off ∙ a.attached b ∙ sym (ap (λ (o : Option Descriptors). is_some o) (others b off))
+      attached : (b : ℕ) → (b ≡ n) ⊎ (b ≡ n → ⊥) →
+          list_any (of b) ls ≡ is_some (get nat_cmp new.attached b)
+      attached b (inl e) = ap (λ z. list_any (of z) ls) e ∙ here
+          ∙ ap (λ z. is_some (get nat_cmp new.attached z)) (sym e)
+      attached b (inr off) =
+          any b off ∙ a.attached b ∙ sym (ap (λ (o : Option Descriptors). is_some o) (others b off))
 
-      room : (b : ℕ) → (b ≡ n) ⊎ (b ≡ n → ⊥) → length (handles_of ls b) ≡ cond (is_some (get nat_cmp new.attached b)) DESCRIPTORS_MAX 0
-      room b (inl e) = ap (λ z. length (handles_of ls z)) e ∙ long ∙ ap (λ z. cond (is_some (get nat_cmp new.attached z)) DESCRIPTORS_MAX 0) (sym e)
-      room b (inr off) = ap length (kept b off) ∙ a.room b ∙ sym (ap (λ (o : Option Descriptors). cond (is_some o) DESCRIPTORS_MAX 0) (others b off))
+      room : (b : ℕ) → (b ≡ n) ⊎ (b ≡ n → ⊥) →
+          length (handles_of ls b) ≡ cond (is_some (get nat_cmp new.attached b)) DESCRIPTORS_MAX 0
+      room b (inl e) = ap (λ z. length (handles_of ls z)) e ∙ long
+          ∙ ap (λ z. cond (is_some (get nat_cmp new.attached z)) DESCRIPTORS_MAX 0) (sym e)
+      room b (inr off) = ap length (kept b off) ∙ a.room b
+          ∙ sym (ap (λ (o : Option Descriptors). cond (is_some o) DESCRIPTORS_MAX 0) (others b off))
 
-      slots : (b d : ℕ) → (b ≡ n) ⊎ (b ≡ n → ⊥) → IsSlot (IsOpenAs U lowers t new.objects.tree) (opened_by new b d) (handle_of ls b d)
+      slots : (b d : ℕ) → (b ≡ n) ⊎ (b ≡ n → ⊥) →
+          IsSlot (IsOpenAs U lowers t new.objects.tree) (opened_by new b d) (handle_of ls b d)
       slots b d (inl e) =
-          slot-as _ None _ None _ (sym (ap (λ z. opened_by new z d) e ∙ none d)) (sym (ap (λ z. handle_of ls z d) e ∙ bare d)) tt
+          slot-as _ None _ None _ (sym (ap (λ z. opened_by new z d) e
+          ∙ none d)) (sym (ap (λ z. handle_of ls z d) e ∙ bare d)) tt
       slots b d (inr off) =
           let same : opened_by new b d ≡ opened_by clients b d = ap (open_in d) (others b off) in
-          let still : handle_of ls b d ≡ handle_of ks b d = ap (λ hs. held_in (slice_get hs d)) (kept b off) in
+          let still : handle_of ls b d ≡ handle_of ks b d =
+          ap (λ hs. held_in (slice_get hs d)) (kept b off) in
           slot-as _ (opened_by clients b d) _ (handle_of ks b d) _ (sym same) (sym still)
-          (slot-moves (IsOpenAs U lowers t clients.objects.tree) (IsOpenAs U lowers t new.objects.tree) (opened_by clients b d) (handle_of ks b d)
-          (λ o h now at. placed U lowers t clients.objects.tree new.objects.tree o h (λ e l leads stood. places b d e l (ap directory_in (same ∙ now) ∙ leads) stood))
+          (slot-moves (IsOpenAs U lowers t clients.objects.tree)
+          (IsOpenAs U lowers t new.objects.tree) (opened_by clients b d) (handle_of ks b d)
+          (λ o h now at. placed U lowers t clients.objects.tree new.objects.tree o h
+          (λ e l leads stood. places b d e l (ap directory_in (same ∙ now) ∙ leads) stood))
           (a.slots b d))
 
 module _ (U : Layer) (lowers : List Layer) (t : Tree) (clients : Clients) (ks : List Table) (a : AreTables (IsOpenAs U lowers t clients.objects.tree) clients ks) (new : Clients) (n : ℕ) (h : Attaches clients new n) where
@@ -100,7 +118,9 @@ module _ (U : Layer) (lowers : List Layer) (t : Tree) (clients : Clients) (ks : 
   -- the tables with the client's
   come : AreTables (IsOpenAs U lowers t new.objects.tree) new (ks ++ free_table n ∷ [])
   come =
-      tables-but clients new ks (ks ++ free_table n ∷ []) n h.others (handles-last-other ks n) opens-none U lowers t a (places-same clients new h.objects) any-other
+      tables-but clients new ks (ks ++ free_table n ∷ []) n h.others
+      (handles-last-other ks n) opens-none U lowers t a (places-same clients new h.objects)
+      any-other
       (any-last ks n n ∙ ap (λ x. list_any (of n) ks || x) (eq-eqb n n refl) ∙ or-true (list_any (of n) ks) ∙ sym (ap (λ (o : Option Descriptors). is_some o) h.there))
       (ap length (handles-last ks n fresh) ∙ length-replicate {A = Option Handle} DESCRIPTORS_MAX None ∙ sym (ap (λ (o : Option Descriptors). cond (is_some o) DESCRIPTORS_MAX 0) h.there))
       (λ d. ap (λ z. held_in (slice_get z d)) (handles-last ks n fresh) ∙ held-free DESCRIPTORS_MAX d)
@@ -129,14 +149,16 @@ begins m none next t a merge = record {
 }
   where
     opens-nothing : (b d : ℕ) (f : OpenFile) → file_by m.clients b d ≡ Some f → ⊥
-    opens-nothing b d f e = let no : None ≡ Some f = sym (ap (λ o. file_in (open_in d o)) (none b)) ∙ e in absurd (cc)
+    opens-nothing b d f e = let no : None ≡ Some f = sym (ap (λ o. file_in (open_in d o)) (none b))
+        ∙ e in absurd (cc)
 
 -- a client that came and was taken back leaves each client what it had
 back-gets : (old mid new : Clients) (n : ℕ) → Attaches old mid n → TakesBack mid new n → (b : ℕ) → get nat_cmp new.attached b ≡ get nat_cmp old.attached b
 back-gets old mid new n came back b = by (cases_eq b n)
   where
     by : (b ≡ n) ⊎ (b ≡ n → ⊥) → get nat_cmp new.attached b ≡ get nat_cmp old.attached b
-    by (inl e) = ap (get nat_cmp new.attached) e ∙ back.leaves.gone ∙ sym (ap (get nat_cmp old.attached) e ∙ came.fresh)
+    by (inl e) = ap (get nat_cmp new.attached) e ∙ back.leaves.gone
+        ∙ sym (ap (get nat_cmp old.attached) e ∙ came.fresh)
     by (inr off) = back.leaves.others b off ∙ came.others b off
 
 -- and the same clients are attached

@@ -6,6 +6,7 @@ use Rattle.copy_up.proofs.Texts.{texts-gained}
 use Rattle.mount_calls.proofs.Texts.{texts-whole}
 use Rattle.mount_calls.proofs.Words.{after, AllocError, Attributes, bad_flags, base, Call, change, Contents, EINVAL, false≢true, File, Handle, Inode, inode_of, IsLive, IsMountOf, Layer, Layers, layers_of, Leaf, live_handle, lowers_of, lowest_free, MountOptions, Node, node_at, NodeId, OpenFile, OpenFlags, opening_fault, option_and_then, option_map, or_else, over_node, Own, parents_fault, Path, Place, put, refusal, rewritten, see, shows, shows_link, ShowsInode, sized, State, StaysLayers, Tree, Upper, way_of, when, with_bytes, with_handle}
 use Rattle.layer_tree.specs.Tree.{own_at}
+use Rattle.layer_tree.specs.declared.node.Inode.{Inode as StoredInode}
 use Rattle.slab.specs.Slab.{get}
 use Rattle.ov_base.specs.declared.bytes.Content.TheVariants as content
 use Rattle.ov_base.specs.declared.call.CallOf.TheVariants as call
@@ -18,7 +19,6 @@ use Rattle.plain_model.specs.Changes.{low_after, opened, touched, with_attribute
 use Rattle.plain_model.proofs.Keeping.{put-here}
 use Rattle.plain_model.proofs.OwnBytes.{law_of_own}
 use Rattle.plain_model.proofs.Paths.{ids_tell, one_or_not, paths_tell}
-use Rattle.layer_tree.specs.declared.node.Inode.{Inode as StoredInode}
 use Rattle.mount_laws.specs.Looks.{absent, is_link_inode}
 use Rattle.mount_laws.specs.Attributes.{shown_attributes, chown_fault}
 use Rattle.mount_laws.specs.Altered.{AltersState}
@@ -45,7 +45,8 @@ use Rattle.mount_calls.proofs.Changing.{handle-on}
 use Rattle.mount_calls.proofs.Directories.{seen}
 use Rattle.mount_calls.proofs.Frames.{none-named, none-parents}
 use Rattle.mount_calls.proofs.Lasting.{chown-leaves, other-names}
-use Rattle.mount_calls.proofs.Openings.{IsShownFile, OpensOn, leaf-seen, file-there, free-there, fresh-one, open-leads, state-open, unfaulted}
+use Rattle.mount_calls.proofs.Openings.{IsShownFile, OpensOn, leaf-seen, file-there, free-there}
+use Rattle.mount_calls.proofs.Openings.{fresh-one, open-leads, state-open, unfaulted}
 use Rattle.mount_calls.proofs.OpeningWrites.{sized-none, writing-served}
 use Rattle.mount_calls.proofs.Rewritten.{state-rewritten}
 use Rattle.mount_calls.proofs.Stating.{the_layers, the_lowers, the_upper}
@@ -224,7 +225,8 @@ module _ (m : Mount) (s : State) (st : IsStateOf m s) (c : ℕ)
   copied-state : IsStateOf (record m { layers = new }) (record s { tree = t })
   copied-state =
       state-on m s st new leaf.lowers t s.serial mounts
-      (handle-on s.tree t (λ q d at. owns.paths q ∙ at) owns.hidden (λ d folder. owns.folders d ∙ folder) m.clients.objects.tree)
+      (handle-on s.tree t (λ q d at. owns.paths q ∙ at) owns.hidden (λ d folder. owns.folders d
+      ∙ folder) m.clients.objects.tree)
       (record {
         live = λ b fd g h k at on is live. law_of_live_through_owner p a.uid a.gid (the_upper m) V (the_lowers m) whole c a attributes-shown owns h.node k (other-file h.node k live) live;
         leaves = λ b fd h on. chown-leaves p a.uid a.gid whole st.layers.kept c h.node;
@@ -243,7 +245,8 @@ module _ (m : Mount) (s : State) (st : IsStateOf m s) (c : ℕ)
       ap (λ i. Some (Contents 0 leaf.number i)) leaf.inode ∙
       ap (λ k. Some (Contents 0 k (Some (record { content = there.inode.content; attributes = a; links = 1; mark = None })))) copy.1
 
-  module _ (d : ℕ) (last : Clients) (opens : OpensOn m.clients last c d (File (file_at (record { layer = 0; key = key }) f None))) where
+  module _ (d : ℕ) (last : Clients) (opens : OpensOn m.clients last c d
+      (File (file_at (record { layer = 0; key = key }) f None))) where
     abbrev asked : Call
     asked = call.Open p f mode
 
@@ -281,9 +284,11 @@ module _ (m : Mount) (s : State) (st : IsStateOf m s) (c : ℕ)
     -- the mount stands for it
     opened-state : IsStateOf (record m { layers = new; clients = last }) held-open
     opened-state =
-        state-open (record m { layers = new }) (record s { tree = t }) copied-state c (File file) d last opens made
+        state-open (record m { layers = new }) (record s { tree = t }) copied-state c
+        (File file) d last opens made
         (record { source = (live, refl); own = λ on. bare-own V t law.node key live _ copied-inode refl; reads = refl; writes = refl; append = refl; place = refl; unlisted = refl })
-        (fresh-one (record m { layers = new }) (record s { tree = t }) copied-state c p file made at-node (live, refl))
+        (fresh-one (record m { layers = new }) (record s { tree = t }) copied-state c p file made
+        at-node (live, refl))
 
     -- the node was a file of a lower layer
     abbrev origin : Origin
@@ -321,4 +326,7 @@ module _ (m : Mount) (s : State) (st : IsStateOf m s) (c : ℕ)
         let empties : SetsFile new layers key [] = subst (SetsFile new layers key) (sized-none live.bytes) (sets key live.bytes refl bytes) in
         done layers (rewritten t law.node [])
         (own-emptied f w whole.options s.tree law.node there.bytes a origin was.0 was.1 e ∙ sym (own-rewritten f w whole.options s.tree law.node there.bytes a origin was.0 was.1) ∙ ap (λ z. rewritten z law.node []) (sym tree-owned))
-        (state-rewritten (record m { layers = new; clients = last }) held-open opened-state layers key law.node [] (open-leads (record m { layers = new }) (record s { tree = t }) copied-state c (File file) d last opens file made key refl refl) keeps empties)
+        (state-rewritten (record m { layers = new; clients = last }) held-open opened-state layers
+        key law.node [] (open-leads (record m { layers = new })
+        (record s { tree = t }) copied-state c (File file) d last opens file made key refl refl)
+        keeps empties)

@@ -1,7 +1,11 @@
 -- Reads of open files, and what fstat shows of what is open.
 use Rattle.std.proofs.Common.{◌≡◌, ℕ, ◌+◌, true, not, List, Option, None, Some, Result, Ok, Err, refl, sym, ap, ◌∙◌, subst, is_some, length, take, drop, nat_lt}
 use Rattle.std.proofs.Common.{arith}
-use Rattle.mount_calls.proofs.Words.{Apart, At, Attributes, base, ChangesSlot, Directory, directory_in, Errno, Folder, folder_attributes, Handle, handle_of, Inode, is_directory, Layer, Location, Node, NodeId, OpenDirectory, OpenFile, option_and_then, or_else, Path, refusal, Reply, Shown, shows, Stat, State, Tree, when, with_handle, with_place}
+use Rattle.mount_calls.proofs.Words.{Apart, At, Attributes, base, ChangesSlot, Directory, Errno}
+use Rattle.mount_calls.proofs.Words.{Folder, folder_attributes, Handle, handle_of, Inode}
+use Rattle.mount_calls.proofs.Words.{is_directory, Layer, Location, Node, NodeId, OpenDirectory}
+use Rattle.mount_calls.proofs.Words.{OpenFile, option_and_then, or_else, Path, refusal, Reply}
+use Rattle.mount_calls.proofs.Words.{Shown, shows, Stat, State, Tree, when, with_handle, with_place}
 use Rattle.ov_base.specs.declared.call.CallOf.TheVariants as call
 use Rattle.ov_base.specs.declared.errno.Errno.TheVariants as errno
 use Rattle.ov_base.specs.declared.reply.ObjectKind.TheVariants as kind
@@ -12,7 +16,6 @@ use Rattle.mount_laws.specs.Looks.{walk_fault}
 use Rattle.mount_laws.specs.Descriptors.{ReadsFile, next_bytes}
 use Rattle.mount_laws.specs.Descriptors as laws
 use Rattle.mount_laws.proofs.Descriptors.{law_of_read, law_of_directory_handle, law_of_unopened}
-use Rattle.open_handles.specs.declared.handle.Handle as handles
 use Rattle.object_table.specs.declared.dentry.Unlisted.TheVariants as unlisted
 use Rattle.object_table.specs.Opened.{path_in, attributes_in}
 use Rattle.open_handles.specs.declared.clients.Clients.{Clients}
@@ -74,7 +77,10 @@ module _ (m : Mount) (s : State) (st : IsStateOf m s) (c d : ℕ) where
     read-refusal =
         by-opened m s st c d (λ o. refusal s c (call.Read d n) ≡ read_fault o n)
         (λ none. (law_of_unopened s c d none).reading n)
-        (λ k way f h on is. (law_of_read s c d h on (file-not-folder (the_upper m) (the_lowers m) s.tree f h is)).refused n ∙ ap (λ b. or_else (when (nat_lt TRANSFER_MAX n) errno.EINVAL) (when (not b) errno.EBADF)) is.reads)
+        (λ k way f h on is. (law_of_read s c d h on (file-not-folder (the_upper m)
+        (the_lowers m) s.tree f h is)).refused n
+        ∙ ap (λ b. or_else (when (nat_lt TRANSFER_MAX n) errno.EINVAL)
+        (when (not b) errno.EBADF)) is.reads)
         (λ k way listing h on is. (law_of_directory_handle s c d h on is.directory).reading n)
 
     -- where that isn't there it isn't refused
@@ -116,7 +122,9 @@ module _ (m : Mount) (s : State) (st : IsStateOf m s) (c d : ℕ) where
       status-shown x.0 x.1 (status_reply r) (ap status_reply (tells _ sees.inode) ∙ sym sees.status)
 
   -- of a directory, what stands where it does
-  directory-status : (o : OpenDirectory) → directory_by m.clients c d ≡ Some o → (r : Result Stat Errno) → ((l : Location) (n : NodeId) → located m.clients o ≡ Some l → Stands s.tree l n → r ≡ status_standing (the_layers m) l) → Shows (status_reply r)
+  directory-status : (o : OpenDirectory) → directory_by m.clients c d ≡ Some o →
+      (r : Result Stat Errno) → ((l : Location) (n : NodeId) → located m.clients o ≡ Some l →
+      Stands s.tree l n → r ≡ status_standing (the_layers m) l) → Shows (status_reply r)
   directory-status o is r tells =
       let a = attributes x.2.location x.2.stands in
       status-shown h x.1 (status_reply r)
@@ -155,12 +163,17 @@ module _ (m : Mount) (s : State) (st : IsStateOf m s) (c d : ℕ) where
     module _ (r : Result Stat Errno) where
       -- of one that has a path, what is there
       pub named-status : (p : Path) → Some p ≡ option_and_then (path_of m.clients) (directory_by m.clients c d) → r ≡ stat_at (the_layers m) p → Shows (status_reply r)
-      named-status p path is = directory-status standing.0 standing.1 r (λ l n at stands. status-named (the_layers m) p r is l (path ∙ ap (option_and_then (path_of m.clients)) standing.1 ∙ ap (option_and_then path_in) at))
+      named-status p path is =
+          directory-status standing.0 standing.1 r (λ l n at stands. status-named
+          (the_layers m) p r is l (path ∙ ap (option_and_then (path_of m.clients)) standing.1
+          ∙ ap (option_and_then path_in) at))
 
       -- of one that was removed, the attributes that it had
       pub removed-status : None ≡ option_and_then (path_of m.clients) (directory_by m.clients c d) → ((a : Attributes) → option_and_then attributes_in (option_and_then (located m.clients) (directory_by m.clients c d)) ≡ Some a → r ≡ Ok (stat_with kind.Directory a 0 1)) → Shows (status_reply r)
       removed-status path tells =
           directory-status standing.0 standing.1 r
           (λ l n at stands. status-removed (the_layers m) s.tree n r l stands
-          (path ∙ ap (option_and_then (path_of m.clients)) standing.1 ∙ ap (option_and_then path_in) at)
-          (λ a e. tells a (ap (λ z. option_and_then attributes_in (option_and_then (located m.clients) z)) standing.1 ∙ ap (option_and_then attributes_in) at ∙ e)))
+          (path ∙ ap (option_and_then (path_of m.clients)) standing.1
+          ∙ ap (option_and_then path_in) at)
+          (λ a e. tells a (ap (λ z. option_and_then attributes_in (option_and_then
+          (located m.clients) z)) standing.1 ∙ ap (option_and_then attributes_in) at ∙ e)))

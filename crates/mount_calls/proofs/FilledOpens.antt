@@ -1,5 +1,6 @@
 -- Opens that give a marked file of the upper bytes of its own: the states that the mount stands for on the way.
-use Rattle.std.proofs.Common.{◌≡◌, ◌≢◌, ◌↔◌, ℕ, true, false, cond, List, [], ◌∷◌, Option, None, Some, refl, sym, ap, ◌∙◌, subst, ◌⊎◌, inl, inr, is_some}
+use Rattle.std.proofs.Common.{◌≡◌, ◌≢◌, ◌↔◌, ℕ, true, false, cond, List, [], ◌∷◌, Option, None}
+use Rattle.std.proofs.Common.{Some, refl, sym, ap, ◌∙◌, subst, ◌⊎◌, inl, inr, is_some}
 use Rattle.merged_lookup.specs.Merged.{upper_of}
 use Rattle.mount_calls.proofs.Words.{AreLayers, bad_flags, bytes_at, Call, cases_eq, change, Content, Contents, EINVAL, false≢true, File, file_bytes, Handle, Inode, IsLive, IsMountOf, Layer, Layers, layers_of, live_handle, lowers_of, lowest_free, NodeId, OpenFile, OpenFlags, opening_fault, option_and_then, option_map, parents_fault, Path, Place, refusal, shows, shows_link, ShowsInode, State, StaysLayers, Tree, way_of, when, with_handle}
 use Rattle.ov_base.specs.declared.bytes.Content.TheVariants as content
@@ -31,7 +32,8 @@ use Rattle.mount_calls.proofs.Carrying.{state-on}
 use Rattle.mount_calls.proofs.Changing.{handle-on}
 use Rattle.mount_calls.proofs.Marks.{bare-own, over-shown}
 use Rattle.mount_calls.proofs.Raising.{link-filled}
-use Rattle.mount_calls.proofs.Openings.{IsShownFile, OpensOn, file-there, free-there, fresh-one, no-link, state-open, unfaulted}
+use Rattle.mount_calls.proofs.Openings.{IsShownFile, OpensOn, file-there, free-there, fresh-one}
+use Rattle.mount_calls.proofs.Openings.{no-link, state-open, unfaulted}
 use Rattle.mount_calls.proofs.OpeningWrites.{writing-served}
 use Rattle.mount_calls.proofs.Stating.{the_layers, the_lowers, the_upper}
 
@@ -85,7 +87,8 @@ module _ (m : Mount) (s : State) (st : IsStateOf m s) (c : ℕ)
     (p : Path) (f : OpenFlags) (mode : ℕ) (fine : opening_fault (layers_of m.layers) p f mode (Some 0) ≡ None) (w : f.writes ≡ true)
     (place : Place) (own : place.layer ≡ 0) (shown : ShowsInode m.layers p place)
     (new : Layers) (low : new.lowers ≡ m.layers.lowers) (keeps : StaysLayers m.layers new) (gives : Gives m.layers new place.key f)
-    (d : ℕ) (last : Clients) (opens : OpensOn m.clients last c d (File (file_at (record { layer = 0; key = place.key }) f None))) where
+    (d : ℕ) (last : Clients) (opens : OpensOn m.clients last c d
+    (File (file_at (record { layer = 0; key = place.key }) f None))) where
   abbrev V : Layer
   V = upper_of new
 
@@ -158,7 +161,8 @@ module _ (m : Mount) (s : State) (st : IsStateOf m s) (c : ℕ)
   filled-state =
       state-on m s st new low t s.serial
       (subst (λ (Ls : List Layer). IsMountOf V Ls (record s { tree = t })) (sym (lowers-same m.layers new low)) alters.mounts)
-      (handle-on s.tree t (λ q e at. alters.paths q ∙ at) hidden-still (λ e folder. alters.folders e ∙ folder) m.clients.objects.tree)
+      (handle-on s.tree t (λ q e at. alters.paths q ∙ at) hidden-still (λ e folder. alters.folders e
+      ∙ folder) m.clients.objects.tree)
       (record {
         live = λ b fd g h k at on is. live-still h.node k;
         leaves = λ b fd h on. leaf-still h.node;
@@ -176,9 +180,11 @@ module _ (m : Mount) (s : State) (st : IsStateOf m s) (c : ℕ)
   -- the mount stands for the state in which it is open
   opened-state : IsStateOf (record m { layers = new; clients = last }) (record s { tree = t; tables = with_handle s.tables c d (Some made) })
   opened-state =
-      state-open (record m { layers = new }) (record s { tree = t }) filled-state c (File file) d last opens made
+      state-open (record m { layers = new }) (record s { tree = t }) filled-state c
+      (File file) d last opens made
       (record { source = (alters.live, refl); own = λ on. own-node; reads = refl; writes = refl; append = refl; place = refl; unlisted = refl })
-      (fresh-one (record m { layers = new }) (record s { tree = t }) filled-state c p file made (alters.paths p ∙ law.at) (alters.live, refl))
+      (fresh-one (record m { layers = new }) (record s { tree = t }) filled-state c p file made
+      (alters.paths p ∙ law.at) (alters.live, refl))
 
   -- and answers as the machine
   pub open-filled : Serves (refusal s c asked) s c asked (reply.Descriptor d) (record m { layers = new; clients = last })

@@ -1,13 +1,19 @@
 -- What a removal leaves once what lost its last name is freed.
-use Rattle.std.proofs.Common.{◌≡◌, ◌≢◌, ℕ, Bool, true, false, cond, Option, None, List, ◌∷◌, ◌++◌, Some, refl, sym, ap, ◌∙◌, subst, is_some, rules, arith}
+use Rattle.std.proofs.Common.{◌≡◌, ◌≢◌, ℕ, Bool, true, false, cond, Option, None, List, ◌∷◌, ◌++◌}
+use Rattle.std.proofs.Common.{Some, refl, sym, ap, ◌∙◌, subst, is_some, rules, arith}
 use Rattle.merged_lookup.specs.Merged.{upper_of}
-use Rattle.mount_calls.proofs.Words.{after, AreLayers, Call, false≢true, Folder, Inode, inode_of, is_directory, IsLive, layer_of, Layers, layers_of, lowers_of, NodeId, option_and_then, option_map, Path, Removes, shows, State, StaysLayers, StaysMount, Tree}
-use Rattle.plain_model.specs.Layers.{Directory, Named, Object, Whiteout, below, cuts, held, over, unless}
+use Rattle.mount_calls.proofs.Words.{after, AreLayers, Call, false≢true, Folder, Inode, inode_of}
+use Rattle.mount_calls.proofs.Words.{is_directory, IsLive, layer_of, Layers, layers_of, lowers_of}
+use Rattle.mount_calls.proofs.Words.{NodeId, option_and_then, option_map, Path, Removes, shows}
+use Rattle.mount_calls.proofs.Words.{State, StaysLayers, StaysMount, Tree}
+use Rattle.plain_model.specs.Layers.{Directory, Named, Object, Whiteout, below, cuts, held, over}
+use Rattle.plain_model.specs.Layers.{unless}
 use Rattle.plain_model.specs.Tree.{merged}
 use Rattle.mount_laws.specs.Removals.{Loses, ShowsNoName}
 use Rattle.slab.specs.Slab.{get}
 use Rattle.layer_tree.specs.Table.{entry_in, object_key}
-use Rattle.layer_tree.specs.Tree.{table_of, seen, inode_at, child, Frees, IsUnmarked, IsTree, SameObjects}
+use Rattle.layer_tree.specs.Tree.{table_of, seen, inode_at, child, Frees, IsUnmarked, IsTree}
+use Rattle.layer_tree.specs.Tree.{SameObjects}
 use Rattle.layer_tree.specs.Tree.{Tree as LayerTree}
 use Rattle.layer_tree.specs.Nameless.{IsNameless}
 use Rattle.layer_tree.specs.declared.node.Inode.{Inode as StoredInode}
@@ -103,20 +109,27 @@ one-back : (b : Bool) (j k : ℕ) → cond b None (Some j) ≡ Some k → j ≡ 
 one-back b j k is = grind arith
 
 -- what is handed back at a path that shows no directory is the inode that the upper names there
-pub released-named : (l : Layers) (p : Path) (released : Option ℕ) (k : ℕ) → is_directory (shows 0 (layers_of l) p) ≡ false → released ≡ last_named l.upper (held (layer_of l.upper) p) → released ≡ Some k → held (layer_of l.upper) p ≡ Some (Named k)
+pub released-named : (l : Layers) (p : Path) (released : Option ℕ) (k : ℕ) →
+    is_directory (shows 0 (layers_of l) p) ≡ false →
+    released ≡ last_named l.upper (held (layer_of l.upper) p) → released ≡ Some k →
+    held (layer_of l.upper) p ≡ Some (Named k)
 released-named l p released k file back is = by (held (layer_of l.upper) p) refl
   where
     handed : (o : Option Object) → held (layer_of l.upper) p ≡ o → last_named l.upper o ≡ Some k
     handed o e = sym (back ∙ ap (last_named l.upper) e) ∙ is
 
-    by : (o : Option Object) → held (layer_of l.upper) p ≡ o → held (layer_of l.upper) p ≡ Some (Named k)
+    by : (o : Option Object) → held (layer_of l.upper) p ≡ o →
+        held (layer_of l.upper) p ≡ Some (Named k)
     by None e = let no : None ≡ Some k = handed None e in absurd (cc)
     by (Some Whiteout) e = let no : None ≡ Some k = handed (Some Whiteout) e in absurd (cc)
     by (Some (Directory n a o r)) e =
         let shown : shows 0 (layers_of l) p ≡ Some (Folder 0 n a) =
-            ap (λ z. over 0 (upper_of l).inodes z (unless (cuts (upper_of l) p) (shows 1 (lowers_of l) (below (upper_of l) p)))) e in
+        ap (λ z. over 0 (upper_of l).inodes z (unless (cuts (upper_of l) p) (shows 1 (lowers_of l)
+        (below (upper_of l) p)))) e in
         absurd (false≢true (sym file ∙ ap is_directory shown))
-    by (Some (Named j)) e = e ∙ ap (λ z. Some (Named z)) (one-back (has_more 1 (inode_at l.upper j)) j k (handed (Some (Named j)) e))
+    by (Some (Named j)) e =
+        e ∙ ap (λ z. Some (Named z)) (one-back (has_more 1 (inode_at l.upper j)) j k
+        (handed (Some (Named j)) e))
 
 -- no number is none
 pub not-some : (number : Option ℕ) → is_some number ≡ false → number ≡ None
@@ -124,7 +137,10 @@ not-some None off = refl
 not-some (Some n) off = absurd (false≢true (sym off))
 
 -- a file that isn't freed stays live
-pub freed-live : (old new : Layers) (key : ℕ) → Frees old.upper new.upper key → SameObjects (layer_of old.upper) (layer_of new.upper) → new.lowers ≡ old.lowers → (t : Tree) (d : NodeId) (k : ℕ) → k ≢ key → IsLive (upper_of old) t d k → IsLive (upper_of new) t d k
+pub freed-live : (old new : Layers) (key : ℕ) → Frees old.upper new.upper key →
+    SameObjects (layer_of old.upper) (layer_of new.upper) → new.lowers ≡ old.lowers →
+    (t : Tree) (d : NodeId) (k : ℕ) → k ≢ key → IsLive (upper_of old) t d k →
+    IsLive (upper_of new) t d k
 freed-live old new key frees objects low t d k off l = record {
   bytes = l.bytes;
   attributes = l.attributes;
@@ -132,5 +148,9 @@ freed-live old new key frees objects low t d k off l = record {
   mark = l.mark;
   inode = inode-raised old new low k (frees.inodes k off) ∙ l.inode;
   node = l.node;
-  paths = λ q. (λ led. objects q ∙ (l.paths q).0 led, λ names. (l.paths q).1 (sym (objects q) ∙ names));
+  paths = λ q. (
+    λ led. objects q ∙ (l.paths q).0 led,
+    λ names. (l.paths q).1 (sym (objects q)
+        ∙ names),
+  );
 }

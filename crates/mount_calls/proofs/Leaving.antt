@@ -1,7 +1,9 @@
 -- A client that has nothing open goes on both sides: its table goes.
-use Rattle.std.proofs.Common.{arith, ◌≡◌, ◌≢◌, ℕ, false, not, List, [], ◌∷◌, Option, refl, sym, ap, ◌∙◌, filter, is_some, cond, length, slice_get, nat_eq}
+use Rattle.std.proofs.Common.{arith, ◌≡◌, ◌≢◌, ℕ, false, not, List, [], ◌∷◌, Option, refl, sym, ap}
+use Rattle.std.proofs.Common.{◌∙◌, filter, is_some, cond, length, slice_get, nat_eq}
 use Rattle.merged_lookup.specs.Merged.{upper_of}
-use Rattle.mount_calls.proofs.Words.{Descriptors, DESCRIPTORS_MAX, held_in, handles_of, Layer, list_any, lowers_of, State, Table, Tree}
+use Rattle.mount_calls.proofs.Words.{Descriptors, DESCRIPTORS_MAX, held_in, handles_of, Layer}
+use Rattle.mount_calls.proofs.Words.{list_any, lowers_of, State, Table, Tree}
 use Rattle.plain_model.specs.Runs.{without_table}
 use Rattle.open_handles.specs.declared.clients.Clients.{Clients}
 use Rattle.mount_calls.specs.declared.mount.Mount.{Mount}
@@ -38,9 +40,11 @@ any-kept (k ∷ ks) n b h = grind (arith, any-kept ks n b h)
 -- without a client that goes the tables are those of the others
 go : (U : Layer) (lowers : List Layer) (t : Tree) (clients new : Clients) (ks : List Table) (n : ℕ) → AreTables (IsOpenAs U lowers t clients.objects.tree) clients ks → Detaches clients new n → KeepsPlaces clients new → AreTables (IsOpenAs U lowers t new.objects.tree) new (without n ks)
 go U lowers t clients new ks n a h places =
-    tables-but clients new ks (without n ks) n h.others (handles-kept ks n) (λ d. ap (open_in d) h.gone) U lowers t a places (any-kept ks n)
+    tables-but clients new ks (without n ks) n h.others (handles-kept ks n) (λ d. ap
+    (open_in d) h.gone) U lowers t a places (any-kept ks n)
     (any-gone ks n ∙ sym (ap (λ (o : Option Descriptors). is_some o) h.gone))
-    (ap length (handles-gone ks n) ∙ sym (ap (λ (o : Option Descriptors). cond (is_some o) DESCRIPTORS_MAX 0) h.gone))
+    (ap length (handles-gone ks n)
+    ∙ sym (ap (λ (o : Option Descriptors). cond (is_some o) DESCRIPTORS_MAX 0) h.gone))
     (λ d. ap (λ z. held_in (slice_get z d)) (handles-gone ks n))
 
 -- the mount stands for the state without a client that is gone

@@ -1,8 +1,10 @@
 -- Calls that a mount made, by how each ended.
-use Rattle.std.proofs.Common.{◌≡◌, ℕ, true, false, Option, None, Some, Result, Ok, Err, is_some, refl, sym, ap, ◌∙◌, subst}
+use Rattle.std.proofs.Common.{◌≡◌, ℕ, true, false, None, Result, Ok, Err, is_some, refl, sym, ap}
+use Rattle.std.proofs.Common.{subst}
 use Rattle.std.specs.Prelude.{IsErr}
 use Rattle.std.specs.BTreeMap.{get}
-use Rattle.mount_calls.proofs.Words.{after, AllocError, Call, Errno, Layers, nat_cmp, refusal, Reply, reply_of, State, StaysMount}
+use Rattle.mount_calls.proofs.Words.{after, AllocError, Call, Errno, Layers, nat_cmp, refusal}
+use Rattle.mount_calls.proofs.Words.{Reply, reply_of, State, StaysMount}
 use Rattle.ov_base.specs.declared.reply.Reply.TheVariants as reply
 use Rattle.copy_up.specs.Showing.{StaysThin}
 use Rattle.open_handles.specs.declared.clients.Clients.{Clients}
@@ -29,7 +31,8 @@ attached-same clients = record { attached = λ n. refl; next = refl }
 
 -- and so do those of which only what is held changes
 pub attached-kept : (old new : Clients) → KeepsClients old new → KeepsAttached old new
-attached-kept old new kept = record { attached = λ n. ap (λ z. is_some (get nat_cmp z n)) kept.attached; next = kept.next }
+attached-kept old new kept =
+    record { attached = λ n. ap (λ z. is_some (get nat_cmp z n)) kept.attached; next = kept.next }
 
 module _ (c : ℕ) (k : Call) (old new : Mount) where
   -- what each live file is told of a call that is not refused

@@ -1,7 +1,13 @@
 -- Opens that make a file: the states that the mount stands for on the way.
-use Rattle.std.proofs.Common.{arith, ◌≡◌, ◌↔◌, ◌<◌, ℕ, zero, suc, false, cond, List, [], None, Some, Ok, refl, sym, ap, ◌∙◌, subst, is_none, is_some}
+use Rattle.std.proofs.Common.{arith, ◌≡◌, ◌↔◌, ℕ, suc, false, cond, List, [], None, Some, refl, sym}
+use Rattle.std.proofs.Common.{ap, ◌∙◌, subst, is_none, is_some}
 use Rattle.merged_lookup.specs.Merged.{upper_of}
-use Rattle.mount_calls.proofs.Words.{after, Call, change, false≢true, File, fresh, Handle, inode_of, IsLive, IsMountOf, Layer, Layers, layers_of, Leaf, live_handle, lowers_of, lowest_free, made_way, New, NodeId, OpenFile, OpenFlags, opening_fault, option_and_then, option_map, Own, Path, refusal, shows, State, StaysMount, Tree, Upper, way_of, with_handle}
+use Rattle.mount_calls.proofs.Words.{after, Call, change, false≢true, File, fresh, Handle, inode_of}
+use Rattle.mount_calls.proofs.Words.{IsLive, IsMountOf, Layer, Layers, layers_of, Leaf, live_handle}
+use Rattle.mount_calls.proofs.Words.{lowers_of, lowest_free, made_way, New, NodeId, OpenFile}
+use Rattle.mount_calls.proofs.Words.{OpenFlags, opening_fault, option_and_then, option_map, Own}
+use Rattle.mount_calls.proofs.Words.{Path, refusal, shows, State, StaysMount, Tree, Upper, way_of}
+use Rattle.mount_calls.proofs.Words.{with_handle}
 use Rattle.slab.specs.Slab.{get}
 use Rattle.ov_base.specs.declared.bytes.Content.TheVariants as content
 use Rattle.ov_base.specs.declared.call.CallOf.TheVariants as call
@@ -39,13 +45,19 @@ not-open m s st k vacant has =
 
 module _ (m : Mount) (s : State) (st : IsStateOf m s) where
   -- a mount that runs out of memory leaves the state
-  pub wanted-state : (new : Layers) (p : Path) → StaysMount m.layers new → GainsParents m.layers new p → IsStateOf (record m { layers = new }) s
-  wanted-state new p mounts parents = state-stays m s st new parents.lowers (mounts s st.layers) (parents-live m.layers new p parents)
+  pub wanted-state : (new : Layers) (p : Path) → StaysMount m.layers new →
+      GainsParents m.layers new p → IsStateOf (record m { layers = new }) s
+  wanted-state new p mounts parents =
+      state-stays m s st new parents.lowers (mounts s st.layers)
+      (parents-live m.layers new p parents)
 
   -- an open that makes its file
-  module _ (c : ℕ) (p : Path) (f : OpenFlags) (mode : ℕ) (fine : opening_fault (layers_of m.layers) p f mode (Some 0) ≡ None) (absent : shows 0 (layers_of m.layers) p ≡ None)
+  module _ (c : ℕ) (p : Path) (f : OpenFlags) (mode : ℕ) (fine : opening_fault
+      (layers_of m.layers) p f mode (Some 0) ≡ None) (absent : shows 0
+      (layers_of m.layers) p ≡ None)
       (new : Layers) (key : ℕ) (leaf : MakesLeaf m.layers new p (content.File []) (new_attributes mode)) (number : leaf.number ≡ key) (steps : CreateSteps m.layers new p mode)
-      (d : ℕ) (last : Clients) (opens : OpensOn m.clients last c d (File (file_at (record { layer = 0; key = key }) f None))) where
+      (d : ℕ) (last : Clients) (opens : OpensOn m.clients last c d
+      (File (file_at (record { layer = 0; key = key }) f None))) where
     abbrev V : Layer
     V = upper_of new
 
@@ -85,11 +97,13 @@ module _ (m : Mount) (s : State) (st : IsStateOf m s) where
     tree-made = ap (λ o. cond (is_none o) (made_way s.tree s.serial (way_of s.tree p) (Leaf (content.File []) (fresh mode) (Own false) 1)) (change (opened f) s.tree o)) law.absent
 
     -- what was open is what it was
-    made-state : IsStateOf (record m { layers = new }) (record s { tree = u; serial = suc s.serial })
+    made-state : IsStateOf (record m { layers = new })
+        (record s { tree = u; serial = suc s.serial })
     made-state =
         state-on m s st new leaf.lowers u (suc s.serial) made-mounts
         (handle-beside m s st new c asked p _ tree-made steps-there.stays steps-there.hidden)
-        (files-kept m.layers new s st.layers c asked m.clients m.metacopy st.metacopy (create-live m.layers new m.metacopy p mode leaf steps f) (open-leaves p f mode))
+        (files-kept m.layers new s st.layers c asked m.clients m.metacopy st.metacopy
+        (create-live m.layers new m.metacopy p mode leaf steps f) (open-leaves p f mode))
 
     -- the new file is live
     made-live : IsLive V u (New s.serial) key
@@ -99,20 +113,23 @@ module _ (m : Mount) (s : State) (st : IsStateOf m s) where
         subst (IsLive V u (New s.serial)) (sym (one-number V p leaf.number g.number leaf.held_there g.here) ∙ number) (law_of_live_made (the_upper m) V (the_lowers m) s c p f mode g x)
 
     -- no open file is on its node or under its key
-    made-fresh : (j : ℕ) (e : NodeId) → IsOpenOn m.clients s.tables j e → (New s.serial ≡ e) ↔ (key ≡ j)
+    made-fresh : (j : ℕ) (e : NodeId) → IsOpenOn m.clients s.tables j e →
+        (New s.serial ≡ e) ↔ (key ≡ j)
     made-fresh j e y =
         let live : IsLive (the_upper m) s.tree e j = open-live m s st j e y in
         let none : s.tree (New s.serial) ≡ None = st.layers.kept.unused s.serial (omega arith) in (
           λ same_node. absurd (false≢true (sym (ap is_some none) ∙ ap (λ z. is_some (s.tree z)) same_node ∙ ap is_some live.node)),
           λ same_key.
-              absurd (not-open m s st j (ap (get m.layers.upper) (sym same_key) ∙ ap (get m.layers.upper) (sym number) ∙ leaf.vacant)
+              absurd (not-open m s st j (ap (get m.layers.upper) (sym same_key)
+              ∙ ap (get m.layers.upper) (sym number) ∙ leaf.vacant)
               (record { client = y.client; descriptor = y.descriptor; file = y.file; opened = y.opened; key = y.key })),
         )
 
     -- the mount stands for the state in which the file is open
     opened-state : IsStateOf (record m { layers = new; clients = last }) (record s { tree = u; serial = suc s.serial; tables = with_handle s.tables c d (Some made) })
     opened-state =
-        state-open (record m { layers = new }) (record s { tree = u; serial = suc s.serial }) made-state c (File file) d last opens made
+        state-open (record m { layers = new }) (record s { tree = u; serial = suc s.serial })
+        made-state c (File file) d last opens made
         (record { source = (made-live, refl); own = λ on. bare-own V u (New s.serial) key made-live _ (ap V.inodes (sym number) ∙ leaf.inode) refl; reads = refl; writes = refl; append = refl; place = refl; unlisted = refl })
         (λ g k j e same_file of y.
         let files : file ≡ g = cc in

@@ -1,5 +1,6 @@
 -- Opens for writing of files of the upper: what is opened is as the machine opens it, emptied where that is asked for.
-use Rattle.std.proofs.Common.{arith, ◌≡◌, ℕ, true, false, cond, List, [], Option, None, Some, refl, sym, ap, ◌∙◌, subst, ◌⊎◌, inl, inr, nat_eq, nat_lt, is_some}
+use Rattle.std.proofs.Common.{arith, ◌≡◌, ℕ, true, false, cond, List, [], Option, None, Some, refl}
+use Rattle.std.proofs.Common.{sym, ap, ◌∙◌, subst, ◌⊎◌, inl, inr, nat_eq, nat_lt, is_some}
 use Rattle.mount_calls.proofs.Words.{Attributes, bad_flags, Call, cases_Bool, change, Contents, EINVAL, File, Handle, IsLive, Layer, Layers, layers_of, Leaf, live_handle, Lower, lowest_free, Node, NodeId, OpenFile, OpenFlags, opening_fault, Own, Path, Place, refusal, rewritten, shows, ShowsInode, sized, State, StaysLayers, Tree, Upper, way_of, when, with_handle}
 use Rattle.ov_base.specs.declared.bytes.Content.TheVariants as content
 use Rattle.ov_base.specs.declared.call.CallOf.TheVariants as call
@@ -19,7 +20,9 @@ use Rattle.mount_calls.specs.declared.mount.Mount.{Mount}
 use Rattle.mount_calls.specs.Files.{IsKept, IsOf, read_mark, source_at, file_at}
 use Rattle.mount_calls.specs.Living.{SetsFile}
 use Rattle.mount_calls.specs.States.{IsStateOf, Serves}
-use Rattle.mount_calls.proofs.Openings.{IsShownFile, OpensOn, fresh-one, free-there, state-open, unfaulted, file-there, open-file, open-leads, open-served, writes-kept}
+use Rattle.mount_calls.proofs.Openings.{IsShownFile, OpensOn, fresh-one, free-there, state-open}
+use Rattle.mount_calls.proofs.Openings.{unfaulted, file-there, open-file, open-leads, open-served}
+use Rattle.mount_calls.proofs.Openings.{writes-kept}
 use Rattle.mount_calls.proofs.Rewritten.{state-rewritten}
 use Rattle.mount_calls.proofs.Stating.{the_layers, the_lowers, the_upper}
 use Rattle.mount_calls.proofs.Marks.{live-own, mark-there}
@@ -56,7 +59,11 @@ writing-served m s st c p f mode fine law d free t becomes =
     (law.state ∙ ap (λ y. record s { tree = y; tables = with_handle s.tables c law.descriptor (Some (live_handle f law.node (way_of s.tree p))) }) becomes)
 
 -- a file of the upper is opened to be written
-module _ (m : Mount) (s : State) (st : IsStateOf m s) (c : ℕ) (p : Path) (f : OpenFlags) (mode : ℕ) (fine : opening_fault (layers_of m.layers) p f mode (Some 0) ≡ None) (w : f.writes ≡ true) (place : Place) (own : place.layer ≡ 0) (bare : mark_at m.layers.upper place.key ≡ None) (shown : ShowsInode m.layers p place) (d : ℕ) (new : Clients) (opens : OpensOn m.clients new c d (File (file_at place f None))) where
+module _ (m : Mount) (s : State) (st : IsStateOf m s) (c : ℕ) (p : Path) (f : OpenFlags) (mode : ℕ)
+    (fine : opening_fault (layers_of m.layers) p f mode (Some 0) ≡ None) (w : f.writes ≡ true)
+    (place : Place) (own : place.layer ≡ 0) (bare : mark_at m.layers.upper place.key ≡ None)
+    (shown : ShowsInode m.layers p place) (d : ℕ) (new : Clients) (opens : OpensOn m.clients new c d
+    (File (file_at place f None))) where
   abbrev asked : Call
   asked = call.Open p f mode
 
@@ -125,14 +132,24 @@ module _ (m : Mount) (s : State) (st : IsStateOf m s) (c : ℕ) (p : Path) (f : 
       let empties : SetsFile m.layers layers place.key [] = subst (SetsFile m.layers layers place.key) (sized-none live.bytes) (sets place.key live.bytes key bytes) in
       done layers (rewritten s.tree law.node [])
       (tree-emptied f w s.tree law.node live.bytes live.attributes live.links own-node e)
-      (state-rewritten (record m { clients = new }) held held-state layers place.key law.node [] (open-leads m s st c (File file) d new opens file made place.key refl key) keeps empties)
+      (state-rewritten (record m { clients = new }) held held-state layers place.key law.node []
+      (open-leads m s st c (File file) d new opens file made place.key refl key) keeps empties)
 
 -- an open of a file that isn't emptied, for writing where it is the upper's and has bytes of its own
-pub open-whole : (m : Mount) (s : State) (st : IsStateOf m s) (c : ℕ) (p : Path) (f : OpenFlags) (mode : ℕ) → opening_fault (layers_of m.layers) p f mode (Some 0) ≡ None → f.truncate ≡ false → (place : Place) → (f.writes ≡ true → (place.layer ≡ 0) × (mark_at m.layers.upper place.key ≡ None)) → ShowsInode m.layers p place → (low : Option Place) → IsKept (the_lowers m) (read_mark m.layers place f.writes) low → (d : ℕ) (new : Clients) → OpensOn m.clients new c d (File (file_at place f low)) → Serves (refusal s c (call.Open p f mode)) s c (call.Open p f mode) (reply.Descriptor d) (record m { clients = new })
+pub open-whole : (m : Mount) (s : State) (st : IsStateOf m s) (c : ℕ) (p : Path) (f : OpenFlags)
+    (mode : ℕ) → opening_fault (layers_of m.layers) p f mode (Some 0) ≡ None → f.truncate ≡ false →
+    (place : Place) →
+    (f.writes ≡ true → (place.layer ≡ 0) × (mark_at m.layers.upper place.key ≡ None)) →
+    ShowsInode m.layers p place → (low : Option Place) →
+    IsKept (the_lowers m) (read_mark m.layers place f.writes) low → (d : ℕ) (new : Clients) →
+    OpensOn m.clients new c d (File (file_at place f low)) →
+    Serves (refusal s c (call.Open p f mode)) s c (call.Open p f mode) (reply.Descriptor d)
+    (record m { clients = new })
 open-whole m s st c p f mode fine t place own shown low kept d new opens = by (cases_Bool f.writes)
   where
     by : (f.writes ≡ true) ⊎ (f.writes ≡ false) → Serves (refusal s c (call.Open p f mode)) s c (call.Open p f mode) (reply.Descriptor d) (record m { clients = new })
     by (inl w) =
         let none : low ≡ None = writes-kept (the_lowers m) (mark_at m.layers.upper place.key) low f.writes (nat_lt 0 place.layer) w kept in
-        open-kept m s st c p f mode fine w place (own w).0 (own w).1 shown d new (subst (λ z. OpensOn m.clients new c d (File (file_at place f z))) none opens) t
+        open-kept m s st c p f mode fine w place (own w).0 (own w).1 shown d new
+        (subst (λ z. OpensOn m.clients new c d (File (file_at place f z))) none opens) t
     by (inr r) = open-file m s st c p f mode fine place shown r low kept d new opens

@@ -1,7 +1,18 @@
 -- Opens: what they are refused for, and that what is opened for reading is as the machine opens it.
-use Rattle.std.proofs.Common.{arith, ◌≡◌, ◌↔◌, ℕ, zero, suc, ◌+◌, ◌<◌, ◌≤◌, Bool, true, false, not, cond, ◌&&◌, ◌||◌, List, Option, None, Some, map, refl, sym, ap, ◌∙◌, subst, ◌⊎◌, inl, inr, is_none, is_some, nat_lt}
+use Rattle.std.proofs.Common.{arith, ◌≡◌, ◌↔◌, ℕ, zero, suc, ◌+◌, ◌<◌, ◌≤◌, Bool, true, false, not}
+use Rattle.std.proofs.Common.{cond, ◌&&◌, ◌||◌, List, Option, None, Some, map, refl, sym, ap, ◌∙◌}
+use Rattle.std.proofs.Common.{subst, ◌⊎◌, inl, inr, is_none, is_some, nat_lt}
 use Rattle.std.proofs.Common.{rules}
-use Rattle.mount_calls.proofs.Words.{after, At, Attributes, bad_flags, base, Call, Content, Contents, DESCRIPTORS_MAX, Directory, EINVAL, Errno, face, false≢true, File, Folder, Handle, Inode, inode_of, is_directory, Layer, layer_of, Layers, layers_of, Leaf, Lower, lowers_of, lowest_free, ne_eqb, Node, node_at, node_in, node_of, NodeId, OpenFile, OpenFlags, opening_fault, option_and_then, or_else, Own, parents_fault, Path, Place, refusal, reply_of, see, SetsSlot, Shown, shows, shows_link, ShowsInode, State, Table, trees, Upper, way_of, when, with_handle}
+use Rattle.mount_calls.proofs.Words.{after, At, Attributes, bad_flags, base, Call, Content}
+use Rattle.mount_calls.proofs.Words.{Contents, DESCRIPTORS_MAX, Directory, EINVAL, Errno, face}
+use Rattle.mount_calls.proofs.Words.{false≢true, File, Folder, Handle, Inode, inode_of}
+use Rattle.mount_calls.proofs.Words.{is_directory, Layer, layer_of, Layers, layers_of, Leaf, Lower}
+use Rattle.mount_calls.proofs.Words.{lowers_of, lowest_free, ne_eqb, Node, node_at, node_in}
+use Rattle.mount_calls.proofs.Words.{node_of, NodeId, OpenFile, OpenFlags, opening_fault}
+use Rattle.mount_calls.proofs.Words.{option_and_then, or_else, Own, parents_fault, Path, Place}
+use Rattle.mount_calls.proofs.Words.{refusal, reply_of, see, SetsSlot, Shown, shows, shows_link}
+use Rattle.mount_calls.proofs.Words.{ShowsInode, State, Table, trees, Upper, way_of, when}
+use Rattle.mount_calls.proofs.Words.{with_handle}
 use Rattle.ov_base.specs.declared.bytes.Content.TheVariants as content
 use Rattle.ov_base.specs.declared.call.CallOf.TheVariants as call
 use Rattle.ov_base.specs.declared.errno.Errno.TheVariants.{ELOOP, ENOTDIR, EMFILE}
@@ -148,15 +159,21 @@ pub record OpensOn (old new : Clients) (c d : ℕ) (on : On) : Type 0 where
   pub changes : ChangesClient old new c (λ x y. SetsSlot x y d (Some handle))
 
 -- so it is where an open was prepared and is made then
-pub opens-on : (old new : Clients) (c d : ℕ) (h : handles.Handle) (on : On) → IsLowestFree old c d → OpensHandle old new c d h → h.on ≡ on → OpensOn old new c d on
-opens-on old new c d h on low opens is = record { handle = h; leads = is; lowest = low; changes = opens.changes }
+pub opens-on : (old new : Clients) (c d : ℕ) (h : handles.Handle) (on : On) → IsLowestFree old c d →
+    OpensHandle old new c d h → h.on ≡ on → OpensOn old new c d on
+opens-on old new c d h on low opens is =
+    record { handle = h; leads = is; lowest = low; changes = opens.changes }
 
 -- what was held for a handle is held for it
-pub held-for : (clients : Clients) (h : handles.Handle) (hold : Hold) → tracked_of h ≡ hold → ((n : ℕ) → handle_uses n hold ≤ beside clients n) → (n : ℕ) → handle_uses n (tracked_of h) ≤ beside clients n
-held-for clients h hold is held = subst (λ z. (n : ℕ) → handle_uses n z ≤ beside clients n) (sym is) held
+pub held-for : (clients : Clients) (h : handles.Handle) (hold : Hold) → tracked_of h ≡ hold →
+    ((n : ℕ) → handle_uses n hold ≤ beside clients n) → (n : ℕ) →
+    handle_uses n (tracked_of h) ≤ beside clients n
+held-for clients h hold is held = subst (λ z. (n : ℕ) →
+    handle_uses n z ≤ beside clients n) (sym is) held
 
 -- and the handle that is opened holds it
-pub opens-hold : (old new : Clients) (c d : ℕ) (h : handles.Handle) (hold : Hold) → OpensHandle old new c d h → tracked_of h ≡ hold → OpensHold old new c d hold
+pub opens-hold : (old new : Clients) (c d : ℕ) (h : handles.Handle) (hold : Hold) →
+    OpensHandle old new c d h → tracked_of h ≡ hold → OpensHold old new c d hold
 opens-hold old new c d h hold opens is = record {
   objects = opens.objects;
   sets = subst (λ z. SetsTracked (tables_of old) (tables_of new) c d (Some z)) is opens.sets;
@@ -164,7 +181,10 @@ opens-hold old new c d h hold opens is = record {
 }
 
 -- what was held at a path for a handle on a directory stands there once that is opened
-pub held-there : (old new : Clients) (h : handles.Handle) (hold : Hold) (p : Path) → new.objects ≡ old.objects → tracked_of h ≡ hold → spot_of old.objects hold.object ≡ Some (spots.At p) → places.opened new.objects.tree h.object ≡ Some (At p)
+pub held-there : (old new : Clients) (h : handles.Handle) (hold : Hold) (p : Path) →
+    new.objects ≡ old.objects → tracked_of h ≡ hold →
+    spot_of old.objects hold.object ≡ Some (spots.At p) →
+    places.opened new.objects.tree h.object ≡ Some (At p)
 held-there old new h hold p same is at =
     ap (λ (z : Objects). places.opened z.tree h.object) same
     ∙ opened-path old.objects h.object p (ap (λ (z : Hold). spot_of old.objects z.object) is ∙ at)
@@ -180,26 +200,42 @@ record LeadsTo (o : handles.Handle) (x : Handle) (k : ℕ) (d : NodeId) : Type 0
 module _ (old new : Clients) (ks : List Table) (P : handles.Handle → Handle → Type 0) (a : AreTables P old ks) (c fd : ℕ) (o : handles.Handle) (x : Handle) (h : ChangesClient old new c (λ b y. SetsSlot b y fd (Some o))) (inside : fd < DESCRIPTORS_MAX) where
   -- a handle on a file of the upper was open before, or is the one that is set
   abbrev Led : handles.Handle → Handle → Type 0
-  Led p g = (f : OpenFile) (k : ℕ) → file_in (Some p) ≡ Some f → f.source ≡ Upper k → IsOpenOn old ks k g.node ⊎ LeadsTo o x k g.node
+  Led p g = (f : OpenFile) (k : ℕ) → file_in (Some p) ≡ Some f → f.source ≡ Upper k →
+      IsOpenOn old ks k g.node ⊎ LeadsTo o x k g.node
 
   -- each handle is such a one
   all-led : AreTables Led new (with_handle ks c fd (Some x))
   all-led =
       tables-set P old ks a new Led c fd (Some o) (Some x) h inside
-      (λ b d p g now was on is f k e key. inl (record { client = b; descriptor = d; file = f; handle = g; opened = ap file_in was ∙ e; key = key; on = on; at = refl }))
+      (λ b d p g now was on is f k e key. inl
+      (record {
+        client = b;
+        descriptor = d;
+        file = f;
+        handle = g;
+        opened = ap file_in was
+            ∙ e;
+        key = key;
+        on = on;
+        at = refl;
+      }))
       (λ f k e key. inr (record { file = f; opened = e; key = key; at = refl }))
 
   -- so is what a descriptor leads to
   led : (k : ℕ) (d : NodeId) → IsOpenOn new (with_handle ks c fd (Some x)) k d → IsOpenOn old ks k d ⊎ LeadsTo o x k d
   led k d y =
       let p = file-open (opened_by new y.client y.descriptor) y.file y.opened in
-      let at = open-at Led new (with_handle ks c fd (Some x)) all-led y.client y.descriptor p.0 p.1 in
+      let at = open-at Led new (with_handle ks c fd (Some x)) all-led y.client y.descriptor p.0 p.1
+      in
       let same : at.0 ≡ y.handle = cc (at.1, y.on) in
       let leads = at.2 y.file k (sym (ap file_in p.1) ∙ y.opened) y.key in
-      subst (λ z. IsOpenOn old ks k z ⊎ LeadsTo o x k z) (ap (λ (h : Handle). h.node) same ∙ y.at) leads
+      subst (λ z. IsOpenOn old ks k z ⊎ LeadsTo o x k z) (ap (λ (h : Handle). h.node) same
+      ∙ y.at) leads
 
   -- files and nodes are one still, where the file of that handle is one with those that were open
-  pub one-more : AreOne old ks → ((f : OpenFile) (k j : ℕ) (e : NodeId) → file_in (Some o) ≡ Some f → f.source ≡ Upper k → IsOpenOn old ks j e → (x.node ≡ e) ↔ (k ≡ j)) → AreOne new (with_handle ks c fd (Some x))
+  pub one-more : AreOne old ks → ((f : OpenFile) (k j : ℕ) (e : NodeId) →
+      file_in (Some o) ≡ Some f → f.source ≡ Upper k → IsOpenOn old ks j e →
+      (x.node ≡ e) ↔ (k ≡ j)) → AreOne new (with_handle ks c fd (Some x))
   one-more one fresh k j d e y z = by (led k d y) (led j e z)
     where
       by : IsOpenOn old ks k d ⊎ LeadsTo o x k d → IsOpenOn old ks j e ⊎ LeadsTo o x j e → (d ≡ e) ↔ (k ≡ j)
@@ -221,17 +257,22 @@ module _ (m : Mount) (s : State) (st : IsStateOf m s) (c : ℕ) where
   alike = Alike m.layers s m.clients
 
   -- an open file at a path is one with it exactly where it is one inode
-  pub fresh-one : (p : Path) (file : OpenFile) (x : Handle) → node_at s.tree p ≡ Some x.node → IsOf (the_upper m) (the_lowers m) s.tree file.source file.low x → (g : OpenFile) (k j : ℕ) (e : NodeId) → Some file ≡ Some g → g.source ≡ Upper k → IsOpenOn m.clients s.tables j e → (x.node ≡ e) ↔ (k ≡ j)
+  pub fresh-one : (p : Path) (file : OpenFile) (x : Handle) → node_at s.tree p ≡ Some x.node →
+      IsOf (the_upper m) (the_lowers m) s.tree file.source file.low x →
+      (g : OpenFile) (k j : ℕ) (e : NodeId) → Some file ≡ Some g → g.source ≡ Upper k →
+      IsOpenOn m.clients s.tables j e → (x.node ≡ e) ↔ (k ≡ j)
   fresh-one p file x at of g k j e same key y =
       let files : file ≡ g = cc in
       let keyed : file.source ≡ Upper k = ap (λ (z : OpenFile). z.source) files ∙ key in
       law_of_live_one (the_upper m) s.tree p x.node e k j at (upper-live (the_upper m) (the_lowers m) s.tree file.source file.low x k keyed of).0 (open-live m s st j e y)
 
   -- the machine finds the descriptor that is the lowest free one
-  pub lowest-there : (d : ℕ) → is_some (get nat_cmp m.clients.attached c) ≡ true → IsLowestFree m.clients c d → lowest_free s.tables c ≡ Some d
+  pub lowest-there : (d : ℕ) → is_some (get nat_cmp m.clients.attached c) ≡ true →
+      IsLowestFree m.clients c d → lowest_free s.tables c ≡ Some d
   lowest-there d there low =
       let ds = some-is (get nat_cmp m.clients.attached c) there in
-      free-lowest alike m.clients s.tables st.tables c d ds.0 ds.1 (lowest-slot m.clients c d ds.0 ds.1 low)
+      free-lowest alike m.clients s.tables st.tables c d ds.0 ds.1
+      (lowest-slot m.clients c d ds.0 ds.1 low)
 
   -- a descriptor that is opened on both sides, alike
   module _ (on : On) (d : ℕ) (new : Clients) (opens : OpensOn m.clients new c d on) where
@@ -240,26 +281,43 @@ module _ (m : Mount) (s : State) (st : IsStateOf m s) (c : ℕ) where
     free-there = lowest-there d (ap is_some opens.changes.was) opens.lowest
 
     -- on both sides it leads to its file
-    pub open-leads : (file : OpenFile) (made : Handle) (k : ℕ) → on ≡ File file → file.source ≡ Upper k → IsOpenOn new (with_handle s.tables c d (Some made)) k made.node
+    pub open-leads : (file : OpenFile) (made : Handle) (k : ℕ) → on ≡ File file →
+        file.source ≡ Upper k → IsOpenOn new (with_handle s.tables c d (Some made)) k made.node
     open-leads file made k is key = record {
       client = c;
       descriptor = d;
       file = file;
       handle = made;
-      opened = ap file_in (opened-after m.clients new c d opens.handle opens.changes) ∙ ap file_on (opens.leads ∙ is);
+      opened = ap file_in (opened-after m.clients new c d opens.handle opens.changes)
+          ∙ ap file_on (opens.leads ∙ is);
       key = key;
-      on = handle-set s.tables c d (Some made) (rw (room-of alike m.clients s.tables st.tables c (ap is_some opens.changes.was)) opens.lowest.in_range);
+      on = handle-set s.tables c d (Some made) (rw (room-of alike m.clients s.tables st.tables c
+          (ap is_some opens.changes.was)) opens.lowest.in_range);
       at = refl;
     }
 
     -- the mount stands for the state in which it is open
-    pub state-open : (made : Handle) → IsOpenOnAs (the_upper m) (the_lowers m) s.tree new.objects.tree opens.handle.object on made → ((g : OpenFile) (k j : ℕ) (e : NodeId) → file_on on ≡ Some g → g.source ≡ Upper k → IsOpenOn m.clients s.tables j e → (made.node ≡ e) ↔ (k ≡ j)) → IsStateOf (record m { clients = new }) (record s { tables = with_handle s.tables c d (Some made) })
+    pub state-open : (made : Handle) →
+        IsOpenOnAs (the_upper m) (the_lowers m) s.tree new.objects.tree opens.handle.object on made
+        → ((g : OpenFile) (k j : ℕ) (e : NodeId) → file_on on ≡ Some g → g.source ≡ Upper k →
+        IsOpenOn m.clients s.tables j e → (made.node ≡ e) ↔ (k ≡ j)) →
+        IsStateOf (record m { clients = new }) (record s {
+          tables = with_handle s.tables c d
+              (Some made);
+        })
     state-open made is fresh =
-        with-tables m s st (record m { clients = new }) (with_handle s.tables c d (Some made)) refl refl refl refl opens.changes.next
-        (tables-set alike m.clients s.tables st.tables new (Alike m.layers s new) c d (Some opens.handle) (Some made) opens.changes opens.lowest.in_range
-        (λ b i o g now was at like. placed (the_upper m) (the_lowers m) s.tree m.clients.objects.tree new.objects.tree o g (λ x l q stood. opens.changes.places b i x l (ap directory_in now ∙ q) stood) like)
-        (subst (λ z. IsOpenOnAs (the_upper m) (the_lowers m) s.tree new.objects.tree opens.handle.object z made) (sym opens.leads) is))
-        (one-more m.clients new s.tables alike st.tables c d opens.handle made opens.changes opens.lowest.in_range st.one
+        with-tables m s st (record m { clients = new }) (with_handle s.tables c d (Some made)) refl
+        refl refl refl opens.changes.next
+        (tables-set alike m.clients s.tables st.tables new (Alike m.layers s new) c d
+        (Some opens.handle) (Some made) opens.changes opens.lowest.in_range
+        (λ b i o g now was at like. placed (the_upper m)
+        (the_lowers m) s.tree m.clients.objects.tree new.objects.tree o g
+        (λ x l q stood. opens.changes.places b i x l (ap directory_in now ∙ q) stood) like)
+        (subst (λ z. IsOpenOnAs (the_upper m)
+        (the_lowers m) s.tree new.objects.tree opens.handle.object z made) (sym opens.leads)
+        is))
+        (one-more m.clients new s.tables alike st.tables c d opens.handle made opens.changes
+        opens.lowest.in_range st.one
         (λ g k j e led. fresh g k j e (sym (ap file_on opens.leads) ∙ led)))
 
   module _ (p : Path) (f : OpenFlags) (mode : ℕ) where
@@ -299,7 +357,8 @@ module _ (m : Mount) (s : State) (st : IsStateOf m s) (c : ℕ) where
       pub open-served : (d x : ℕ) → lowest_free s.tables c ≡ Some d → lowest_free s.tables c ≡ Some x → reply_of s c asked ≡ reply.Descriptor x → (next : ℕ → State) → after s c asked ≡ next x → (new : Mount) → IsStateOf new (next d) → Serves (refusal s c asked) s c asked (reply.Descriptor d) new
       open-served d x free found answer next state new stands = grind (arith, serve-done, unrefused)
 
-      module _ (w : f.writes ≡ false) (there : is_some (shows 0 (the_layers m) p) ≡ true) (on : On) (d : ℕ) (new : Clients) (opens : OpensOn m.clients new c d on) where
+      module _ (w : f.writes ≡ false) (there : is_some (shows 0 (the_layers m) p) ≡ true) (on : On)
+          (d : ℕ) (new : Clients) (opens : OpensOn m.clients new c d on) where
         -- the machine finds the same descriptor
         free : lowest_free s.tables c ≡ Some d
         free = free-there on d new opens
@@ -313,8 +372,15 @@ module _ (m : Mount) (s : State) (st : IsStateOf m s) (c : ℕ) where
         made = new_handle f law.node (way_of s.tree p) (s.tree law.node)
 
         -- what is opened is as the machine opens it
-        open-done : IsOpenOnAs (the_upper m) (the_lowers m) s.tree new.objects.tree opens.handle.object on made → ((g : OpenFile) (k j : ℕ) (e : NodeId) → file_on on ≡ Some g → g.source ≡ Upper k → IsOpenOn m.clients s.tables j e → (law.node ≡ e) ↔ (k ≡ j)) → Serves (refusal s c asked) s c asked (reply.Descriptor d) (record m { clients = new })
-        open-done is fresh = open-served d law.descriptor free law.free law.answer (λ z. record s { tables = with_handle s.tables c z (Some made) }) law.state (record m { clients = new }) (state-open on d new opens made is fresh)
+        open-done : IsOpenOnAs (the_upper m) (the_lowers m) s.tree new.objects.tree
+            opens.handle.object on made → ((g : OpenFile) (k j : ℕ) (e : NodeId) →
+            file_on on ≡ Some g → g.source ≡ Upper k → IsOpenOn m.clients s.tables j e →
+            (law.node ≡ e) ↔ (k ≡ j)) →
+            Serves (refusal s c asked) s c asked (reply.Descriptor d) (record m { clients = new })
+        open-done is fresh =
+            open-served d law.descriptor free law.free law.answer
+            (λ z. record s { tables = with_handle s.tables c z (Some made) }) law.state
+            (record m { clients = new }) (state-open on d new opens made is fresh)
 
       -- the flags ask to read
       reads : f.writes ≡ false → f.reads ≡ true
@@ -325,11 +391,16 @@ module _ (m : Mount) (s : State) (st : IsStateOf m s) (c : ℕ) where
       shown-fine = first-none (shown_fault f (shows 0 (the_layers m) p)) _ (second-none (parents_fault (the_layers m) p) _ (second-none (bad_mode mode) _ (second-none (when (bad_flags f) EINVAL) _ fine)))
 
       -- an open of a directory
-      pub open-directory : (j k : ℕ) (a : Attributes) → shows 0 (the_layers m) p ≡ Some (Folder j k a) → (d : ℕ) (new : Clients) → (opens : OpensOn m.clients new c d (Directory None)) → places.opened new.objects.tree opens.handle.object ≡ Some (At p) → Serves (refusal s c asked) s c asked (reply.Descriptor d) (record m { clients = new })
+      pub open-directory : (j k : ℕ) (a : Attributes) →
+          shows 0 (the_layers m) p ≡ Some (Folder j k a) → (d : ℕ) (new : Clients) →
+          (opens : OpensOn m.clients new c d (Directory None)) →
+          places.opened new.objects.tree opens.handle.object ≡ Some (At p) →
+          Serves (refusal s c asked) s c asked (reply.Descriptor d) (record m { clients = new })
       open-directory j k a shown d new opens stands =
           let w : f.writes ≡ false = no-write f j k a (ap (shown_fault f) (sym shown) ∙ shown-fine) in
           let there : is_some (shows 0 (the_layers m) p) ≡ true = ap is_some shown in
-          let o : OpensReading (the_layers m) s c p f mode = law w there (Directory None) d new opens in
+          let o : OpensReading (the_layers m) s c p f mode =
+          law w there (Directory None) d new opens in
           let view : view_of f (s.tree o.node) ≡ Live = o.view ∙ ap shown_view shown in
           open-done w there (Directory None) d new opens
           (record {
@@ -376,11 +447,15 @@ module _ (m : Mount) (s : State) (st : IsStateOf m s) (c : ℕ) where
           (frozen j k file w o, below-kept (the_lowers m) (mark_at m.layers.upper k) low f.writes (nat_lt 0 (suc j)) (lt-ltb 0 (suc j) (omega arith)) kept)
 
       -- an open of a file
-      pub open-file : (place : Place) → ShowsInode m.layers p place → f.writes ≡ false → (low : Option Place) → IsKept (the_lowers m) (read_mark m.layers place f.writes) low → (d : ℕ) (new : Clients) → OpensOn m.clients new c d (File (file_at place f low)) → Serves (refusal s c asked) s c asked (reply.Descriptor d) (record m { clients = new })
+      pub open-file : (place : Place) → ShowsInode m.layers p place → f.writes ≡ false →
+          (low : Option Place) → IsKept (the_lowers m) (read_mark m.layers place f.writes) low →
+          (d : ℕ) (new : Clients) → OpensOn m.clients new c d (File (file_at place f low)) →
+          Serves (refusal s c asked) s c asked (reply.Descriptor d) (record m { clients = new })
       open-file place i w low kept d new opens =
           let file : IsShownFile (shows 0 (the_layers m) p) place.layer place.key = file-there place i in
           let there : is_some (shows 0 (the_layers m) p) ≡ true = ap is_some file.shown in
-          let o : OpensReading (the_layers m) s c p f mode = law w there (File (file_at place f low)) d new opens in
+          let o : OpensReading (the_layers m) s c p f mode =
+          law w there (File (file_at place f low)) d new opens in
           let of : IsOf (the_upper m) (the_lowers m) s.tree (source_at place) low (new_handle f o.node (way_of s.tree p) (s.tree o.node)) = of-shown place.layer place.key file w o low kept in
           open-done w there (File (file_at place f low)) d new opens
           (record { source = of; own = λ on. absurd (false≢true (sym w ∙ on)); reads = refl; writes = refl; append = refl; place = refl; unlisted = refl })

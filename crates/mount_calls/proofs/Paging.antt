@@ -1,7 +1,9 @@
 -- The names that a listing gives.
 use Rattle.std.proofs.Common.{◌≡◌, ℕ, true, false, List, [], Option, None, Some, Result, Ok, Err, refl, sym, ap, ◌∙◌, subst, is_some, take, drop, option_map, unwrap_or}
 use Rattle.std.proofs.Common.{arith}
-use Rattle.mount_calls.proofs.Words.{AllocError, ChangesSlot, Directory, directory_in, false≢true, File, GivesNames, IfOk, layers_of, Name, OpenDirectory, SetsSlot, with_listing}
+use Rattle.mount_calls.proofs.Words.{AllocError, ChangesSlot, Directory, directory_in, false≢true}
+use Rattle.mount_calls.proofs.Words.{File, GivesNames, IfOk, layers_of, Name, OpenDirectory}
+use Rattle.mount_calls.proofs.Words.{SetsSlot, with_listing}
 use Rattle.std.specs.Option.{IsSomeAnd}
 use Rattle.open_handles.specs.declared.clients.Clients.{Clients}
 use Rattle.open_handles.specs.declared.handle.Handle as handles
@@ -9,7 +11,8 @@ use Rattle.mount_calls.specs.declared.mount.Mount.{Mount}
 use Rattle.open_handles.specs.declared.handle.On.{On}
 use Rattle.open_handles.specs.Attaching.{directory_by, path_of, ChangesClient}
 use Rattle.open_handles.specs.Descriptors.{opened}
-use Rattle.open_handles.specs.Listings.{after_names, directory_on, listed_as, listed_on, listing_of, names_left, open_directory}
+use Rattle.open_handles.specs.Listings.{after_names, directory_on, listed_as, listed_on, names_left}
+use Rattle.open_handles.specs.Listings.{open_directory}
 use Rattle.mount_calls.specs.States.{AreNamesIn, AreLeft, Pages}
 use Rattle.mount_calls.proofs.Serving.{opened-is}
 use Rattle.mount_calls.proofs.Slots.{changes-to}
@@ -20,25 +23,33 @@ Slots = List (Option handles.Handle)
 set-as : (x y : Slots) (d : ℕ) (u v : Option handles.Handle) → u ≡ v → SetsSlot x y d u → SetsSlot x y d v
 set-as x y d u v e h = subst (SetsSlot x y d) e h
 
+-- how far a directory was listed
+pub listing-same : (o : OpenDirectory) (listing : Option (List Name)) →
+    Some listing ≡ Some o.listing → listing ≡ o.listing
+listing-same o listing is = cc
+
 -- names that are given of a listing leave the rest of it
-names-listed : (x : Option handles.Handle) (o : OpenDirectory) (n : ℕ) (left : List Name) → directory_in x ≡ Some o → o.listing ≡ Some left → option_map (after_names n) x ≡ option_map (with_listing (Some (drop n left))) x
+names-listed : (x : Option handles.Handle) (o : OpenDirectory) (n : ℕ) (left : List Name) →
+    directory_in x ≡ Some o → o.listing ≡ Some left →
+    option_map (after_names n) x ≡ option_map (with_listing (Some (drop n left))) x
 names-listed None o n left is e = refl
 names-listed (Some h) o n left is e = by h.on is
   where
-    by : (on : On) → directory_on h.object on ≡ Some o → Some (record h { on = listed_on n on }) ≡ Some (record h { on = listed_as (Some (drop n left)) on })
+    by : (on : On) → directory_on h.object on ≡ Some o →
+        Some (record h { on = listed_on n on }) ≡ Some (record h {
+          on = listed_as
+              (Some (drop n left)) on;
+        })
     by (Directory listing) leads =
         let same : record { directory = h.object; listing = listing } ≡ o = cc in
-        ap (λ z. Some (record h { on = Directory (option_map (drop n) z) })) (ap (λ (z : OpenDirectory). z.listing) same ∙ e)
+        ap (λ z. Some (record h { on = Directory (option_map (drop n) z) }))
+        (ap (λ (z : OpenDirectory). z.listing) same ∙ e)
     by (File f) leads = refl
 
--- what was listed so far is a directory
-pub listed-so : (o : Option OpenDirectory) (l : Option (List Name)) →
-    Some l ≡ option_map listing_of o → (x : OpenDirectory) × (o ≡ Some x) × (x.listing ≡ l)
-listed-so None l listed = let no : None ≡ Some l = sym listed in absurd (cc)
-listed-so (Some x) l listed = let same : x.listing ≡ l = cc in (x, refl, same)
-
-module _ (m : Mount) (new : Clients) (c d : ℕ) (o : OpenDirectory) (was : directory_by m.clients c d ≡ Some o) where
-  opened-before : (P : Slots → Slots → Type 0) (h : ChangesClient m.clients new c P) → open_directory h.before.slots.items d ≡ Some o
+module _ (m : Mount) (new : Clients) (c d : ℕ) (o : OpenDirectory)
+    (was : directory_by m.clients c d ≡ Some o) where
+  opened-before : (P : Slots → Slots → Type 0) (h : ChangesClient m.clients new c P) →
+      open_directory h.before.slots.items d ≡ Some o
   opened-before P h = ap directory_in (sym (opened-is m.clients c d h.before h.was)) ∙ was
 
   module _ (n : ℕ) where
@@ -50,9 +61,13 @@ module _ (m : Mount) (new : Clients) (c d : ℕ) (o : OpenDirectory) (was : dire
           was = was;
           left = left;
           from = subst (λ l. AreLeft (layers_of m.layers) (path_of m.clients o) l left) (sym e) refl;
-          next = h.changes.names ∙ ap (λ z. take n (names_left z)) before ∙ ap (λ z. take n (unwrap_or z [])) e;
-          changes = changes-to m.clients new c _ (λ x y. ChangesSlot x y d (with_listing (Some (drop n left)))) h
-              (set-as _ _ d _ _ (names-listed (opened h.before.slots.items d) o n left before e) h.changes.left);
+          next = h.changes.names ∙ ap (λ z. take n (names_left z)) before
+              ∙ ap (λ z. take n (unwrap_or z [])) e;
+          changes =
+              changes-to m.clients new c _ (λ x y. ChangesSlot x y d (with_listing
+              (Some (drop n left)))) h
+              (set-as _ _ d _ _ (names-listed (opened h.before.slots.items d) o n left before e)
+              h.changes.left);
           layers = refl;
           redirects = refl;
           metacopy = refl;

@@ -2,7 +2,11 @@
 use Rattle.std.proofs.Common.{◌≡◌, ℕ, true, ◌||◌, List, [], ◌∷◌, ◌++◌, Option, None, Some, IsSome, refl, sym, ap, ◌∙◌, inl, inr, is_some, length, nat_eq, arith}
 use Rattle.std.proofs.lemmas.List.{length-map}
 use Rattle.std.specs.BTreeMap.{get}
-use Rattle.mount_calls.proofs.Words.{after, Apart, At, Attributes, Dentries, Descriptors, Directory, false≢true, File, file_in, folder_attributes, Handle, handle_of, handles_of, is_folder, Layer, list_any, Location, Name, nat_cmp, node_at, NodeId, OpenDirectory, option_and_then, option_map, Path, State, Table, Tree}
+use Rattle.mount_calls.proofs.Words.{after, Apart, At, Attributes, Dentries, Descriptors, Directory}
+use Rattle.mount_calls.proofs.Words.{false≢true, File, file_in, folder_attributes, Handle}
+use Rattle.mount_calls.proofs.Words.{handle_of, handles_of, is_folder, Layer, list_any, Location}
+use Rattle.mount_calls.proofs.Words.{Name, nat_cmp, node_at, NodeId, OpenDirectory, option_and_then}
+use Rattle.mount_calls.proofs.Words.{Path, State, Table, Tree}
 use Rattle.ov_base.specs.declared.call.CallOf.TheVariants as call
 use Rattle.plain_model.specs.Changes.{re_ways, way_of}
 use Rattle.plain_model.proofs.Paths.{place}
@@ -30,7 +34,8 @@ abbrev pub LeadsToNone : Tree → Path → Type 0
 LeadsToNone t p = (d : NodeId) → node_at t p ≡ Some d → is_folder (t d) ≡ true → ⊥
 
 -- then no directory is below it
-none-above : (t : Tree) (p : Path) → LeadsToNone t p → (r : Path) (d : NodeId) → node_at t (r ++ p) ≡ Some d → is_folder (t d) ≡ true → ⊥
+none-above : (t : Tree) (p : Path) → LeadsToNone t p → (r : Path) (d : NodeId) →
+    node_at t (r ++ p) ≡ Some d → is_folder (t d) ≡ true → ⊥
 none-above t p none [] d at f = none d at f
 none-above t p none (n ∷ r) d at f =
     let up = folder-above t (r ++ p) n d at in
@@ -41,7 +46,8 @@ module _ (U : Layer) (lowers : List Layer) (t : Tree) (ds : Dentries) (way : Opt
   pub way-open : (o : handles.Handle) (h : Handle) → IsOpenAs U lowers t ds o h → IsOpenAs U lowers t ds o (record h { way = way })
   way-open o h is = by o.on is
     where
-      by : (on : On) → IsOpenOnAs U lowers t ds o.object on h → IsOpenOnAs U lowers t ds o.object on (record h { way = way })
+      by : (on : On) → IsOpenOnAs U lowers t ds o.object on h →
+          IsOpenOnAs U lowers t ds o.object on (record h { way = way })
       by (Directory listing) x = record {
         location = x.location;
         located = x.located;
@@ -51,7 +57,8 @@ module _ (U : Layer) (lowers : List Layer) (t : Tree) (ds : Dentries) (way : Opt
         left = x.left;
       }
       by (File f) x = record {
-        source = of-on U U lowers t t f.source f.low h (record h { way = way }) refl refl (λ k e live. live) (λ leaf. leaf) x.source;
+        source = of-on U U lowers t t f.source f.low h (record h { way = way }) refl refl
+            (λ k e live. live) (λ leaf. leaf) x.source;
         own = x.own;
         reads = x.reads;
         writes = x.writes;
@@ -120,7 +127,8 @@ module _
             descriptor = z.descriptor;
             file = z.file;
             handle = h;
-            opened = sym (ap file_in (opened-same clients new same z.client z.descriptor)) ∙ z.opened;
+            opened = sym (ap file_in (opened-same clients new same z.client z.descriptor))
+                ∙ z.opened;
             key = z.key;
             on = on;
             at = ap (λ (g : Handle). g.node) is ∙ z.at;
@@ -135,7 +143,8 @@ module _
     pub located : places.opened es k ≡ Some location
     pub stands : Stands u location d
 
-  module _ (ds es : Dentries) (replaced : Option Attributes) (moves : Moves ds es p q (Some (left_of replaced))) (below : NoneBelow ds q)
+  module _ (ds es : Dentries) (replaced : Option Attributes) (moves : Moves ds es p q
+      (Some (left_of replaced))) (below : NoneBelow ds q)
       (copied : (k : ℕ) → places.opened ds k ≡ Some (At q) → IsSome replaced)
       (has : (a : Attributes) → replaced ≡ Some a → (e : NodeId) → node_at s.tree q ≡ Some e → folder_attributes (s.tree e) ≡ Some a) where
     -- the directory that was replaced
@@ -209,9 +218,11 @@ module _
 
     -- and so does a handle on one
     pub handle-still :
-        (b fd : ℕ) (o : OpenDirectory) (h : Handle) → handle_of s.tables b fd ≡ Some h → IsHandle s.tree ds o h → IsHandle u ds o h
+        (b fd : ℕ) (o : OpenDirectory) (h : Handle) → handle_of s.tables b fd ≡ Some h →
+        IsHandle s.tree ds o h → IsHandle u ds o h
     handle-still b fd o h on is =
-        handle-now s.tree u ds ds o h is is.location is.located (stands-still is.location h.node is.stands is.directory)
+        handle-now s.tree u ds ds o h is is.location is.located
+        (stands-still is.location h.node is.stands is.directory)
         (still-folder (s.tree h.node) (u h.node) (x.held b fd h on) is.directory)
 
   -- what is open is alike still
@@ -225,5 +236,6 @@ module _
       way-open V lowers u es way o h
       (open-on U V lowers s.tree u ds es o h
       (λ d e. directories b fd d h on)
-      (λ f e is. file-on U V lowers s.tree u f h is (λ k. files.live b fd f h k (ap file_in at ∙ e) on) (files.leaves b fd h on) (files.owns h.node))
+      (λ f e is. file-on U V lowers s.tree u f h is (λ k. files.live b fd f h k (ap file_in at
+      ∙ e) on) (files.leaves b fd h on) (files.owns h.node))
       is)

@@ -1,22 +1,27 @@
 -- The mount answers rename as the machine does.
-use Rattle.std.proofs.Common.{◌≡◌, ℕ, Bool, true, false, not, ◌&&◌, ◌||◌, List, [], ◌∷◌, ◌++◌, Option, None, Some, IfNone, IsSome, refl, sym, ap, ◌∙◌, subst, map, ◌≢◌, ◌⊎◌, inl, inr, is_none}
+use Rattle.std.proofs.Common.{◌≡◌, ℕ, Bool, true, false, not, ◌&&◌, ◌||◌, List, ◌∷◌, ◌++◌, Option}
+use Rattle.std.proofs.Common.{None, Some, IfNone, IsSome, refl, sym, ap, ◌∙◌, subst, map, ◌≢◌, ◌⊎◌}
+use Rattle.std.proofs.Common.{inl, inr, is_none}
 use Rattle.std.proofs.Common.{arith}
 use mathlib.Core.Logic.{∥∥₁_elim}
 use mathlib.Core.Bool.{Bool-set}
 use Rattle.merged_lookup.specs.Merged.{upper_of}
-use Rattle.mount_calls.proofs.Words.{after, AreLayers, Attributes, base, Dentries, Errno, false≢true, Handle, handle_of, is_directory, Layer, layer_of, Layers, lowers_of, node_of, node_at, OpenDirectory, or_else, Path, refusal, Shown, shows, State, StaysMount, Table, Tree, when}
+use Rattle.mount_calls.proofs.Words.{after, AreLayers, Attributes, Dentries, Errno}
+use Rattle.mount_calls.proofs.Words.{false≢true, Handle, handle_of, is_directory, Layer, layer_of}
+use Rattle.mount_calls.proofs.Words.{Layers, lowers_of, node_of, node_at, OpenDirectory, or_else}
+use Rattle.mount_calls.proofs.Words.{Path, refusal, Shown, shows, State, Table, Tree, when}
 use Rattle.ov_base.specs.declared.call.CallOf.TheVariants as call
 use Rattle.ov_base.specs.declared.errno.Errno.TheVariants.{EBUSY, EISDIR}
 use Rattle.ov_base.specs.declared.reply.Reply.TheVariants as reply
 use Rattle.plain_model.specs.Refusals.{unless_same}
-use Rattle.plain_model.specs.Machine.{has_names, is_below, is_root}
+use Rattle.plain_model.specs.Machine.{has_names, is_root}
 use Rattle.copy_up.specs.Showing.{StaysThin}
 use Rattle.copy_up.proofs.Keeping.{lowers-same}
 use Rattle.mount_laws.specs.Looks.{parents_fault, shows_link, walk_fault}
 use Rattle.notice_laws.specs.declared.object.Object.{Object}
 use Rattle.notice_laws.specs.declared.object.Object.TheVariants as object
 use Rattle.notice_laws.specs.Objects.{IsNumberOf, IsObject}
-use Rattle.mount_laws.specs.Renaming.{is_one, move_fault, rename_fault, Renames, RenamesSame}
+use Rattle.mount_laws.specs.Renaming.{is_one, rename_fault, Renames, RenamesSame}
 use Rattle.mount_laws.proofs.Renaming.{law_of_rename, law_of_same_rename, told}
 use Rattle.object_table.specs.Objects as spots
 use Rattle.object_table.specs.Objects.{left_of, spot_of, IsVacant, NoneBelow}
@@ -25,30 +30,22 @@ use Rattle.object_table.proofs.Spots.{path-spot}
 use Rattle.open_handles.specs.Attaching.{KeepsClients}
 use Rattle.open_handles.specs.declared.clients.Clients.{Clients}
 use Rattle.mount_calls.specs.declared.mount.Mount.{Mount}
-use Rattle.mount_calls.specs.Living.{KeepsNamed, StaysLive}
+use Rattle.mount_calls.specs.Living.{KeepsNamed}
 use Rattle.mount_calls.specs.Removing.{HasAttributes}
 use Rattle.mount_calls.specs.Renaming.{RenamesHeld}
-use Rattle.mount_calls.specs.States.{AreTables, HasStateOf, IsHandle, IsOpenAs, IsStateOf, Serves, StaysState}
+use Rattle.mount_calls.specs.States.{AreTables, HasStateOf, IsHandle, IsOpenAs, IsStateOf, Serves}
 use Rattle.mount_calls.proofs.Answering.{serve-done}
-use Rattle.mount_calls.proofs.Carrying.{CarriesFiles, files-held, state-stays}
+use Rattle.mount_calls.proofs.Carrying.{CarriesFiles, files-held}
 use Rattle.mount_calls.proofs.Changing.{folder-has}
 use Rattle.mount_calls.proofs.Directories.{shown-directory}
 use Rattle.mount_calls.proofs.Lasting.{rename-leaves}
 use Rattle.mount_calls.proofs.Named.{reads-named}
-use Rattle.mount_calls.proofs.Renames.{LeadsToNone, handle-moved, handle-still, one-renamed, open-renamed, tables-renamed}
+use Rattle.mount_calls.proofs.Renames.{LeadsToNone, handle-moved, handle-still, one-renamed}
+use Rattle.mount_calls.proofs.Renames.{open-renamed, tables-renamed}
 use Rattle.mount_calls.proofs.Stating.{the_layers, the_lowers, the_upper, Alike}
 
 -- what a rename that is not refused tells of its paths
 module _ (U : Layer) (lowers : List Layer) (redirects : Bool) (p q : Path) where
-  abbrev move : Bool → Option Errno
-  move names = move_fault (is_below p q) (shows 0 (U ∷ lowers) p) (shows 0 (U ∷ lowers) q) (base U lowers p && not redirects) names
-
-  abbrev after_walks : Option Errno → Option Errno
-  after_walks moves = or_else (walk_fault (U ∷ lowers) p) (or_else (parents_fault (U ∷ lowers) q) moves)
-
-  abbrev fault : Option Errno → Option Errno
-  fault moves = or_else (when (is_root p || is_root q) EBUSY) (after_walks moves)
-
   -- the names in the new place are of no account where both paths are one object
   pub one-fault : is_one U p q ≡ true → (a b : Bool) → rename_fault U lowers redirects p q a ≡ rename_fault U lowers redirects p q b
   one-fault one a b = grind arith
@@ -56,14 +53,17 @@ module _ (U : Layer) (lowers : List Layer) (redirects : Bool) (p q : Path) where
 -- what is no directory takes no directory's place, where nothing is refused
 no-target :
     (a w r i n rest : Option Errno) (one o p : Bool) → one ≡ false → o ≡ false →
-    or_else a (or_else w (or_else r (unless_same one (or_else i (or_else n (or_else (when (not o && p) EISDIR) rest)))))) ≡ None → p ≡ false
+    or_else a (or_else w (or_else r (unless_same one (or_else i (or_else n (or_else (when
+    (not o && p) EISDIR) rest)))))) ≡ None → p ≡ false
 no-target a w r i n rest one o p apart file fine = grind arith
 
 pub file-target :
-    (U : Layer) (lowers : List Layer) (redirects : Bool) (p q : Path) → is_one U p q ≡ false → rename_fault U lowers redirects p q false ≡ None →
+    (U : Layer) (lowers : List Layer) (redirects : Bool) (p q : Path) → is_one U p q ≡ false →
+    rename_fault U lowers redirects p q false ≡ None →
     is_directory (shows 0 (U ∷ lowers) p) ≡ false → is_directory (shows 0 (U ∷ lowers) q) ≡ false
 file-target U lowers redirects p q apart fine file =
-    no-target (when (is_root p || is_root q) EBUSY) (walk_fault (U ∷ lowers) p) (parents_fault (U ∷ lowers) q) _ _ _ (is_one U p q)
+    no-target (when (is_root p || is_root q) EBUSY) (walk_fault (U ∷ lowers) p) (parents_fault
+    (U ∷ lowers) q) _ _ _ (is_one U p q)
     (is_directory (shows 0 (U ∷ lowers) p)) (is_directory (shows 0 (U ∷ lowers) q)) apart file fine
 
 module _ (m : Mount) (s : State) (st : IsStateOf m s) where
@@ -94,7 +94,8 @@ module _ (m : Mount) (s : State) (st : IsStateOf m s) where
         (ap (λ (x : State). x.tree) (law_of_same_rename (the_upper m) (the_lowers m) s st.layers c p q false state-fine one).state)
 
     -- what p shows moves to q
-    module _ (new : Layers) (low : new.lowers ≡ m.layers.lowers) (held : RenamesHeld m.clients m.layers new m.redirects m.metacopy p q) where
+    module _ (new : Layers) (low : new.lowers ≡ m.layers.lowers)
+        (held : RenamesHeld m.clients m.layers new m.redirects m.metacopy p q) where
       abbrev V : Layer
       V = upper_of new
 
@@ -108,7 +109,8 @@ module _ (m : Mount) (s : State) (st : IsStateOf m s) where
       law = subst (λ (Ls : List Layer). Renames V Ls s c p q) (lowers-same m.layers new low) step
 
       files : CarriesFiles (the_upper m) V s.tree u m.clients s.tables
-      files = files-held m.layers new s st.layers c (call.Rename p q) m.clients (held.live s st.layers st.redirects st.metacopy c) (rename-leaves p q)
+      files = files-held m.layers new s st.layers c (call.Rename p q) m.clients
+          (held.live s st.layers st.redirects st.metacopy c) (rename-leaves p q)
 
       -- each handle on a directory is on it still, where objects stand as in these entries then
       abbrev pub LeadsDirectories : Dentries → Type 0
@@ -118,33 +120,43 @@ module _ (m : Mount) (s : State) (st : IsStateOf m s) where
 
       -- so it is where a directory was led along
       pub leads-along :
-          (clients : Clients) → clients.attached ≡ m.clients.attached → (replaced : Option Attributes) →
-          Moves m.clients.objects.tree clients.objects.tree p q (Some (left_of replaced)) → NoneBelow m.clients.objects q →
+          (clients : Clients) → clients.attached ≡ m.clients.attached →
+          (replaced : Option Attributes) →
+          Moves m.clients.objects.tree clients.objects.tree p q (Some (left_of replaced)) →
+          NoneBelow m.clients.objects q →
           ((k : ℕ) → spot_of m.clients.objects k ≡ Some (spots.At q) → IsSome replaced) →
-          ((a : Attributes) → replaced ≡ Some a → HasAttributes (the_layers m) q a) → LeadsDirectories clients.objects.tree
+          ((a : Attributes) → replaced ≡ Some a → HasAttributes (the_layers m) q a) →
+          LeadsDirectories clients.objects.tree
       leads-along clients same replaced moves below copied has =
-          handle-moved V (the_lowers m) s c p q law m.clients clients same m.clients.objects.tree clients.objects.tree
+          handle-moved V (the_lowers m) s c p q law m.clients clients same m.clients.objects.tree
+          clients.objects.tree
           replaced moves (λ k n r at. below k n r (path-spot m.clients.objects k (n ∷ (r ++ q)) at))
-          (λ k at. copied k (path-spot m.clients.objects k q at)) (λ a e d at. folder-has m s st new q a (has a e) d at)
+          (λ k at. copied k (path-spot m.clients.objects k q at))
+          (λ a e d at. folder-has m s st new q a (has a e) d at)
 
       -- and where a file moves
       pub leads-still :
           is_directory (shows 0 (the_layers m) p) ≡ false → LeadsDirectories m.clients.objects.tree
       leads-still file =
-          handle-still V (the_lowers m) s c p q law m.clients m.clients refl m.clients.objects.tree (none p file)
+          handle-still V (the_lowers m) s c p q law m.clients m.clients refl m.clients.objects.tree
+          (none p file)
           (none q (file-target (the_upper m) (the_lowers m) m.redirects p q held.apart fine file))
         where
           none : (y : Path) → is_directory (shows 0 (the_layers m) y) ≡ false → LeadsToNone s.tree y
-          none y off d at f = false≢true (sym off ∙ shown-directory (the_upper m) (the_lowers m) s st.layers y d at f)
+          none y off d at f =
+              false≢true (sym off
+              ∙ shown-directory (the_upper m) (the_lowers m) s st.layers y d at f)
 
       abbrev left : List Table
       left = (after s c (call.Rename p q)).tables
 
       -- the mount stands for the state after it
-      module _ (clients : Clients) (kept : KeepsClients m.clients clients) (directories : LeadsDirectories clients.objects.tree) where
+      module _ (clients : Clients) (kept : KeepsClients m.clients clients)
+          (directories : LeadsDirectories clients.objects.tree) where
         tables : AreTables (Alike new (after s c (call.Rename p q)) clients) clients left
         tables =
-            subst (λ z. AreTables (IsOpenAs V (map layer_of z.items) u clients.objects.tree) clients left) (sym low)
+            subst (λ z. AreTables (IsOpenAs V (map layer_of z.items) u clients.objects.tree) clients
+            left) (sym low)
             (tables-renamed V (the_lowers m) s c p q law m.clients clients kept.attached
             (Alike m.layers s m.clients) (IsOpenAs V (the_lowers m) u clients.objects.tree)
             (open-renamed V (the_lowers m) s c p q law m.clients clients kept.attached
@@ -152,10 +164,12 @@ module _ (m : Mount) (s : State) (st : IsStateOf m s) where
             st.tables)
 
         pub rename-done :
-            Serves (refusal s c (call.Rename p q)) s c (call.Rename p q) reply.Done (record m { layers = new; clients = clients })
+            Serves (refusal s c (call.Rename p q)) s c (call.Rename p q) reply.Done
+            (record m { layers = new; clients = clients })
         rename-done =
             serve-done _ s c (call.Rename p q) reply.Done _
-            ((law_of_rename (the_upper m) (the_lowers m) s st.layers c p q).empty held.bare ∙ state-fine)
+            ((law_of_rename (the_upper m) (the_lowers m) s st.layers c p q).empty held.bare
+            ∙ state-fine)
             (sym law.answer)
             (record {
               layers = step.mounts;
@@ -171,14 +185,9 @@ module _ (m : Mount) (s : State) (st : IsStateOf m s) where
 pub thin-on : (m : Mount) (new : Layers) → ∥ HasStateOf m ∥₁ → (AreLayers (the_layers m) → StaysThin m.layers new) → StaysThin m.layers new
 thin-on m new state then thin n p h = ∥∥₁_elim state (Bool-set _ _) (λ x. then x.1.layers.layers thin n p h)
 
--- an allocation failure leaves each state
-pub rename-wanted :
-    (m : Mount) (new : Layers) → StaysMount m.layers new →
-    new.lowers ≡ m.layers.lowers → StaysLive m.layers new → StaysState m (record m { layers = new })
-rename-wanted m new mounts low live s st = state-stays m s st new low (mounts s st.layers) live
-
 -- what is no directory is shown as none
-pub object-file : (U : Layer) (lowers : List Layer) (p : Path) (o : Object) → IsObject U lowers p o → o ≢ object.Directory → is_directory (shows 0 (U ∷ lowers) p) ≡ false
+pub object-file : (U : Layer) (lowers : List Layer) (p : Path) (o : Object) →
+    IsObject U lowers p o → o ≢ object.Directory → is_directory (shows 0 (U ∷ lowers) p) ≡ false
 object-file U lowers p object.Directory is other = absurd (other refl)
 object-file U lowers p object.Lower is other = ap is_directory is.shown
 object-file U lowers p (object.Upper k last) is other = ap is_directory is.shown
@@ -188,11 +197,19 @@ object-file U lowers p object.Other is other = by (shows 0 (U ∷ lowers) p) is
     by x told = grind arith
 
 -- of a directory that is held where one comes, the attributes were copied
-pub replaced-copied : (m : Mount) (q : Path) (e : Object) (number : Option ℕ) (left : Option Attributes) → IsObject (the_upper m) (the_lowers m) q e → IsNumberOf m.clients.objects q e number → (e ≡ object.Directory) ⊎ ((e ≡ object.Other) × IsVacant m.clients.objects (spots.At q)) → IfNone left (is_directory (shows 0 (the_layers m) q) ≡ true → number ≡ None) → (k : ℕ) → spot_of m.clients.objects k ≡ Some (spots.At q) → IsSome left
+pub replaced-copied : (m : Mount) (q : Path) (e : Object) (number : Option ℕ)
+    (left : Option Attributes) → IsObject (the_upper m) (the_lowers m) q e →
+    IsNumberOf m.clients.objects q e number →
+    (e ≡ object.Directory) ⊎ ((e ≡ object.Other) × IsVacant m.clients.objects (spots.At q)) →
+    IfNone left (is_directory (shows 0 (the_layers m) q) ≡ true → number ≡ None) → (k : ℕ) →
+    spot_of m.clients.objects k ≡ Some (spots.At q) → IsSome left
 replaced-copied m q e number (Some a) is present kind none k at = refl
 replaced-copied m q e number None is present (inr other) none k at = absurd (other.1 k at)
 replaced-copied m q e number None is present (inl dir) none k at =
-    let shown : is_directory (shows 0 (the_layers m) q) ≡ true = subst (IsObject (the_upper m) (the_lowers m) q) dir is in
-    let held : IsNumberOf m.clients.objects q object.Directory number = subst (λ o. IsNumberOf m.clients.objects q o number) dir present in
-    let vacant : IsVacant m.clients.objects (spots.At q) = subst (IsNumberOf m.clients.objects q object.Directory) (none shown) held in
+    let shown : is_directory (shows 0 (the_layers m) q) ≡ true =
+    subst (IsObject (the_upper m) (the_lowers m) q) dir is in
+    let held : IsNumberOf m.clients.objects q object.Directory number =
+    subst (λ o. IsNumberOf m.clients.objects q o number) dir present in
+    let vacant : IsVacant m.clients.objects (spots.At q) =
+    subst (IsNumberOf m.clients.objects q object.Directory) (none shown) held in
     absurd (vacant k at)

@@ -1,7 +1,12 @@
 -- Seeks: of an open file to a place, and of an open directory to its start.
-use Rattle.std.proofs.Common.{◌≡◌, ℕ, ℤ, pos, nat_abs, ◌+ℤ◌, int_lt, Bool, not, cond, ◌&&◌, List, Option, None, Some, Result, Ok, Err, refl, sym, ap, ◌∙◌, subst, length, nat_eq, nat_lt, arith}
+use Rattle.std.proofs.Common.{◌≡◌, ℕ, ℤ, pos, nat_abs, ◌+ℤ◌, int_lt, Bool, not, cond, ◌&&◌, List}
+use Rattle.std.proofs.Common.{Option, None, Some, Result, Ok, Err, refl, sym, ap, ◌∙◌, subst}
+use Rattle.std.proofs.Common.{length, nat_eq, nat_lt, arith}
 use Rattle.merged_lookup.specs.Merged.{upper_of}
-use Rattle.mount_calls.proofs.Words.{ChangesSlot, Directory, directory_in, Errno, File, file_in, Handle, handle_of, Inode, Layers, lowers_of, OpenDirectory, OpenFile, or_else, refusal, Reply, State, when, with_handle, with_listing, with_place}
+use Rattle.mount_calls.proofs.Words.{ChangesSlot, Directory, directory_in, Errno, File, file_in}
+use Rattle.mount_calls.proofs.Words.{Handle, handle_of, Inode, Layers, lowers_of, OpenDirectory}
+use Rattle.mount_calls.proofs.Words.{OpenFile, or_else, refusal, Reply, State, when, with_handle}
+use Rattle.mount_calls.proofs.Words.{with_listing, with_place}
 use Rattle.ov_base.specs.declared.call.CallOf.TheVariants as call
 use Rattle.ov_base.specs.declared.errno.Errno.TheVariants as errno
 use Rattle.ov_base.specs.declared.reply.Reply.TheVariants as reply
@@ -24,7 +29,9 @@ use Rattle.mount_calls.specs.Opening.{seek_fault, seek_fault_on, seek_place}
 use Rattle.mount_calls.specs.States.{IsStateOf, Serves}
 use Rattle.mount_calls.proofs.Answering.{serve-refused, serve-done}
 use Rattle.mount_calls.proofs.FileSight.{Sees, file-sees, file-not-folder}
-use Rattle.mount_calls.proofs.Slots.{as-directory, by-opened, directory-at, directory-no-file, directory-open, file-at, listed-directory, opened-after, place-moved, slot-becomes, state-set}
+use Rattle.mount_calls.proofs.Slots.{as-directory, by-opened, directory-at, directory-no-file}
+use Rattle.mount_calls.proofs.Slots.{directory-open, file-at, listed-directory, opened-after}
+use Rattle.mount_calls.proofs.Slots.{place-moved, slot-becomes, state-set}
 use Rattle.mount_calls.proofs.Stating.{the_lowers, the_upper}
 
 -- these are the bytes of an open file
@@ -54,16 +61,26 @@ sent-err : (bad : Bool) (base : ℕ) (offset : ℤ) (e : Errno) → sent bad bas
 sent-err bad base offset e h = grind arith
 
 -- a seek of a directory that is refused nothing is to its start
-to-start : (offset : ℤ) (whence : ℕ) → when (not (nat_eq (nat_abs offset) 0 && nat_eq whence 0)) errno.EINVAL ≡ None → (offset ≡ pos 0) × (whence ≡ 0)
+to-start : (offset : ℤ) (whence : ℕ) →
+    when (not (nat_eq (nat_abs offset) 0 && nat_eq whence 0)) errno.EINVAL ≡ None →
+    (offset ≡ pos 0) × (whence ≡ 0)
 to-start offset whence fine = grind arith
 
 -- a seek of what is no file is refused nothing where it is of an open directory, to its start
-unrefused-seek : (o : Option handles.Handle) (offset : ℤ) (whence : ℕ) → seek_fault o offset whence ≡ None → file_in o ≡ None → ((x : OpenDirectory) × (directory_in o ≡ Some x)) × (offset ≡ pos 0) × (whence ≡ 0)
+unrefused-seek : (o : Option handles.Handle) (offset : ℤ) (whence : ℕ) →
+    seek_fault o offset whence ≡ None → file_in o ≡ None →
+    ((x : OpenDirectory) × (directory_in o ≡ Some x)) × (offset ≡ pos 0) × (whence ≡ 0)
 unrefused-seek None offset whence fine bare = let no : Some errno.EBADF ≡ None = fine in absurd (cc)
 unrefused-seek (Some h) offset whence fine bare = by h.on fine bare
   where
-    by : (on : On) → seek_fault_on on offset whence ≡ None → file_on on ≡ None → ((x : OpenDirectory) × (directory_on h.object on ≡ Some x)) × (offset ≡ pos 0) × (whence ≡ 0)
-    by (Directory listing) start none = ((record { directory = h.object; listing = listing }, refl), (to-start offset whence start).0, (to-start offset whence start).1)
+    by : (on : On) → seek_fault_on on offset whence ≡ None → file_on on ≡ None →
+        ((x : OpenDirectory) × (directory_on h.object on ≡ Some x)) × (offset ≡ pos 0) ×
+        (whence ≡ 0)
+    by (Directory listing) start none = (
+      (record { directory = h.object; listing = listing }, refl),
+      (to-start offset whence start).0,
+      (to-start offset whence start).1,
+    )
     by (File f) start none = let no : Some f ≡ None = none in absurd (cc)
 
 module _ (m : Mount) (s : State) (st : IsStateOf m s) (c d : ℕ) where
@@ -126,21 +143,29 @@ module _ (m : Mount) (s : State) (st : IsStateOf m s) (c d : ℕ) where
           (place-moved m s st c d h found.1 f is place new ch))
 
   -- an open directory goes to its start
-  rewound : (o : OpenDirectory) → directory_by m.clients c d ≡ Some o → (new : Clients) → ChangesClient m.clients new c (λ x y. ChangesSlot x y d (with_listing None)) → Sought (pos 0) 0 (reply.Place 0) (record m { clients = new })
+  rewound : (o : OpenDirectory) → directory_by m.clients c d ≡ Some o → (new : Clients) →
+      ChangesClient m.clients new c (λ x y. ChangesSlot x y d (with_listing None)) →
+      Sought (pos 0) 0 (reply.Place 0) (record m { clients = new })
   rewound o is new ch =
       let x = directory-at m s st c d o is in
       let law : Seeks s c d x.0 = law_of_seek s c d x.0 x.1 x.2.directory in
       let led = directory-open (opened_by m.clients c d) o is in
       let set = slot-becomes m.clients new c d led.0 (with_listing None) led.1 ch in
-      let leads : directory_in (Some (with_listing None led.0)) ≡ Some (record o { listing = None }) = listed-directory led.0 o None led.2 in
+      let leads : directory_in (Some (with_listing None led.0)) ≡ Some
+      (record o { listing = None }) = listed-directory led.0 o None led.2 in
       serve-done _ s c _ _ (record m { clients = new }) (law.refused (pos 0) 0) (sym law.answer)
       (subst (IsStateOf (record m { clients = new })) (sym law.state)
-      (state-set m s st c d x.0 x.1 (record m { clients = new }) refl refl refl refl (Some (with_listing None led.0)) (Some (record x.0 { place = 0; listed = None })) set
-      (λ f z k same was key. let no : None ≡ Some f = sym (directory-no-file (Some (with_listing None led.0)) _ leads) ∙ same in absurd (cc))
-      (as-directory (the_upper m) (the_lowers m) s.tree new.objects.tree (with_listing None led.0) (record o { listing = None }) (record x.0 { place = 0; listed = None }) leads
+      (state-set m s st c d x.0 x.1 (record m { clients = new }) refl refl refl refl
+      (Some (with_listing None led.0)) (Some (record x.0 { place = 0; listed = None })) set
+      (λ f z k same was key. let no : None ≡ Some f = sym (directory-no-file
+      (Some (with_listing None led.0)) _ leads) ∙ same in absurd (cc))
+      (as-directory (the_upper m) (the_lowers m) s.tree new.objects.tree (with_listing None led.0)
+      (record o { listing = None }) (record x.0 { place = 0; listed = None }) leads
       (record {
         location = x.2.location;
-        located = ch.places c d (record o { listing = None }) x.2.location (ap directory_in (opened-after m.clients new c d (with_listing None led.0) set) ∙ leads) x.2.located;
+        located =
+            ch.places c d (record o { listing = None }) x.2.location (ap directory_in
+            (opened-after m.clients new c d (with_listing None led.0) set) ∙ leads) x.2.located;
         stands = x.2.stands;
         directory = x.2.directory;
         access = ap (λ (z : Handle). record z { place = 0; listed = None }) x.2.access;
@@ -152,4 +177,5 @@ module _ (m : Mount) (s : State) (st : IsStateOf m s) (c d : ℕ) where
   seek-done offset whence new good bare ch =
       let x = unrefused-seek (opened_by m.clients c d) offset whence good bare in
       subst (λ z. Sought z whence (reply.Place 0) (record m { clients = new })) (sym x.1)
-      (subst (λ z. Sought (pos 0) z (reply.Place 0) (record m { clients = new })) (sym x.2) (rewound x.0.0 x.0.1 new ch))
+      (subst (λ z. Sought (pos 0) z (reply.Place 0) (record m { clients = new })) (sym x.2)
+      (rewound x.0.0 x.0.1 new ch))

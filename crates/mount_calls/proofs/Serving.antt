@@ -59,8 +59,10 @@ pub handle-now : (t u : Tree) (ds es : Dentries) (o : OpenDirectory) (h : Handle
 handle-now t u ds es o h is l located stands directory = record { location = l; located = located; stands = stands; directory = directory; access = is.access; left = is.left }
 
 -- what is open stays so where its directory stands where it stood
-pub placed : (U : Layer) (lowers : List Layer) (t : Tree) (ds es : Dentries) (o : handles.Handle) (h : Handle) →
-    ((d : OpenDirectory) (l : Location) → directory_in (Some o) ≡ Some d → places.opened ds d.directory ≡ Some l →
+pub placed : (U : Layer) (lowers : List Layer) (t : Tree) (ds es : Dentries) (o : handles.Handle)
+    (h : Handle) →
+    ((d : OpenDirectory) (l : Location) → directory_in (Some o) ≡ Some d →
+    places.opened ds d.directory ≡ Some l →
     places.opened es d.directory ≡ Some l) → IsOpenAs U lowers t ds o h → IsOpenAs U lowers t es o h
 placed U lowers t ds es o h f s = by o.on refl s
   where
@@ -68,13 +70,15 @@ placed U lowers t ds es o h f s = by o.on refl s
         IsOpenOnAs U lowers t es o.object on h
     by (Directory listing) is x =
         let d : OpenDirectory = record { directory = o.object; listing = listing } in
-        handle-now t t ds es d h x x.location (f d x.location (ap (directory_on o.object) is) x.located)
+        handle-now t t ds es d h x x.location (f d x.location
+        (ap (directory_on o.object) is) x.located)
         x.stands x.directory
     by (File file) is x = x
 
 -- where the open directories are the same, they stand where they stood
 pub places-same : (clients new : Clients) → new.objects ≡ clients.objects → KeepsPlaces clients new
-places-same clients new same c d o l is at = ap (λ (z : Objects). places.opened z.tree o.directory) same ∙ at
+places-same clients new same c d o l is at =
+    ap (λ (z : Objects). places.opened z.tree o.directory) same ∙ at
 
 pub slot-some : (P : handles.Handle → Handle → Type 0) (a : Option handles.Handle) (x : Option Handle) → IsSlot P a x → is_some a ≡ is_some x
 slot-some P a x s = grind arith
@@ -87,7 +91,9 @@ pub handle-set : (ks : List Table) (c fd : ℕ) (h : Option Handle) → fd < len
 handle-set ks c fd h within = ap (λ z. held_in (slice_get z fd)) (handles-set ks c fd h) ∙ ap held_in (get-set (handles_of ks c) fd h within) ∙ held-some h
 
 -- slots are alike otherwise where their handles are
-pub slot-moves : (P Q : handles.Handle → Handle → Type 0) (a : Option handles.Handle) (x : Option Handle) → ((o : handles.Handle) (h : Handle) → a ≡ Some o → x ≡ Some h → P o h → Q o h) → IsSlot P a x → IsSlot Q a x
+pub slot-moves : (P Q : handles.Handle → Handle →
+    Type 0) (a : Option handles.Handle) (x : Option Handle) → ((o : handles.Handle) (h : Handle) →
+    a ≡ Some o → x ≡ Some h → P o h → Q o h) → IsSlot P a x → IsSlot Q a x
 slot-moves P Q None None f s = tt
 slot-moves P Q None (Some h) f s = s
 slot-moves P Q (Some o) None f s = s
@@ -241,14 +247,28 @@ OpensFewer old ks new ls = (k : ℕ) (d : NodeId) → IsOpenOn new ls k d → Is
 
 -- what is open on a file of the upper was so before where the descriptor led where it leads
 pub open-before : (old new : Clients) (ks ls : List Table) (k : ℕ) (d : NodeId) (x : IsOpenOn new ls k d) → opened_by new x.client x.descriptor ≡ opened_by old x.client x.descriptor → handle_of ls x.client x.descriptor ≡ handle_of ks x.client x.descriptor → IsOpenOn old ks k d
-open-before old new ks ls k d x same still = record { client = x.client; descriptor = x.descriptor; file = x.file; handle = x.handle; opened = sym (ap file_in same) ∙ x.opened; key = x.key; on = sym still ∙ x.on; at = x.at }
+open-before old new ks ls k d x same still =
+    record {
+      client = x.client;
+      descriptor = x.descriptor;
+      file = x.file;
+      handle = x.handle;
+      opened = sym (ap file_in same) ∙ x.opened;
+      key = x.key;
+      on = sym still ∙ x.on;
+      at = x.at;
+    }
 
 -- so files and nodes are one still
 pub one-fewer : (old new : Clients) (ks ls : List Table) → OpensFewer old ks new ls → AreOne old ks → AreOne new ls
 one-fewer old new ks ls fewer one k j d e x y = one k j d e (fewer k d x) (fewer j e y)
 
 -- where one descriptor is set to another handle on the same node, of the same file, or is freed
-pub set-fewer : (old new : Clients) (ks : List Table) (c fd : ℕ) (o : Option handles.Handle) (x : Option Handle) → ChangesClient old new c (λ b y. SetsSlot b y fd o) → fd < length (handles_of ks c) → ((f : OpenFile) (h : Handle) (k : ℕ) → file_in o ≡ Some f → x ≡ Some h → f.source ≡ Upper k → IsOpenOn old ks k h.node) → OpensFewer old ks new (with_handle ks c fd x)
+pub set-fewer : (old new : Clients) (ks : List Table) (c fd : ℕ) (o : Option handles.Handle)
+    (x : Option Handle) → ChangesClient old new c (λ b y. SetsSlot b y fd o) →
+    fd < length (handles_of ks c) → ((f : OpenFile) (h : Handle) (k : ℕ) → file_in o ≡ Some f →
+    x ≡ Some h → f.source ≡ Upper k → IsOpenOn old ks k h.node) →
+    OpensFewer old ks new (with_handle ks c fd x)
 set-fewer old new ks c fd o x h within again k d on = by (cases_eq on.client c) (cases_eq on.descriptor fd)
   where
     -- another descriptor led there before
@@ -257,7 +277,8 @@ set-fewer old new ks c fd o x h within again k d on = by (cases_eq on.client c) 
 
     by : (on.client ≡ c) ⊎ (on.client ≡ c → ⊥) → (on.descriptor ≡ fd) ⊎ (on.descriptor ≡ fd → ⊥) → IsOpenOn old ks k d
     by (inl b) (inl i) =
-        let leads : opened_by new on.client on.descriptor ≡ o = (λ n. opened_by new (b n) (i n)) ∙ opened-is new c fd h.after h.is ∙ h.changes.here in
+        let leads : opened_by new on.client on.descriptor ≡ o =
+        (λ n. opened_by new (b n) (i n)) ∙ opened-is new c fd h.after h.is ∙ h.changes.here in
         let opens : file_in o ≡ Some on.file = sym (ap file_in leads) ∙ on.opened in
         let holds : x ≡ Some on.handle = sym (handle-set ks c fd x within) ∙ sym (λ n. handle_of (with_handle ks c fd x) (b n) (i n)) ∙ on.on in
         subst (λ z. IsOpenOn old ks k z) on.at (again on.file on.handle k opens holds on.key)

@@ -1,6 +1,11 @@
 -- The handles of what a client has open, and the states in which one of its descriptors changes.
-use Rattle.std.proofs.Common.{◌≡◌, ℕ, ◌<◌, true, List, Option, None, Some, refl, sym, ap, ◌∙◌, subst, is_some, length, option_map, arith}
-use Rattle.mount_calls.proofs.Words.{ChangesSlot, Dentries, DESCRIPTORS_MAX, Directory, directory_in, File, file_in, FileSource, Handle, handle_of, handles_of, IsLive, Layer, Lower, Name, NodeId, OpenDirectory, OpenFile, SetsSlot, State, Tree, Upper, with_handle, with_listing, with_place}
+use Rattle.std.proofs.Common.{◌≡◌, ℕ, ◌<◌, true, List, Option, None, Some, refl, sym, ap, ◌∙◌}
+use Rattle.std.proofs.Common.{subst, is_some, length, option_map}
+use Rattle.mount_calls.proofs.Words.{ChangesSlot, Dentries, DESCRIPTORS_MAX, Directory}
+use Rattle.mount_calls.proofs.Words.{directory_in, File, file_in, FileSource, Handle, handle_of}
+use Rattle.mount_calls.proofs.Words.{handles_of, IsLive, Layer, Lower, Name, NodeId, OpenDirectory}
+use Rattle.mount_calls.proofs.Words.{OpenFile, SetsSlot, State, Tree, Upper, with_handle}
+use Rattle.mount_calls.proofs.Words.{with_listing, with_place}
 use Rattle.ov_base.specs.declared.place.Place.{Place}
 use Rattle.open_handles.specs.declared.handle.Handle as handles
 use Rattle.open_handles.specs.declared.handle.On.{On}
@@ -49,7 +54,8 @@ directory-open None d is = let no : None ≡ Some d = is in absurd (cc)
 directory-open (Some h) d is = (h, refl, is)
 
 -- what leads to a directory leads to no file
-pub directory-no-file : (o : Option handles.Handle) (d : OpenDirectory) → directory_in o ≡ Some d → file_in o ≡ None
+pub directory-no-file : (o : Option handles.Handle) (d : OpenDirectory) → directory_in o ≡ Some d →
+    file_in o ≡ None
 directory-no-file None d is = refl
 directory-no-file (Some h) d is = by h.on is
   where
@@ -58,17 +64,22 @@ directory-no-file (Some h) d is = by h.on is
     by (File f) e = let no : None ≡ Some d = e in absurd (cc)
 
 -- a directory with another listing
-pub listed-directory : (h : handles.Handle) (d : OpenDirectory) (l : Option (List Name)) → directory_in (Some h) ≡ Some d → directory_in (Some (with_listing l h)) ≡ Some (record d { listing = l })
+pub listed-directory : (h : handles.Handle) (d : OpenDirectory) (l : Option (List Name)) →
+    directory_in (Some h) ≡ Some d →
+    directory_in (Some (with_listing l h)) ≡ Some (record d { listing = l })
 listed-directory h d l is = by h.on is
   where
-    by : (on : On) → directory_on h.object on ≡ Some d → directory_on h.object (listed_as l on) ≡ Some (record d { listing = l })
+    by : (on : On) → directory_on h.object on ≡ Some d →
+        directory_on h.object (listed_as l on) ≡ Some (record d { listing = l })
     by (Directory listing) e =
         let same : record { directory = h.object; listing = listing } ≡ d = cc in
         ap (λ (z : OpenDirectory). Some (record z { listing = l })) same
     by (File f) e = let no : None ≡ Some d = e in absurd (cc)
 
 -- a handle that leads to a directory is alike with one on that
-pub as-directory : (U : Layer) (lowers : List Layer) (t : Tree) (ds : Dentries) (o : handles.Handle) (d : OpenDirectory) (h : Handle) → directory_in (Some o) ≡ Some d → IsHandle t ds d h → IsOpenAs U lowers t ds o h
+pub as-directory : (U : Layer) (lowers : List Layer) (t : Tree) (ds : Dentries) (o : handles.Handle)
+    (d : OpenDirectory) (h : Handle) → directory_in (Some o) ≡ Some d → IsHandle t ds d h →
+    IsOpenAs U lowers t ds o h
 as-directory U lowers t ds o d h is x = by o.on is
   where
     by : (on : On) → directory_on o.object on ≡ Some d → IsOpenOnAs U lowers t ds o.object on h
@@ -117,12 +128,16 @@ module _ (m : Mount) (s : State) (st : IsStateOf m s) where
 
   -- the handle of an open file
   pub file-at : (c d : ℕ) (f : OpenFile) → file_by m.clients c d ≡ Some f →
-      (h : Handle) × (handle_of s.tables c d ≡ Some h) × IsFile (the_upper m) (the_lowers m) s.tree f h
+      (h : Handle) × (handle_of s.tables c d ≡ Some h) × IsFile (the_upper m)
+      (the_lowers m) s.tree f h
   file-at c d f e =
       let o = file-open (opened_by m.clients c d) f e in
-      let x = open-at alike m.clients s.tables st.tables c d o.0 o.1 in
-      (x.0, x.1, subst (λ on. IsOpenOnAs (the_upper m) (the_lowers m) s.tree m.clients.objects.tree
-          o.0.object on x.0) o.2 x.2)
+      let x = open-at alike m.clients s.tables st.tables c d o.0 o.1 in (
+        x.0,
+        x.1,
+        subst (λ on. IsOpenOnAs (the_upper m) (the_lowers m) s.tree m.clients.objects.tree
+            o.0.object on x.0) o.2 x.2,
+      )
 
   -- the handle of an open directory
   pub directory-at : (c d : ℕ) (o : OpenDirectory) → directory_by m.clients c d ≡ Some o →
@@ -154,7 +169,8 @@ module _ (m : Mount) (s : State) (st : IsStateOf m s) where
     handle-none e = slot-closed alike _ _ (st.tables.slots c d) e
 
     -- what holds where nothing is open, where a file is, and where a directory is
-    pub by-opened : (P : Option handles.Handle → Type 0) → (handle_of s.tables c d ≡ None → P None) →
+    pub by-opened : (P : Option handles.Handle → Type 0) → (handle_of s.tables c d ≡ None →
+        P None) →
         ((n : ℕ) (way : Option Way) (f : OpenFile) (h : Handle) → handle_of s.tables c d ≡ Some h →
         IsFile (the_upper m) (the_lowers m) s.tree f h → P (Some (on_file n way f))) →
         ((n : ℕ) (way : Option Way) (listing : Option (List Name)) (h : Handle) →
@@ -177,11 +193,20 @@ module _ (m : Mount) (s : State) (st : IsStateOf m s) where
 
     module _ (h : Handle) (on : handle_of s.tables c d ≡ Some h) where
       -- a descriptor is set on both sides, alike, and to a file of the upper only where it led to the same
-      pub state-set : (new : Mount) → new.layers ≡ m.layers → new.redirects ≡ m.redirects → new.metacopy ≡ m.metacopy → new.file_limit ≡ m.file_limit → (o : Option handles.Handle) (x : Option Handle) → ChangesClient m.clients new.clients c (λ b y. SetsSlot b y d o) → ((f : OpenFile) (z : Handle) (k : ℕ) → file_in o ≡ Some f → x ≡ Some z → f.source ≡ Upper k → IsOpenOn m.clients s.tables k z.node) → IsSlot (Alike m.layers s new.clients) o x → IsStateOf new (record s { tables = with_handle s.tables c d x })
+      pub state-set : (new : Mount) → new.layers ≡ m.layers → new.redirects ≡ m.redirects →
+          new.metacopy ≡ m.metacopy → new.file_limit ≡ m.file_limit →
+          (o : Option handles.Handle) (x : Option Handle) →
+          ChangesClient m.clients new.clients c (λ b y. SetsSlot b y d o) →
+          ((f : OpenFile) (z : Handle) (k : ℕ) → file_in o ≡ Some f → x ≡ Some z →
+          f.source ≡ Upper k → IsOpenOn m.clients s.tables k z.node) →
+          IsSlot (Alike m.layers s new.clients) o x →
+          IsStateOf new (record s { tables = with_handle s.tables c d x })
       state-set new same redirects metacopy limit o x ch again like =
           with-tables m s st new (with_handle s.tables c d x) same redirects metacopy limit ch.next
           (tables-set alike m.clients s.tables st.tables new.clients (Alike m.layers s new.clients) c d o x ch inside
-          (λ b i p z opens was is l. placed (the_upper m) (the_lowers m) s.tree m.clients.objects.tree new.clients.objects.tree p z (λ e q is_e at. ch.places b i e q (ap directory_in opens ∙ is_e) at) l)
+          (λ b i p z opens was is l. placed (the_upper m)
+          (the_lowers m) s.tree m.clients.objects.tree new.clients.objects.tree p z
+          (λ e q is_e at. ch.places b i e q (ap directory_in opens ∙ is_e) at) l)
           like)
           (one-fewer m.clients new.clients s.tables (with_handle s.tables c d x) (set-fewer m.clients new.clients s.tables c d o x ch within again) st.one)
         where
@@ -192,14 +217,20 @@ module _ (m : Mount) (s : State) (st : IsStateOf m s) where
           inside = rw (room-of alike m.clients s.tables st.tables c (ap is_some ch.was)) at within
 
       -- the place of an open file moves
-      pub place-moved : (f : OpenFile) → file_by m.clients c d ≡ Some f → (place : ℕ) (new : Clients) →
+      pub place-moved : (f : OpenFile) → file_by m.clients c d ≡ Some f →
+          (place : ℕ) (new : Clients) →
           ChangesClient m.clients new c (λ x y. ChangesSlot x y d (with_place place)) →
-          IsStateOf (record m { clients = new }) (record s { tables = with_handle s.tables c d (Some (record h { place = place })) })
+          IsStateOf (record m { clients = new }) (record s {
+            tables = with_handle s.tables c d
+                (Some (record h { place = place }));
+          })
       place-moved f opens place new ch =
-          state-set (record m { clients = new }) refl refl refl refl (Some (with_place place led.0)) (Some moved)
+          state-set (record m { clients = new }) refl refl refl refl (Some (with_place place led.0))
+          (Some moved)
           (slot-becomes m.clients new c d led.0 (with_place place) led.1 ch)
           again
-          (subst (λ on. IsOpenOnAs (the_upper m) (the_lowers m) s.tree new.objects.tree led.0.object on moved)
+          (subst (λ on. IsOpenOnAs (the_upper m) (the_lowers m) s.tree new.objects.tree led.0.object
+          on moved)
           (sym (ap (placed_at place) led.2)) as_moved)
         where
           led : (o : handles.Handle) × (opened_by m.clients c d ≡ Some o) × (o.on ≡ File f)
@@ -216,7 +247,8 @@ module _ (m : Mount) (s : State) (st : IsStateOf m s) where
 
           as_moved : IsFile (the_upper m) (the_lowers m) s.tree (record f { place = place }) moved
           as_moved = record {
-            source = of-on (the_upper m) (the_upper m) (the_lowers m) s.tree s.tree f.source f.low h moved refl refl (λ k e live. live) (λ leaf. leaf) file.source;
+            source = of-on (the_upper m) (the_upper m) (the_lowers m) s.tree s.tree f.source f.low h
+                moved refl refl (λ k e live. live) (λ leaf. leaf) file.source;
             own = file.own;
             reads = file.reads;
             writes = file.writes;
@@ -226,11 +258,12 @@ module _ (m : Mount) (s : State) (st : IsStateOf m s) where
           }
 
           -- it is the same file, on the same node
-          again : (g : OpenFile) (z : Handle) (k : ℕ) → file_in (Some (with_place place led.0)) ≡ Some g →
+          again : (g : OpenFile) (z : Handle) (k : ℕ) →
+              file_in (Some (with_place place led.0)) ≡ Some g →
               Some moved ≡ Some z → g.source ≡ Upper k → IsOpenOn m.clients s.tables k z.node
           again g z k is held key =
               let leads : Some (record f { place = place }) ≡ Some g =
-                  sym (ap (λ on. file_on (placed_at place on)) led.2) ∙ is in
+              sym (ap (λ on. file_on (placed_at place on)) led.2) ∙ is in
               let same : record f { place = place } ≡ g = cc in
               let handles_same : moved ≡ z = cc in
               let node : h.node ≡ z.node = ap (λ (o : Handle). o.node) handles_same in

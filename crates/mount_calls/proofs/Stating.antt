@@ -1,7 +1,8 @@
 -- A mount stands for a state still when its clients, or its layers, change so.
-use Rattle.std.proofs.Common.{◌≡◌, ℕ, List, Some, refl, ap, ◌∙◌, arith}
+use Rattle.std.proofs.Common.{◌≡◌, ℕ, List, refl, ap, ◌∙◌, arith}
 use Rattle.merged_lookup.specs.Merged.{upper_of}
-use Rattle.mount_calls.proofs.Words.{directory_in, Handle, Layer, Layers, layers_of, lowers_of, State, Table}
+use Rattle.mount_calls.proofs.Words.{directory_in, Handle, Layer, Layers, layers_of, lowers_of}
+use Rattle.mount_calls.proofs.Words.{State, Table}
 use Rattle.open_handles.specs.declared.handle.Handle as handles
 use Rattle.open_handles.specs.declared.clients.Clients.{Clients}
 use Rattle.mount_calls.specs.declared.mount.Mount.{Mount}
@@ -34,7 +35,9 @@ module _ (m : Mount) (s : State) (st : IsStateOf m s) where
   keep-same new same =
       with-tables (record m { clients = new }) s.tables refl refl refl refl same.next
       (tables-same (Alike m.layers s m.clients) m.clients s.tables st.tables new (Alike m.layers s new) same
-      (λ c d o h on at is. placed (upper_of m.layers) (lowers_of m.layers) s.tree m.clients.objects.tree new.objects.tree o h (λ e l f. same.places c d e l (ap directory_in on ∙ f)) is))
+      (λ c d o h on at is. placed (upper_of m.layers)
+      (lowers_of m.layers) s.tree m.clients.objects.tree new.objects.tree o h
+      (λ e l f. same.places c d e l (ap directory_in on ∙ f)) is))
       (one-fewer m.clients new s.tables s.tables
       (λ k d x. open-before m.clients new s.tables s.tables k d x (same.opened x.client x.descriptor) refl)
       st.one)

@@ -26,7 +26,8 @@ use Rattle.mount_calls.specs.declared.mount.Mount.{Mount}
 use Rattle.open_handles.specs.Attaching.{file_by, opened_by, ChangesClient}
 use Rattle.mount_calls.specs.Files.{IsFile, IsOf, IsOpenOn, SeesFile, bytes_of_inode, seen_inode, source_inode}
 use Rattle.mount_calls.specs.Living.{SetsFile}
-use Rattle.mount_calls.specs.Opening.{truncate_fault, truncate_fault_on, write_fault, write_fault_on, written_key}
+use Rattle.mount_calls.specs.Opening.{truncate_fault, truncate_fault_on, write_fault}
+use Rattle.mount_calls.specs.Opening.{write_fault_on, written_key}
 use Rattle.mount_calls.specs.States.{IsStateOf, Serves}
 use Rattle.mount_calls.proofs.Answering.{serve-done, serve-refused}
 use Rattle.mount_calls.proofs.Rewritten.{state-rewritten}
@@ -80,15 +81,18 @@ last-of : (a b x : Option Errno) → or_else a b ≡ None → or_else a (or_else
 last-of a b x h = grind arith
 
 -- the first of three refusals
-first-told : (a b x : Option Errno) (e : Errno) → or_else a b ≡ Some e → or_else a (or_else b x) ≡ Some e
+first-told : (a b x : Option Errno) (e : Errno) → or_else a b ≡ Some e →
+    or_else a (or_else b x) ≡ Some e
 first-told a b x e h = grind arith
 
 -- a write that is refused nothing is of a file to write to
-unrefused-write : (f : OpenFile) (count : ℕ) → write_fault_on (File f) count ≡ None → is_none (written_key f) ≡ false
+unrefused-write : (f : OpenFile) (count : ℕ) → write_fault_on (File f) count ≡ None →
+    is_none (written_key f) ≡ false
 unrefused-write f count h = grind arith
 
 -- and so is a truncation
-unrefused-truncation : (limit : ℕ) (f : OpenFile) (size : ℕ) → truncate_fault_on limit (File f) size ≡ None → is_none (written_key f) ≡ false
+unrefused-truncation : (limit : ℕ) (f : OpenFile) (size : ℕ) →
+    truncate_fault_on limit (File f) size ≡ None → is_none (written_key f) ≡ false
 unrefused-truncation limit f size h = grind arith
 
 -- why a write of so many bytes is refused at its place: none of them fits
@@ -137,7 +141,8 @@ none-kept lowers (Some d) h sees on = absurd (false≢true (sym sees.reads_alone
 
 module _ (m : Mount) (s : State) (st : IsStateOf m s) (c d : ℕ) where
   -- a file that has a key to write to is of the upper, and live
-  writing : (f : OpenFile) → file_by m.clients c d ≡ Some f → is_none (written_key f) ≡ false → (h : Handle) × IsWriting m s c d f h
+  writing : (f : OpenFile) → file_by m.clients c d ≡ Some f → is_none (written_key f) ≡ false →
+      (h : Handle) × IsWriting m s c d f h
   writing f e some =
       let x = file-at m s st c d f e in
       let k = to-upper f some in
@@ -174,8 +179,14 @@ module _ (m : Mount) (s : State) (st : IsStateOf m s) (c d : ℕ) where
     truncate-refusal =
         by-opened m s st c d (λ o. refusal s c (call.Truncate d size) ≡ truncate_fault m.file_limit o size)
         (λ none. (law_of_unopened s c d none).sizing size)
-        (λ n way f h on is. (law_of_truncate s c d h on).refused size ∙ ap (λ b. or_else (when b errno.EINVAL) (when (nat_lt s.options.file_limit size) errno.EFBIG)) (not-writing (the_upper m) (the_lowers m) s.tree f h is) ∙ ap (λ (k : ℕ). or_else (when (is_none (written_key f)) errno.EINVAL) (when (nat_lt k size) errno.EFBIG)) st.limit)
-        (λ n way listing h on is. (law_of_directory_handle s c d h on is.directory).sizing (ap (λ (z : Handle). z.writes) is.access) size)
+        (λ n way f h on is. (law_of_truncate s c d h on).refused size
+        ∙ ap (λ b. or_else (when b errno.EINVAL)
+        (when (nat_lt s.options.file_limit size) errno.EFBIG)) (not-writing (the_upper m)
+        (the_lowers m) s.tree f h is)
+        ∙ ap (λ (k : ℕ). or_else (when (is_none (written_key f)) errno.EINVAL)
+        (when (nat_lt k size) errno.EFBIG)) st.limit)
+        (λ n way listing h on is. (law_of_directory_handle s c d h on is.directory).sizing
+        (ap (λ (z : Handle). z.writes) is.access) size)
 
     -- where that isn't there it isn't refused
     pub truncate-allowed : truncate_fault m.file_limit (opened_by m.clients c d) size ≡ None →
@@ -197,7 +208,8 @@ module _ (m : Mount) (s : State) (st : IsStateOf m s) (c d : ℕ) where
         found =
             let led = file-open (opened_by m.clients c d) f is in
             writing f is (unrefused-truncation m.file_limit f size
-                (sym (ap (λ o. truncate_fault m.file_limit o size) led.1 ∙ ap (λ on. truncate_fault_on m.file_limit on size) led.2) ∙ good))
+            (sym (ap (λ o. truncate_fault m.file_limit o size) led.1
+            ∙ ap (λ on. truncate_fault_on m.file_limit on size) led.2) ∙ good))
 
         h : Handle
         h = found.0
@@ -228,10 +240,14 @@ module _ (m : Mount) (s : State) (st : IsStateOf m s) (c d : ℕ) where
     pub write-refused : (e : Errno) → write_fault (opened_by m.clients c d) (length bytes) ≡ Some e → Writes (reply.Refused e) m
     write-refused e fault =
         serve-refused _ s c _ e m
-        (by-opened m s st c d (λ o. write_fault o (length bytes) ≡ Some e → refusal s c (call.Write d bytes) ≡ Some e)
+        (by-opened m s st c d (λ o. write_fault o (length bytes) ≡ Some e →
+        refusal s c (call.Write d bytes) ≡ Some e)
         (λ none g. (law_of_unopened s c d none).writing bytes ∙ g)
-        (λ n way f h on is g. faults f h on is ∙ first-told (when (nat_lt TRANSFER_MAX (length bytes)) errno.EINVAL) (when (is_none (written_key f)) errno.EBADF) _ e g)
-        (λ n way listing h on is g. (law_of_directory_handle s c d h on is.directory).writing (ap (λ (z : Handle). z.writes) is.access) bytes ∙ g)
+        (λ n way f h on is g. faults f h on is
+        ∙ first-told (when (nat_lt TRANSFER_MAX (length bytes)) errno.EINVAL)
+        (when (is_none (written_key f)) errno.EBADF) _ e g)
+        (λ n way listing h on is g. (law_of_directory_handle s c d h on is.directory).writing
+        (ap (λ (z : Handle). z.writes) is.access) bytes ∙ g)
         fault)
         st
 
@@ -241,7 +257,8 @@ module _ (m : Mount) (s : State) (st : IsStateOf m s) (c d : ℕ) where
       good-file : write_fault_on (File f) (length bytes) ≡ None
       good-file =
           let led = file-open (opened_by m.clients c d) f is in
-          sym (ap (λ o. write_fault o (length bytes)) led.1 ∙ ap (λ on. write_fault_on on (length bytes)) led.2) ∙ good
+          sym (ap (λ o. write_fault o (length bytes)) led.1
+          ∙ ap (λ on. write_fault_on on (length bytes)) led.2) ∙ good
 
       -- that is written to by this handle
       found : (h : Handle) × IsWriting m s c d f h
@@ -295,7 +312,9 @@ module _ (m : Mount) (s : State) (st : IsStateOf m s) (c d : ℕ) where
             (write-allowed count fit)
             (ap reply.Written counted ∙ sym (law.answer bytes))
             (subst (IsStateOf (record m { layers = new; clients = clients })) (steps ∙ sym (law.state bytes (some-there bytes full)))
-            (place-moved (record m { layers = new }) (record s { tree = rewritten s.tree h.node now }) made c d h w.on f is (start + count) clients moves))
+            (place-moved (record m { layers = new })
+            (record s { tree = rewritten s.tree h.node now }) made c d h w.on f is
+            (start + count) clients moves))
           where
             now : List ℕ
             now = written w.live.bytes start (fitting s.options.file_limit start bytes)

@@ -44,7 +44,8 @@ free_released-requires-in-Inode-clause-held c = λ key is off has.
     let may = c.requires.may.1 in
     c.requires.held (not-some c.args.replaced (sym c.is_some.ensures ∙ off)) key
     (released-named l c.args.new.now c.in-Inode.released key
-    (file-target (upper_of l) (lowers_of l) c.requires.may.0 c.args.old.now c.args.new.now may.apart may.fine does.0.kind)
+    (file-target (upper_of l) (lowers_of l) c.requires.may.0 c.args.old.now c.args.new.now may.apart
+    may.fine does.0.kind)
     does.0.replaces.handed_back is) has
 
 pub returns-in-Inode-clause-moves : goal.returns-in-Inode-clause-moves

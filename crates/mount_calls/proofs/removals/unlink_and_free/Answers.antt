@@ -12,7 +12,8 @@ use Rattle.mount_calls.proofs.removals.unlink_and_free.Goals as goal
 pub free_released-requires-clause-held : goal.free_released-requires-clause-held
 free_released-requires-clause-held c = λ key is off has.
     c.requires.held (not-some c.args.number (sym c.is_some.ensures ∙ off)) key
-    (released-named c.args.layers.now c.args.path.now c.in_ok-key.key key (ap is_directory c.requires.judged.shown.shown)
+    (released-named c.args.layers.now c.args.path.now c.in_ok-key.key key
+    (ap is_directory c.requires.judged.shown.shown)
     c.in_ok-key.ensures.unnames.handed_back is) has
 
 pub returns-clause-takes : goal.returns-clause-takes

@@ -19,9 +19,12 @@ returns-in-Ok-clause-makes c =
     let closed = c.close.new.self in
     let leaves = close-leaves closed m.layers new c.upper_key-closed.result c.free_closed.ensures.freed c.free_closed.ensures.none in
     let now = record m { layers = new; clients = closed } in
-    let served : ServesEach client (call.Close fd) m now reply.Done = λ s st. close-done m s st client fd closed c.in-Ok.handle c.in-Ok.ensures.changes new c.upper_key-closed.result
+    let served : ServesEach client (call.Close fd) m now reply.Done =
+    λ s st. close-done m s st client fd closed c.in-Ok.handle c.in-Ok.ensures.changes new
+    c.upper_key-closed.result
     (c.upper_key-closed.ensures ∙ ap key_in_upper c.file.ensures) leaves in
-    marks-done client (call.Close fd) m new closed (keeps-attached m.clients closed client _ c.close.ensures.changes) served
+    marks-done client (call.Close fd) m new closed
+    (keeps-attached m.clients closed client _ c.close.ensures.changes) served
     (λ s st fine. stays-named m.layers now s client (call.Close fd) reply.Done (served s st) fine
     (close-paths (the_upper m) (the_lowers m) s st.layers client fd) (paths-files m.layers new leaves.paths))
     (record { paths = leaves.paths; texts = c.free_closed.ensures.texts }) leaves.paths.lowers leaves.thin
@@ -30,5 +33,7 @@ pub returns-in-Err-clause-makes : goal.returns-in-Err-clause-makes
 returns-in-Err-clause-makes c =
     let m = c.args.self.now in
     let closed = c.close.new.self in
-    makes-refused c.args.client (call.Close c.args.descriptor) m (record m { clients = closed }) (keeps-attached m.clients closed c.args.client _ c.close.ensures.changes) refl
-    c.in-Err.errno (λ s. refl) (λ s st. close-refused m s st c.args.client c.args.descriptor closed c.in-Err.errno c.in-Err.ensures.changes)
+    makes-refused c.args.client (call.Close c.args.descriptor) m (record m { clients = closed })
+    (keeps-attached m.clients closed c.args.client _ c.close.ensures.changes) refl
+    c.in-Err.errno (λ s. refl) (λ s st. close-refused m s st c.args.client c.args.descriptor closed
+    c.in-Err.errno c.in-Err.ensures.changes)

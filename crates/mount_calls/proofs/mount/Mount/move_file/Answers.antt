@@ -14,8 +14,10 @@ lift-requires c =
     let mid = c.lose_name.new.self.clients.objects in
     let lost = c.lose_name.ensures.lost q x.present in (
       p,
-      number-led old mid p q course.object course.over c.in-Lower.is x.apart lost course.number c.lose_name.ensures.there x.found,
-      may-led old mid p q course.object course.over c.in-Lower.is x.apart lost c.args.key c.lose_name.ensures.room x.room x.free,
+      number-led old mid p q course.object course.over c.in-Lower.is x.apart lost course.number
+          c.lose_name.ensures.there x.found,
+      may-led old mid p q course.object course.over c.in-Lower.is x.apart lost c.args.key
+          c.lose_name.ensures.room x.room x.free,
       subst (λ (m : Mount). ShowsNoFolder m.layers p) (sym c.lose_name.ensures.only) x.left,
     )
 
@@ -25,8 +27,10 @@ returns-in-Lower-clause-moves c = λ p q x.
     let old = c.args.self.now.clients.objects in
     let mid = c.lose_name.new.self.clients.objects in
     let lost = c.lose_name.ensures.lost q x.present in
-    moves-file old mid c.lift.new.self.clients.objects p q course.object course.over c.args.key x.file lost
-    (c.lift.ensures.lifted p (number-led old mid p q course.object course.over c.in-Lower.is x.apart lost course.number c.lose_name.ensures.there x.found))
+    moves-file old mid c.lift.new.self.clients.objects p q course.object course.over c.args.key
+    x.file lost
+    (c.lift.ensures.lifted p (number-led old mid p q course.object course.over c.in-Lower.is x.apart
+    lost course.number c.lose_name.ensures.there x.found))
 
 pub returns-in_default : goal.returns-in_default
 returns-in_default c = record {
@@ -34,7 +38,8 @@ returns-in_default c = record {
   moves = λ p q x.
       let course = c.args.course.now in
       let mid = c.lose_name.new.self.clients.objects in
-      moves-file c.args.self.now.clients.objects mid mid p q course.object course.over c.args.key x.file (c.lose_name.ensures.lost q x.present)
+      moves-file c.args.self.now.clients.objects mid mid p q course.object course.over c.args.key
+      x.file (c.lose_name.ensures.lost q x.present)
       (rests-lifts mid p course.object c.args.key c.in_default.not-Lower);
   beside = c.lose_name.ensures.beside;
   only = c.lose_name.ensures.only;

@@ -1,7 +1,6 @@
 use Rattle.std.proofs.Common.{None, ap, ◌∙◌, is_some}
 use Rattle.open_handles.specs.declared.handle.On.TheVariants.{File}
 use Rattle.open_handles.specs.declared.open_file.OpenFile.{OpenFile}
-use Rattle.mount_calls.specs.declared.mount.Mount.{Mount}
 use Rattle.mount_calls.specs.Files.{file_at}
 use Rattle.mount_calls.proofs.Answering.{on-err}
 use Rattle.mount_calls.proofs.Makings.{wanted-state}
@@ -27,17 +26,23 @@ open-requires-clause-room c = elim c.if-flags.branch [
 ]
 
 pub open-requires-clause-held : goal.open-requires-clause-held
-open-requires-clause-held c = elim c.if-flags.branch [
-  | then-flags+in_ok-resize_file w ↦ rw w.self-is (held-for c.args.self.now.clients c.new.result c.args.hold.now c.new.ensures.tracked c.requires.held)
-  | else-flags w ↦ rw w.self-is (held-for c.args.self.now.clients c.new.result c.args.hold.now c.new.ensures.tracked c.requires.held)
-]
+open-requires-clause-held c =
+    let held =
+    held-for c.args.self.now.clients c.new.result c.args.hold.now c.new.ensures.tracked
+    c.requires.held in
+    elim c.if-flags.branch [
+      | then-flags+in_ok-resize_file w ↦ rw w.self-is held
+      | else-flags w ↦ rw w.self-is held
+    ]
 
 pub returns-clause-opens : goal.returns-clause-opens
 returns-clause-opens c =
-    let opens = opens-hold c.if-flags.self.clients c.«open».new.self c.args.client c.args.descriptor c.new.result c.args.hold.now c.«open».ensures c.new.ensures.tracked in
+    let opens =
+    opens-hold c.if-flags.self.clients c.«open».new.self c.args.client c.args.descriptor
+    c.new.result c.args.hold.now c.«open».ensures c.new.ensures.tracked in
     elim c.if-flags.branch [
-      | then-flags+in_ok-resize_file w ↦ rw w.self-is at opens opens
-      | else-flags w ↦ rw w.self-is at opens opens
+      | then-flags+in_ok-resize_file w ↦ rw w.self-is at opens
+      | else-flags w ↦ rw w.self-is at opens
     ]
 
 pub returns-clause-around : goal.returns-clause-around
@@ -77,29 +82,37 @@ returns-clause-answers c =
     let ensures = c.«open».ensures in
     opens-on m.clients last c.args.client c.args.descriptor c.new.result (File file) c.requires.free
     (elim c.if-flags.branch [
-      | then-flags+in_ok-resize_file w ↦ rw w.self-is at ensures ensures
-      | else-flags w ↦ rw w.self-is at ensures ensures
+      | then-flags+in_ok-resize_file w ↦ rw w.self-is at ensures
+      | else-flags w ↦ rw w.self-is at ensures
     ])
     (c.new.ensures.on ∙ ap File c.file_at-file.ensures) in
     let served : ServesEach c.args.client asked m now (reply.Descriptor c.args.descriptor) = λ s st. elim c.if-flags.branch [
       | then-flags+in_ok-resize_file w ↦
           rw w.self-is
-          (copied-emptied m s st c.args.client c.args.path.now c.args.flags c.args.mode c.requires.allowed c.requires.writes c.args.place c.requires.shown c.requires.lower c.bring_up.new.layers c.in_ok-key.key c.in_ok-key.ensures.copied
+          (copied-emptied m s st c.args.client c.args.path.now c.args.flags c.args.mode
+          c.requires.allowed c.requires.writes c.args.place c.requires.shown c.requires.lower
+          c.bring_up.new.layers c.in_ok-key.key c.in_ok-key.ensures.copied
           c.args.descriptor last opened
           w.if-flags.true w.resize_file.new.layers w.resize_file.ensures.sound.layers (λ k old is. w.in_ok-resize_file.ensures.sets k old (ap (λ (x : OpenFile). x.source) c.file_at-file.ensures ∙ is)))
       | else-flags w ↦
           rw w.self-is
-          (copied-kept m s st c.args.client c.args.path.now c.args.flags c.args.mode c.requires.allowed c.requires.writes c.args.place c.requires.shown c.requires.lower c.bring_up.new.layers c.in_ok-key.key c.in_ok-key.ensures.copied
+          (copied-kept m s st c.args.client c.args.path.now c.args.flags c.args.mode
+          c.requires.allowed c.requires.writes c.args.place c.requires.shown c.requires.lower
+          c.bring_up.new.layers c.in_ok-key.key c.in_ok-key.ensures.copied
           c.args.descriptor last opened w.if-flags.false)
     ] in
     answers-open c.args.client asked m now c.args.descriptor served (λ s st fine.
-    let copied = copied-files m s st c.args.client c.args.path.now c.args.flags c.args.mode c.requires.allowed c.requires.writes c.args.place c.requires.shown c.requires.lower c.bring_up.new.layers c.in_ok-key.key c.in_ok-key.ensures.copied in
+    let copied =
+    copied-files m s st c.args.client c.args.path.now c.args.flags c.args.mode
+    c.requires.allowed c.requires.writes c.args.place c.requires.shown c.requires.lower
+    c.bring_up.new.layers c.in_ok-key.key c.in_ok-key.ensures.copied in
     let files : KeepsFiles c.args.self.now.layers c.if-flags.self.layers = elim c.if-flags.branch [
       | then-flags+in_ok-resize_file w ↦ rw w.self-is (λ q j f. w.resize_file.ensures.files q j (copied q j f))
       | else-flags w ↦ rw w.self-is copied
     ] in
     stays-named m.layers now s c.args.client asked (reply.Descriptor c.args.descriptor) (served s st) fine
-    (open-paths (the_upper m) (the_lowers m) s st.layers c.args.client c.args.path.now c.args.flags c.args.mode fine (ap is_some c.requires.shown.shown))
+    (open-paths (the_upper m) (the_lowers m) s st.layers c.args.client c.args.path.now c.args.flags
+    c.args.mode fine (ap is_some c.requires.shown.shown))
     files)
 
 pub returns-clause-texts : goal.returns-clause-texts

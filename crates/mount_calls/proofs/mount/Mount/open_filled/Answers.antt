@@ -22,10 +22,14 @@ give_bytes-requires-clause-file c =
     (open-no-link (layers_of c.args.self.now.layers) c.args.path.now c.args.flags c.args.mode c.requires.allowed)
 
 pub open-requires-clause-held : goal.open-requires-clause-held
-open-requires-clause-held c = held-for c.args.self.now.clients c.new.result c.args.hold.now c.new.ensures.tracked c.requires.held
+open-requires-clause-held c =
+    held-for c.args.self.now.clients c.new.result c.args.hold.now c.new.ensures.tracked
+    c.requires.held
 
 pub returns-clause-opens : goal.returns-clause-opens
-returns-clause-opens c = opens-hold c.args.self.now.clients c.«open».new.self c.args.client c.args.descriptor c.new.result c.args.hold.now c.«open».ensures c.new.ensures.tracked
+returns-clause-opens c =
+    opens-hold c.args.self.now.clients c.«open».new.self c.args.client c.args.descriptor
+    c.new.result c.args.hold.now c.«open».ensures c.new.ensures.tracked
 
 pub returns-in_err-give_bytes-clause-no_memory : goal.returns-in_err-give_bytes-clause-no_memory
 returns-in_err-give_bytes-clause-no_memory c =
@@ -45,16 +49,22 @@ returns-clause-answers c =
     let now = record m { layers = new; clients = last } in
     let asked = call.Open p c.args.flags c.args.mode in
     let made = c.give_bytes.ensures in
-    let opens = opens-on m.clients last c.args.client c.args.descriptor c.new.result _ c.requires.free c.«open».ensures
+    let opens =
+    opens-on m.clients last c.args.client c.args.descriptor c.new.result _ c.requires.free
+    c.«open».ensures
     (c.new.ensures.on ∙ ap File c.file_at-file.ensures) in
     let served : ServesEach c.args.client asked m now (reply.Descriptor c.args.descriptor) = λ s st.
-    open-filled m s st c.args.client p c.args.flags c.args.mode c.requires.allowed c.requires.writes c.args.place c.requires.own c.requires.shown
-    new made.lowers made.sound.layers c.in_ok-give_bytes.ensures.gives c.args.descriptor last opens in
+    open-filled m s st c.args.client p c.args.flags c.args.mode c.requires.allowed c.requires.writes
+    c.args.place c.requires.own c.requires.shown
+    new made.lowers made.sound.layers c.in_ok-give_bytes.ensures.gives c.args.descriptor last opens
+    in
     answers-open c.args.client asked m now c.args.descriptor served
     (λ s st fine. stays-named m.layers now s c.args.client asked (reply.Descriptor c.args.descriptor) (served s st) fine
     (open-paths (the_upper m) (the_lowers m) s st.layers c.args.client p c.args.flags c.args.mode fine (ap is_some c.requires.shown.shown))
-    (filled-files m s st c.args.client p c.args.flags c.args.mode c.requires.allowed c.requires.writes c.args.place c.requires.own c.requires.shown
-    new made.lowers made.sound.layers c.in_ok-give_bytes.ensures.gives c.args.descriptor last opens))
+    (filled-files m s st c.args.client p c.args.flags c.args.mode c.requires.allowed
+    c.requires.writes c.args.place c.requires.own c.requires.shown
+    new made.lowers made.sound.layers c.in_ok-give_bytes.ensures.gives c.args.descriptor last
+    opens))
 
 pub returns-in_err-give_bytes-clause-around : goal.returns-in_err-give_bytes-clause-around
 returns-in_err-give_bytes-clause-around c =

@@ -13,10 +13,14 @@ use Rattle.mount_calls.proofs.Texts.{texts-made}
 use Rattle.mount_calls.proofs.mount.Mount.open_made.Goals as goal
 
 pub open-requires-clause-held : goal.open-requires-clause-held
-open-requires-clause-held c = held-for c.args.self.now.clients c.new.result c.args.hold.now c.new.ensures.tracked c.requires.held
+open-requires-clause-held c =
+    held-for c.args.self.now.clients c.new.result c.args.hold.now c.new.ensures.tracked
+    c.requires.held
 
 pub returns-clause-opens : goal.returns-clause-opens
-returns-clause-opens c = opens-hold c.args.self.now.clients c.«open».new.self c.args.client c.args.descriptor c.new.result c.args.hold.now c.«open».ensures c.new.ensures.tracked
+returns-clause-opens c =
+    opens-hold c.args.self.now.clients c.«open».new.self c.args.client c.args.descriptor
+    c.new.result c.args.hold.now c.«open».ensures c.new.ensures.tracked
 
 pub returns-in_err-key-clause-around : goal.returns-in_err-key-clause-around
 returns-in_err-key-clause-around c = none-parents c.args.self.now.layers c.create.new.layers c.args.path.now c.in_err-key.ensures.no_memory.beneath
@@ -45,10 +49,14 @@ returns-clause-answers c =
     let last = c.«open».new.self in
     let asked = call.Open c.args.path.now c.args.flags c.args.mode in
     let made = c.in_ok-key.ensures.made in
-    let opens = opens-on m.clients last client c.args.descriptor c.new.result _ c.requires.free c.«open».ensures
+    let opens =
+    opens-on m.clients last client c.args.descriptor c.new.result _ c.requires.free
+    c.«open».ensures
     (c.new.ensures.on ∙ ap File c.file_at-file.ensures) in
     answers-open client asked m (record m { layers = new; clients = last }) c.args.descriptor
-    (λ s st. open-made m s st client c.args.path.now c.args.flags c.args.mode c.requires.allowed c.requires.absent new c.in_ok-key.key made.0 made.1 c.in_ok-key.ensures.steps c.args.descriptor last opens)
+    (λ s st. open-made m s st client c.args.path.now c.args.flags c.args.mode c.requires.allowed
+    c.requires.absent new c.in_ok-key.key made.0 made.1 c.in_ok-key.ensures.steps
+    c.args.descriptor last opens)
     (λ s st fine. keeps-named m.layers new m.metacopy asked
     (create-live m.layers new m.metacopy c.args.path.now c.args.mode made.0 c.in_ok-key.ensures.steps c.args.flags) s st.layers st.metacopy client)
 

@@ -25,9 +25,11 @@ returns-clause-makes c =
     let new = record m { clients = c.move_to.new.self } in
     let read = c.in_ok-read.read in
     let bytes : List ℕ = unwrap_or (option_copied c.bytes_in-bytes.result) [] in
-    makes-read client k m new (keeps-attached m.clients c.move_to.new.self client _ c.move_to.ensures.changes) refl (reply.Read read) (λ s. refl)
+    makes-read client k m new (keeps-attached m.clients c.move_to.new.self client _
+    c.move_to.ensures.changes) refl (reply.Read read) (λ s. refl)
     (λ s st. read-done m s st client c.args.descriptor c.args.count c.in-Ok.file c.in-Ok.ensures.file.0 c.in-Ok.ensures.file.1
-    bytes read c.bytes_in-bytes.ensures c.in_ok-read.ensures.bytes c.move_to.new.self (rw c.as_slice.ensures at c.move_to.ensures.changes))
+    bytes read c.bytes_in-bytes.ensures c.in_ok-read.ensures.bytes c.move_to.new.self
+    (rw c.as_slice.ensures at c.move_to.ensures.changes))
 
 pub returns-in_err-read-clause-allowed : goal.returns-in_err-read-clause-allowed
 returns-in_err-read-clause-allowed c = on-err c.from_residual.result _ (λ s st.

@@ -25,7 +25,8 @@ returns-clause-makes c =
     let given : List ℕ = take (length room) (drop c.in-Ok.file.place bytes) in
     let file = c.in-Ok.ensures.file in
     let told = front given room c.read_into-count.result c.read_into-count.new.room c.read_into-count.ensures.count c.read_into-count.ensures.bytes in
-    makes-read client k m new (keeps-attached m.clients c.move_to.new.self client _ c.move_to.ensures.changes) refl
+    makes-read client k m new (keeps-attached m.clients c.move_to.new.self client _
+    c.move_to.ensures.changes) refl
     (reply.Read (take c.read_into-count.result c.read_into-count.new.room)) (λ s. refl)
     (λ s st. read-done m s st client c.args.descriptor (length room) c.in-Ok.file file.0 file.1
     bytes (take c.read_into-count.result c.read_into-count.new.room) c.bytes_in.ensures told c.move_to.new.self

@@ -5,9 +5,11 @@ use Rattle.ov_base.specs.declared.reply.Reply.TheVariants.{Done}
 use Rattle.merged_lookup.specs.Merged.{layers_of}
 use Rattle.mount_calls.specs.Removing.{HasAttributes}
 use Rattle.mount_calls.proofs.LeftMarks.{wanted-marks}
-use Rattle.mount_calls.proofs.MakingCalls.{attached-kept, attached-same, makes-nothing, makes-unshown, marks-done}
+use Rattle.mount_calls.proofs.MakingCalls.{attached-kept, attached-same, makes-nothing}
+use Rattle.mount_calls.proofs.MakingCalls.{makes-unshown, marks-done}
 use Rattle.mount_calls.proofs.RenameJudged.{reply-err}
-use Rattle.mount_calls.proofs.Renaming.{leads-along, leads-still, object-file, rename-done, replaced-copied, thin-on}
+use Rattle.mount_calls.proofs.Renaming.{leads-along, leads-still, object-file, rename-done}
+use Rattle.mount_calls.proofs.Renaming.{replaced-copied, thin-on}
 use Rattle.mount_calls.proofs.Stating.{the_lowers, the_upper}
 use Rattle.mount_calls.proofs.mount.Mount.rename_moving.Goals as goal
 
@@ -35,8 +37,10 @@ returns-in_err-key-clause-makes c = λ client.
     let kept = c.in_err-key.ensures.no_memory in
     let result = c.from_residual-in_err-key.result in
     makes-unshown client (call.Rename c.args.old.now c.args.new.now) m new
-    (result_and result (Ok Done)) (reply-err result (Ok Done) c.from_residual-in_err-key.ensures.0) kept.mount kept.beneath
-    (record { paths = c.rename_and_free.ensures.paths; texts = c.rename_and_free.ensures.texts }) c.rename_and_free.ensures.lowers
+    (result_and result (Ok Done)) (reply-err result (Ok Done) c.from_residual-in_err-key.ensures.0)
+    kept.mount kept.beneath
+    (record { paths = c.rename_and_free.ensures.paths; texts = c.rename_and_free.ensures.texts })
+    c.rename_and_free.ensures.lowers
     (thin-on m new c.requires.state c.rename_and_free.ensures.thin)
 
 pub returns-in-Directory-clause-makes : goal.returns-in-Directory-clause-makes
@@ -50,16 +54,24 @@ returns-in-Directory-clause-makes c = λ client.
     let left = c.in_ok-replaced.replaced in
     let moved = c.in_ok-key.ensures.moves m.redirects c.requires.moving in
     let kept = c.rename.ensures.clients in
-    let copied = replaced-copied m q course.over course.replaced left c.requires.over c.requires.course.found.present
-    (c.requires.place c.in-Directory.is).replaced (c.in_ok-replaced.ensures.none q c.requires.onto) in
+    let copied =
+    replaced-copied m q course.over course.replaced left c.requires.over
+    c.requires.course.found.present
+    (c.requires.place c.in-Directory.is).replaced (c.in_ok-replaced.ensures.none q c.requires.onto)
+    in
     marks-done client (call.Rename p q) m new clients (attached-kept m.clients clients kept)
     (λ s st.
-    let along = leads-along m s st client p q c.requires.moving.fine new c.rename_and_free.ensures.lowers moved clients kept.attached
+    let along =
+    leads-along m s st client p q c.requires.moving.fine new c.rename_and_free.ensures.lowers
+    moved clients kept.attached
     left c.rename.ensures.places c.requires.bare.1 copied
-    (λ a e. subst (λ z. IfSome z (HasAttributes (layers_of m.layers) q)) e (c.in_ok-replaced.ensures.left q c.requires.onto)) in
-    rename-done m s st client p q c.requires.moving.fine new c.rename_and_free.ensures.lowers moved clients kept along)
+    (λ a e. subst (λ z. IfSome z (HasAttributes (layers_of m.layers) q)) e
+    (c.in_ok-replaced.ensures.left q c.requires.onto)) in
+    rename-done m s st client p q c.requires.moving.fine new c.rename_and_free.ensures.lowers moved
+    clients kept along)
     (λ s st fine. moved.named s st.layers st.redirects st.metacopy client)
-    (record { paths = c.rename_and_free.ensures.paths; texts = c.rename_and_free.ensures.texts }) c.rename_and_free.ensures.lowers
+    (record { paths = c.rename_and_free.ensures.paths; texts = c.rename_and_free.ensures.texts })
+    c.rename_and_free.ensures.lowers
     (thin-on m new c.requires.state c.rename_and_free.ensures.thin)
 
 pub returns-in_default-clause-makes : goal.returns-in_default-clause-makes
@@ -69,14 +81,19 @@ returns-in_default-clause-makes c = λ client.
     let q = c.args.new.now in
     let new = c.rename_and_free.new.layers in
     let moved = c.in_ok-key.ensures.moves m.redirects c.requires.moving in
-    let file = object-file (the_upper m) (the_lowers m) p c.args.course.now.object c.requires.object (λ is. c.in_default.not-Directory is) in
+    let file = object-file (the_upper m) (the_lowers m) p c.args.course.now.object c.requires.object
+    (λ is. c.in_default.not-Directory is) in
     marks-done client (call.Rename p q) m new m.clients (attached-same m.clients)
     (λ s st.
-    let still = leads-still m s st client p q c.requires.moving.fine new c.rename_and_free.ensures.lowers moved file in
-    rename-done m s st client p q c.requires.moving.fine new c.rename_and_free.ensures.lowers moved m.clients
+    let still =
+    leads-still m s st client p q c.requires.moving.fine new c.rename_and_free.ensures.lowers
+    moved file in
+    rename-done m s st client p q c.requires.moving.fine new c.rename_and_free.ensures.lowers moved
+    m.clients
     (record { attached = refl; next = refl }) still)
     (λ s st fine. moved.named s st.layers st.redirects st.metacopy client)
-    (record { paths = c.rename_and_free.ensures.paths; texts = c.rename_and_free.ensures.texts }) c.rename_and_free.ensures.lowers
+    (record { paths = c.rename_and_free.ensures.paths; texts = c.rename_and_free.ensures.texts })
+    c.rename_and_free.ensures.lowers
     (thin-on m new c.requires.state c.rename_and_free.ensures.thin)
 
 pub returns-in_err-replaced-clause-marks : goal.returns-in_err-replaced-clause-marks
@@ -87,11 +104,14 @@ returns-in_err-replaced-clause-marks c =
 pub returns-in_err-key-clause-marks : goal.returns-in_err-key-clause-marks
 returns-in_err-key-clause-marks c =
     let result = c.from_residual-in_err-key.result in
-    wanted-marks (call.Rename c.args.old.now c.args.new.now) c.args.self.now.layers c.rename_and_free.new.layers
+    wanted-marks (call.Rename c.args.old.now c.args.new.now) c.args.self.now.layers
+    c.rename_and_free.new.layers
     (result_and result (Ok Done)) (reply-err result (Ok Done) c.from_residual-in_err-key.ensures.0)
 
 pub returns-in-Directory-clause-marks : goal.returns-in-Directory-clause-marks
-returns-in-Directory-clause-marks c = λ is apart. (c.in_ok-key.ensures.moves c.args.self.now.redirects c.requires.moving).marks
+returns-in-Directory-clause-marks c =
+    λ is apart. (c.in_ok-key.ensures.moves c.args.self.now.redirects c.requires.moving).marks
 
 pub returns-in_default-clause-marks : goal.returns-in_default-clause-marks
-returns-in_default-clause-marks c = λ is apart. (c.in_ok-key.ensures.moves c.args.self.now.redirects c.requires.moving).marks
+returns-in_default-clause-marks c =
+    λ is apart. (c.in_ok-key.ensures.moves c.args.self.now.redirects c.requires.moving).marks

@@ -27,5 +27,7 @@ returns-in-None-clause-makes c =
     let none : seek_fault (opened_by c.args.self.now.clients c.args.client c.args.descriptor) c.args.offset c.args.whence ≡ None =
     sym (c.in_default.ensures ∙ ap (λ (z : ℤ). seek_fault (opened_by c.args.self.now.clients c.args.client c.args.descriptor) z c.args.whence) offset) in
     makes-read c.args.client (call.Seek c.args.descriptor c.args.offset c.args.whence) m (record m { clients = new })
-    (keeps-attached m.clients new c.args.client _ c.rewind.ensures.changes) refl (reply.Place 0) (λ s. refl)
-    (λ s st. seek-done m s st c.args.client c.args.descriptor c.args.offset c.args.whence new none (sym c.in-None.ensures) c.rewind.ensures.changes)
+    (keeps-attached m.clients new c.args.client _ c.rewind.ensures.changes) refl (reply.Place 0)
+    (λ s. refl)
+    (λ s st. seek-done m s st c.args.client c.args.descriptor c.args.offset c.args.whence new none
+    (sym c.in-None.ensures) c.rewind.ensures.changes)

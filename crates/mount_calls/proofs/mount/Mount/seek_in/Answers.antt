@@ -19,8 +19,11 @@ returns-in-Ok-clause-makes c =
     sym (c.in-Ok.ensures ∙ ap (λ (z : ℤ). seek_place c.args.file c.size_of-size.result z c.args.whence) same
     ∙ ap (λ n. seek_place c.args.file n c.args.offset c.args.whence) c.size_of-size.ensures) in
     makes-read c.args.client (call.Seek c.args.descriptor c.args.offset c.args.whence) m (record m { clients = new })
-    (keeps-attached m.clients new c.args.client _ c.move_to.ensures.changes) refl (reply.Place c.in-Ok.place) (λ s. refl)
-    (λ s st. file-sought m s st c.args.client c.args.descriptor c.args.offset c.args.whence c.args.file c.requires bytes c.bytes_in.ensures c.in-Ok.place to new c.move_to.ensures.changes)
+    (keeps-attached m.clients new c.args.client _ c.move_to.ensures.changes) refl
+    (reply.Place c.in-Ok.place) (λ s. refl)
+    (λ s st. file-sought m s st c.args.client c.args.descriptor c.args.offset c.args.whence
+    c.args.file c.requires bytes c.bytes_in.ensures c.in-Ok.place to new
+    c.move_to.ensures.changes)
 
 pub returns-in-Err-clause-makes : goal.returns-in-Err-clause-makes
 returns-in-Err-clause-makes c =

@@ -66,10 +66,13 @@ returns-clause-makes c =
     c.write_place-start.result (rw c.size_of.ensures at c.write_place-start.ensures.machine)
     (sym (ap (λ z. nat_eq (length z) 0) c.as_slice-bytes.ensures) ∙ sym c.is_empty.ensures ∙ c.if-is_empty.false)
     count (sym (rw c.as_slice-bytes.ensures at c.in-Ok-fitting.ensures.count)) (take count c.as_slice-bytes.result.now) fit
-    c.write_file.new.layers made.sound.layers made.sets c.move_to.new.self c.move_to.ensures.changes in
+    c.write_file.new.layers made.sound.layers made.sets c.move_to.new.self c.move_to.ensures.changes
+    in
     makes-changed client k m now (reply.Written count) (λ e is. let no : reply.Written count ≡ reply.Refused e = is in cc) served
     (λ s st fine. stays-named m.layers now s client k (reply.Written count) (served s st) fine (write-paths s client fd bytes) c.write_file.ensures.files)
-    (keeps-attached m.clients c.move_to.new.self client _ c.move_to.ensures.changes) (record { paths = made.objects; texts = c.write_file.ensures.texts }) made.lowers made.sound.thin
+    (keeps-attached m.clients c.move_to.new.self client _ c.move_to.ensures.changes)
+    (record { paths = made.objects; texts = c.write_file.ensures.texts }) made.lowers
+    made.sound.thin
 
 pub returns-in_err-write_file-clause-allowed : goal.returns-in_err-write_file-clause-allowed
 returns-in_err-write_file-clause-allowed c = on-err c.from_residual.result _ (λ s st.
