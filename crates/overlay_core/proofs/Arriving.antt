@@ -9,7 +9,6 @@ use Rattle.std.proofs.lemmas.Bool.{cases_lt, eq-eqb}
 use Rattle.std.proofs.lemmas.Cmp.{eq_by_cmp_equiv, nat_cmp_total}
 use Rattle.std.proofs.Math.Bool.{or-true}
 use Rattle.std.proofs.lemmas.List.{length-map}
-use Rattle.std.proofs.lemmas.List.Sums.{sum_by-cons}
 use Rattle.std.proofs.lemmas.List.Elements.{All-from_get_or}
 use Rattle.std.proofs.lemmas.Map.Steps.{length-le_from_keys}
 use Rattle.plain_model.specs.Layers.{AreLayers, Layer}
@@ -35,6 +34,7 @@ use Rattle.notice_laws.proofs.Clients.{law_of_begun, law_of_joined}
 use Rattle.watch_table.specs.Listening.{is_on}
 use Rattle.notifier.specs.Notifying.{AreCounted, notified, watchers}
 use Rattle.notifier.specs.Watches.{Watches}
+use Rattle.notifier.proofs.Hearing.{one-more}
 use Rattle.mount_calls.specs.declared.mount.Mount.{Mount}
 use Rattle.open_handles.specs.Attaching.{Attaches, TakesBack, tables_of}
 use Rattle.mount_calls.specs.States.{IsStateOf}
@@ -119,12 +119,10 @@ joins-as old new from to c tags came instances renames = record {
 -- who has no watch watches nothing
 counts-silent : (n c : ℕ) (tags : List ℕ) (es : List Instance) →
     watchers (es ++ silent c tags ∷ []) n ≡ watchers es n
-counts-silent n c tags [] = sum_by-cons (λ (x : Instance). cond (is_on n x.watches) 1 0) (silent c tags) []
+counts-silent n c tags [] = one-more n (silent c tags) []
 counts-silent n c tags (e ∷ es) =
-    let more = sum_by-cons (λ (x : Instance). cond (is_on n x.watches) 1 0) e (es ++ silent c tags ∷ []) in
-    let less = sum_by-cons (λ (x : Instance). cond (is_on n x.watches) 1 0) e es in
-    let rest = counts-silent n c tags es in
-    omega (arith, more, less, rest)
+    one-more n e (es ++ silent c tags ∷ [])
+    ∙ ap (λ m. cond (is_on n e.watches) 1 0 + m) (counts-silent n c tags es) ∙ sym (one-more n e es)
 
 -- so what is held beside the handles is counted still when a client comes
 pub counts-came : (old new : Clients) (from to : Watches) (c : ℕ) (tags : List ℕ) →

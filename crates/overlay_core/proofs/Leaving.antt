@@ -147,27 +147,29 @@ ended-as : (ks : TrackedTables) (objects : Objects) (n : ℕ) (lost : Bool) (end
 ended-as ks objects n true ended is ends = inl (is.0 refl, ends)
 ended-as ks objects n false ended is ends = inr (λ at. false≢true (is.1 at), ends)
 
--- A CLOSE WAS TOLD
-pub closed-told : (shows : Rule) (old mid after_it : Clients) (from to : Watches) (c d : ℕ)
-    (h : handles.Handle) (lost : Bool) (ended : Option ℕ) → opened_by old c d ≡ Some h →
-    (lost ≡ true) ↔ (spot_of old.objects h.object ≡ Some Nowhere) →
-    IsEnd (tables_of mid) lost (Some h.object) ended → closes.Shuts old mid c d →
-    IsTold shows mid after_it from to
-    (of_both h.way (Some h.object) (closing h) ++ of_end ended) → to.renames ≡ from.renames →
+-- A CLOSE WAS TOLD of a handle, by what it held and by its bits
+pub closed-told : (shows : Rule) (old mid after_it : Clients) (from to : Watches) (c d bits : ℕ)
+    (h : handles.Handle) (hold : TrackedHandle) (lost : Bool) (ended : Option ℕ) →
+    opened_by old c d ≡ Some h → hold ≡ tracked_of h → bits ≡ closing h →
+    (lost ≡ true) ↔ (spot_of old.objects hold.object ≡ Some Nowhere) →
+    IsEnd (tables_of mid) lost (Some hold.object) ended → closes.Shuts old mid c d →
+    IsTold shows mid after_it from to (of_both hold.way (Some hold.object) bits ++ of_end ended) →
+    to.renames ≡ from.renames →
     Closed shows (notified old from) (notified after_it to) c d (closing h)
-closed-told shows old mid after_it from to c d h lost ended is_open is ends shut told renames =
+closed-told shows old mid after_it from to c d bits h hold lost ended is_open held by is ends shut told
+    renames =
     let same : tables_of after_it ≡ tables_of mid = ap tables_in told.ends.clients.attached in
-    record {
-      handle = tracked_of h;
-      is_open = tracked-read old.attached c d ∙ ap tracked_in is_open;
+    subst (Closed shows (notified old from) (notified after_it to) c d) by (record {
+      handle = hold;
+      is_open = tracked-read old.attached c d ∙ ap tracked_in is_open ∙ ap Some (sym held);
       ended = ended;
-      ends = subst (λ ts. IsClosedEnd (notified old from) ts h.object ended) (sym same)
-          (ended-as (tables_of mid) old.objects h.object lost ended is ends);
+      ends = subst (λ ts. IsClosedEnd (notified old from) ts hold.object ended) (sym same)
+          (ended-as (tables_of mid) old.objects hold.object lost ended is ends);
       tells = tells-by shows old mid after_it from to _
           (λ n spot at. (spot, shut.fewer n spot at, refl)) told;
       sets = subst (λ ts. SetsTracked (tables_of old) ts c d None) (sym same) shut.sets;
       renames = renames;
-    }
+    })
 
 module _ (shows : Rule) (old new : Mount) (from to : Watches) (c d : ℕ) (r : Reply) (o : handles.Handle) (is_open : opened_by old.clients c d ≡ Some o) (serves : (s : State) → IsStateOf old s → Serves (refusal s c (Close d)) s c (Close d) r new) (lowers : new.layers.lowers ≡ old.layers.lowers) (named : (s : State) → IsStateOf old s → refusal s c (Close d) ≡ None → KeepsNamed s c old.layers new.layers (Close d)) (known : AreKnown (notified new.clients to)) (closed : Closed shows (notified old.clients from) (notified new.clients to) c d (closing o)) where
   -- an open descriptor is closed, and that is told

@@ -33,6 +33,7 @@ pub mod Driving
 pub mod TempFits
 pub mod NextSteps
 pub mod Looked
+pub mod SameWatched
 pub mod StepsMade
 pub mod KeptTemps
 pub mod Histories

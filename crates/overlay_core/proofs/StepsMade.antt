@@ -40,10 +40,11 @@ use Rattle.overlay_core.specs.Watching.{AgreesAs, HasState, Keeps, StaysAs}
 use Rattle.overlay_core.proofs.Agreeing.{are-layers}
 use Rattle.overlay_core.proofs.Making.{performs-as}
 use Rattle.overlay_core.proofs.NextSteps.{next-ready, plain-lacks}
+use Rattle.overlay_core.proofs.Counted.{tracks-clients}
 use Rattle.overlay_core.proofs.Performing.{keeps-same}
 use Rattle.overlay_core.proofs.ReadOnly.{goes-as, state-goes, state-stays, stays-as}
 use Rattle.overlay_core.proofs.ReadSteps.{plain-held, plain-writes, same-held, unchanged-same}
-use Rattle.overlay_core.proofs.Watching.{stays}
+use Rattle.overlay_core.proofs.Watching.{mount_upper, stays}
 use Rattle.watch_table.specs.declared.hook.Callback.{Ghosts as Callback}
 use Rattle.watch_table.specs.declared.hook.Rule.{Ghosts as Ruled}
 
@@ -105,7 +106,9 @@ module _ {F G : Type 0} {asks : Callback F} {rule : Ruled G} (shows : Rule) wher
     placed-stays IsPlaced p told =
         subst (StaysAs false old.mount old.notifier new.mount) (sym told)
         (stays-as old.mount new.mount old.notifier old.notifier false
-        (stays old.mount new.mount old.notifier old.notifier p.stays p.live (λ s h. h)))
+        (stays old.mount new.mount old.notifier old.notifier p.stays p.live
+        (λ s h. tracks-clients (mount_upper old.mount) s old.mount.clients new.mount.clients
+        old.notifier (ap (λ (m : Mount). m.clients) p.only) h)))
 
     pub placed-more : {IsPlaced : Type 0} → PlacesFor old.mount new.mount j.call second count IsPlaced → IsPlaced →
         new.notifier ≡ old.notifier → AreTemps (lowers_of new.mount.layers) w → k.standing ≡ standing.Open →

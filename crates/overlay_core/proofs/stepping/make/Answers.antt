@@ -1,10 +1,11 @@
-use Rattle.std.proofs.Common.{[], ◌∷◌, sym, ◌∙◌}
+use Rattle.std.proofs.Common.{[], ◌∷◌, refl, sym, ◌∙◌}
 use Rattle.std.proofs.lemmas.Bool.{false≢true}
 use Rattle.merged_lookup.specs.Merged.{lowers_of}
 use Rattle.work_dir.specs.declared.next.Next.TheVariants.{Finish}
 use Rattle.overlay_core.specs.Steps.{held_by, without}
 use Rattle.overlay_core.proofs.Looked.{none-looked, some-looked}
 use Rattle.overlay_core.proofs.NextSteps.{plain-memory}
+use Rattle.overlay_core.proofs.SameWatched.{makes-from}
 use Rattle.overlay_core.proofs.stepping.make.Goals as goal
 
 pub plain-requires-clause-state : goal.plain-requires-clause-state
@@ -35,9 +36,11 @@ returns-in-None-clause-makes g c =
     let work = c.args.work.now in
     let j = c.args.job.now in
     let lowers = lowers_of c.args.watched.now.mount.layers in
-    rw c.let_go.ensures.table (rw c.remember.ensures at
-    c.plain.ensures.makes c.args.read_only (without work j) Finish (held_by work j) tt
-    (rw c.let_go.ensures.table at c.let_go.ensures.temps lowers c.requires.temps))
+    rw c.let_go.ensures.table (makes-from c.args.watched.now _ c.plain.new.watched
+    c.remember.ensures refl
+    (c.plain.ensures.makes c.args.read_only (without work j) Finish (held_by work j) tt
+    (rw c.remember.ensures (rw c.let_go.ensures.table at c.let_go.ensures.temps lowers
+    c.requires.temps))))
 
 pub returns-in-None-clause-allowed : goal.returns-in-None-clause-allowed
 returns-in-None-clause-allowed g c =
@@ -48,9 +51,11 @@ returns-in-One-clause-makes g c =
     let work = c.args.work.now in
     let j = c.args.job.now in
     let lowers = lowers_of c.args.watched.now.mount.layers in
-    rw c.let_go.ensures.table (rw c.remember.ensures at
-    c.finish.ensures.makes (without work j) Finish (held_by work j) tt
-    (rw c.let_go.ensures.table at c.let_go.ensures.temps lowers c.requires.temps))
+    rw c.let_go.ensures.table (makes-from c.args.watched.now _ c.finish.new.watched
+    c.remember.ensures refl
+    (c.finish.ensures.makes (without work j) Finish (held_by work j) tt
+    (rw c.remember.ensures (rw c.let_go.ensures.table at c.let_go.ensures.temps lowers
+    c.requires.temps))))
 
 pub returns-in-One-clause-allowed : goal.returns-in-One-clause-allowed
 returns-in-One-clause-allowed g c = rw c.remember.ensures at c.finish.ensures.allowed
@@ -60,9 +65,11 @@ returns-in-Both-clause-makes g c =
     let work = c.args.work.now in
     let j = c.args.job.now in
     let lowers = lowers_of c.args.watched.now.mount.layers in
-    rw c.let_go.ensures.table (rw c.remember.ensures at
-    c.finish-in-Both.ensures.makes (without work j) Finish (held_by work j) tt
-    (rw c.let_go.ensures.table at c.let_go.ensures.temps lowers c.requires.temps))
+    rw c.let_go.ensures.table (makes-from c.args.watched.now _ c.finish-in-Both.new.watched
+    c.remember.ensures refl
+    (c.finish-in-Both.ensures.makes (without work j) Finish (held_by work j) tt
+    (rw c.remember.ensures (rw c.let_go.ensures.table at c.let_go.ensures.temps lowers
+    c.requires.temps))))
 
 pub returns-in-Both-clause-allowed : goal.returns-in-Both-clause-allowed
 returns-in-Both-clause-allowed g c = rw c.remember.ensures at c.finish-in-Both.ensures.allowed

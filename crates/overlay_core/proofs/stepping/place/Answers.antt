@@ -5,8 +5,7 @@ use Rattle.overlay_core.proofs.stepping.place.Goals as goal
 pub returns-in-Ok-clause-makes : goal.returns-in-Ok-clause-makes
 returns-in-Ok-clause-makes g c =
     let kept = c.in-Ok.ensures.kept in
-    placed-more g.R.Rule.shows c.args.watched.now
-    (record { mount = c.keep_placed.new.mount; notifier = c.args.watched.now.notifier })
+    placed-more g.R.Rule.shows c.args.watched.now _
     c.args.work.now c.keep_placed.new.work c.args.job.now c.place.new.self c.args.second c.args.count
     c.args.temp c.in-Ok.ensures.places refl refl c.keep_placed.ensures.temps
     c.place.ensures.standing
@@ -15,8 +14,7 @@ returns-in-Ok-clause-makes g c =
 
 pub returns-in-Err-clause-makes : goal.returns-in-Err-clause-makes
 returns-in-Err-clause-makes g c =
-    placed-none g.R.Rule.shows c.args.watched.now
-    (record { mount = c.keep_placed.new.mount; notifier = c.args.watched.now.notifier })
+    placed-none g.R.Rule.shows c.args.watched.now _
     c.args.work.now c.keep_placed.new.work c.args.job.now c.end.new.self c.args.second c.args.count
     c.args.temp (IsOk c.keep_placed.result) c.keep_placed.ensures.places refl c.keep_placed.ensures.temps
     c.end.ensures.standing c.in-Err.ensures.same c.end.ensures.number

@@ -12,6 +12,7 @@ use Rattle.overlay_core.proofs.Looked.{none-looked, some-looked}
 use Rattle.overlay_core.proofs.NextSteps.{plain-memory}
 use Rattle.overlay_core.proofs.ReadOnly.{agrees-plain}
 use Rattle.overlay_core.proofs.ReadSteps.{held-writes}
+use Rattle.overlay_core.proofs.SameWatched.{next-from}
 use Rattle.overlay_core.proofs.StepsMade.{made-next, next-plain}
 use Rattle.overlay_core.proofs.stepping.step.Goals as goal
 
@@ -78,13 +79,14 @@ returns-then-copies_on-clause-allowed g c = λ is s a.
 pub returns-in-None-clause-makes : goal.returns-in-None-clause-makes
 returns-in-None-clause-makes g c =
     let m = c.remember.new.self in
-    let old = record c.args.watched.now { mount = m } in
+    let old = c.args.watched.now in
     let work = c.args.work.now in
     let j = c.args.job.now in
     let t = held_by work j in
     let w = c.let_go.new.work in
     let none = none-looked j.call (rw c.call-2.ensures at c.in-None.ensures) in
-    rw c.remember.ensures at (made-next g.R.Rule.shows c.args.read_only c.args.read_only old
+    next-from old _ c.plain.new.watched c.remember.ensures refl
+    (made-next g.R.Rule.shows c.args.read_only c.args.read_only _
     c.plain.new.watched work w w j c.plain.new.job c.plain.result Finish t refl
     c.let_go.ensures.table refl (λ s a. next-plain m j t (refusal s j.client j.call) none)
     (c.plain.ensures.makes c.args.read_only w Finish t tt
@@ -96,13 +98,17 @@ returns-in-None-clause-allowed g c =
     rw c.remember.ensures at c.plain.ensures.allowed c.args.read_only
 
 pub returns-in-One-clause-makes : goal.returns-in-One-clause-makes
-returns-in-One-clause-makes g c = rw c.remember.ensures at c.step_by.ensures.makes
+returns-in-One-clause-makes g c =
+    next-from c.args.watched.now _ c.step_by.new.watched c.remember.ensures refl
+    c.step_by.ensures.makes
 
 pub returns-in-One-clause-allowed : goal.returns-in-One-clause-allowed
 returns-in-One-clause-allowed g c = rw c.remember.ensures at c.step_by.ensures.allowed
 
 pub returns-in-Both-clause-makes : goal.returns-in-Both-clause-makes
-returns-in-Both-clause-makes g c = rw c.remember.ensures at c.step_by-in-Both.ensures.makes
+returns-in-Both-clause-makes g c =
+    next-from c.args.watched.now _ c.step_by-in-Both.new.watched c.remember.ensures refl
+    c.step_by-in-Both.ensures.makes
 
 pub returns-in-Both-clause-allowed : goal.returns-in-Both-clause-allowed
 returns-in-Both-clause-allowed g c = rw c.remember.ensures at c.step_by-in-Both.ensures.allowed

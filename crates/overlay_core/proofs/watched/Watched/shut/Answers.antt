@@ -1,9 +1,7 @@
-use Rattle.std.proofs.Common.{◌≡◌, Some, true, sym, ap, ◌∙◌, subst, ◌++◌}
-use Rattle.std.specs.Prelude.{◌↔◌, option_copied}
-use Rattle.object_table.specs.Objects.{Nowhere, Objects, spot_of}
-use Rattle.open_handles.specs.declared.handle.Hold.{Hold}
+use Rattle.std.proofs.Common.{◌≡◌, Some, sym, ap, ◌∙◌, subst, ◌++◌}
+use Rattle.std.specs.Prelude.{option_copied}
 use Rattle.ov_base.specs.declared.call.CallOf.TheVariants.{Close}
-use Rattle.open_handles.specs.Attaching.{opened_by, tables_of}
+use Rattle.open_handles.specs.Attaching.{opened_by}
 use Rattle.open_handles.specs.Handles.{tracked_of}
 use Rattle.notice_laws.specs.Telling.{IsEnd, of_both, of_end}
 use Rattle.notifier.specs.Notifying.{IsOther, IsTold}
@@ -39,28 +37,14 @@ returns-clause-shuts g c =
     let made = c.close-reply.ensures.makes in
     let told = c.closed.ensures.told in
     let new = record mid { clients = clients } in
-    let same : c.hold-hold.result ≡ tracked_of h = c.hold-hold.ensures in
-    let lost = c.is_lost-is_lost.result in
-    let is : (lost ≡ true) ↔ (spot_of m.clients.objects h.object ≡ Some Nowhere) =
-    subst (λ (x : Hold). (lost ≡ true) ↔ (spot_of m.clients.objects x.object ≡ Some Nowhere)) same
-    (subst (λ (o : Objects). (lost ≡ true) ↔ (spot_of o c.hold-hold.result.object ≡ Some Nowhere))
-    c.objects.ensures c.is_lost-is_lost.ensures) in
-    let ends : IsEnd (tables_of mid.clients) lost (Some h.object) c.end_of-ended.result =
-    subst (λ (x : Hold). IsEnd (tables_of mid.clients) lost (Some x.object) c.end_of-ended.result)
-    same c.end_of-ended.ensures in
-    let tells : IsTold shows mid.clients clients from to
-    (of_both h.way (Some h.object) (closing h) ++ of_end c.end_of-ended.result) =
-    subst (λ b. IsTold shows mid.clients clients from to
-    (of_both h.way (Some h.object) b ++ of_end c.end_of-ended.result)) c.closing_of-bits.ensures
-    (subst (λ (x : Hold). IsTold shows mid.clients clients from to
-    (of_both x.way (Some x.object) c.closing_of-bits.result ++ of_end c.end_of-ended.result)) same
-    told) in
     shuts-open shows m new from to client d c.close-reply.result h is_open
     (λ s st. serves-on mid new (ends-stay mid clients told.ends) _ s client (Close d)
     c.close-reply.result (made.answers.serves s st)) made.lowers made.answers.named
     (known clients to c.lawful.ensures.known c.lawful.ensures.counted told.counted)
-    (closed-told shows m.clients mid.clients clients from to client d h lost
-    c.end_of-ended.result is_open is ends c.close-reply.ensures.shuts tells c.closed.ensures.renames)
+    (closed-told shows m.clients mid.clients clients from to client d c.closing_of-bits.result h
+    c.hold-hold.result c.is_lost-is_lost.result c.end_of-ended.result is_open c.hold-hold.ensures
+    c.closing_of-bits.ensures (rw c.objects.ensures at c.is_lost-is_lost.ensures)
+    c.end_of-ended.ensures c.close-reply.ensures.shuts told c.closed.ensures.renames)
 
 pub returns-clause-clients : goal.returns-clause-clients
 returns-clause-clients g c =
