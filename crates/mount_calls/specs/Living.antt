@@ -70,8 +70,7 @@ pub record KeepsPaths (old new : Layers) : Type 0 where
       (x : Path) (k : ℕ) → held (upper_of old) x ≡ Some (Named k) → (upper_of new).inodes k ≡ (upper_of old).inodes k
 
 -- The file of this key was closed. Where it has no name and no handle holds it any more, it is
--- gone; else nothing changes. Other inodes
--- stay in either case.
+-- gone; else nothing changes. Other inodes stay in either case.
 pub record FreesClosed (clients : Clients) (old new : Layers) (k : ℕ) : Type 0 where
   pub keeps : KeepsPaths old new
   pub others : (j : ℕ) → j ≢ k → (upper_of new).inodes j ≡ (upper_of old).inodes j
