@@ -48,6 +48,7 @@ impl<F: Callback, R: Rule> Watched<F, R> {
         ensures err { OnErr result (self.new ≡ self.old) }
         ensures allowed { OnErr result ((s : State) → Agrees self.old.mount self.old.notifier s →
             refusal s client (Call.TakeNotices count) ≡ None) }
+        ensures mount { self.new.mount ≡ self.old.mount }
         ensures layers { self.new.mount.layers ≡ self.old.mount.layers }
         ensures clients { KeepsAttached self.old.mount.clients self.new.mount.clients }
     {
