@@ -6,6 +6,7 @@ ghost use Rattle.object_table.specs.Objects.{IsVacant, SetsSpot};
 ghost use Rattle.open_handles.specs.Listings.{OpenDirectory};
 ghost use Rattle.open_handles.specs.Attaching.{directory_by, tables_of, HoldsNoMore, KeepsClients, SameBeside};
 ghost use Rattle.open_handles.specs.Holding.{IsWayTo};
+ghost use Rattle.notice_laws.specs.declared.object.Object.TheVariants as objects;
 ghost use Rattle.notice_laws.specs.Objects.{IsNumberOf};
 ghost use Rattle.notice_laws.specs.Steps.{is_last_name, Lifts, Loses};
 ghost use Rattle.notice_laws.specs.Telling.{IsEnd};
@@ -88,7 +89,8 @@ impl Mount {
     /// number, is in the upper under a key now. It takes no memory.
     pub fn lift(&mut self, number: Option<usize>, object: Object, key: usize)
         requires { (p : Names) × IsNumberOf self.old.clients.objects p object number
-            × MayLift self.old.clients.objects p object key × ShowsNoFolder self.old.layers p }
+            × MayLift self.old.clients.objects p object key × ((n : ℕ) → object ≡ objects.Lower →
+            number ≡ Some n → ShowsNoFolder self.old.layers p) }
         ensures clients { KeepsClients self.old.clients self.new.clients }
         ensures lifted { (p : Names) → IsNumberOf self.old.clients.objects p object number →
             Becomes (Lifts p object key) self.old.clients.objects self.new.clients.objects }

@@ -10,4 +10,5 @@ returns-in-Some-Lower-clause-stays c =
     let is = subst (IsNumberOf m.clients.objects p c.args.object) c.in-Some-Lower.is-0 c.requires.1
     in
     sets-stay m c.rise.new.self _ _ _ c.rise.ensures.clients c.rise.ensures.rises
-    (file-number m p c.args.object _ c.requires.3 is)
+    (file-number m p c.args.object _
+    (c.requires.3 _ c.in-Some-Lower.is-1 c.in-Some-Lower.is-0) is)

@@ -18,7 +18,8 @@ lift-requires c =
           c.lose_name.ensures.there x.found,
       may-led old mid p q course.object course.over c.in-Lower.is x.apart lost c.args.key
           c.lose_name.ensures.room x.room x.free,
-      subst (λ (m : Mount). ShowsNoFolder m.layers p) (sym c.lose_name.ensures.only) x.left,
+      λ n low is. subst (λ (m : Mount). ShowsNoFolder m.layers p)
+          (sym c.lose_name.ensures.only) x.left,
     )
 
 pub returns-in-Lower-clause-moves : goal.returns-in-Lower-clause-moves
