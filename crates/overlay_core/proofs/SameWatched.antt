@@ -23,9 +23,9 @@ module _ {F G : Type 0} {asks : Callback F} {rule : Ruled G} (old mid new : Watc
       makes
 
   -- so was the next step
-  pub next-from : {work w : List (Option OpenJob)} {j k : Job} {b : Bool} {shows : Rule}
-      {turn : Turn} → MakesNext mid new work w j k b shows turn →
+  pub next-from : (work : List (Option OpenJob)) {w : List (Option OpenJob)} {j k : Job} {b : Bool}
+      {shows : Rule} {turn : Turn} → MakesNext mid new work w j k b shows turn →
       MakesNext old new work w j k b shows turn
-  next-from {work} {w} {j} {k} {b} {shows} {turn} made =
+  next-from work {w} {j} {k} {b} {shows} {turn} made =
       subst (λ x. MakesNext x new work w j k b shows turn) (same-watched old mid mount notifier)
       made

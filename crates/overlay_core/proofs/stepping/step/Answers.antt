@@ -85,7 +85,7 @@ returns-in-None-clause-makes g c =
     let t = held_by work j in
     let w = c.let_go.new.work in
     let none = none-looked j.call (rw c.call-2.ensures at c.in-None.ensures) in
-    next-from old _ c.plain.new.watched c.remember.ensures refl
+    next-from old _ c.plain.new.watched c.remember.ensures refl _
     (made-next g.R.Rule.shows c.args.read_only c.args.read_only _
     c.plain.new.watched work w w j c.plain.new.job c.plain.result Finish t refl
     c.let_go.ensures.table refl (λ s a. next-plain m j t (refusal s j.client j.call) none)
@@ -99,7 +99,7 @@ returns-in-None-clause-allowed g c =
 
 pub returns-in-One-clause-makes : goal.returns-in-One-clause-makes
 returns-in-One-clause-makes g c =
-    next-from c.args.watched.now _ c.step_by.new.watched c.remember.ensures refl
+    next-from c.args.watched.now _ c.step_by.new.watched c.remember.ensures refl _
     c.step_by.ensures.makes
 
 pub returns-in-One-clause-allowed : goal.returns-in-One-clause-allowed
@@ -107,7 +107,7 @@ returns-in-One-clause-allowed g c = rw c.remember.ensures at c.step_by.ensures.a
 
 pub returns-in-Both-clause-makes : goal.returns-in-Both-clause-makes
 returns-in-Both-clause-makes g c =
-    next-from c.args.watched.now _ c.step_by-in-Both.new.watched c.remember.ensures refl
+    next-from c.args.watched.now _ c.step_by-in-Both.new.watched c.remember.ensures refl _
     c.step_by-in-Both.ensures.makes
 
 pub returns-in-Both-clause-allowed : goal.returns-in-Both-clause-allowed
